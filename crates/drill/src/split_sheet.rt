@@ -1,4 +1,6 @@
 // The split sheet of a practice pair.
+use spec::MapNumber;
+use spec::TypeNumber;
 use writer::write_byte;
 use writer::write_bytes;
 use writer::write_field;
@@ -9,22 +11,31 @@ ghost use Rattle.writer.specs.Buffer.{Written};
 ghost use Rattle.drill_theory.specs.Draw.{Drawable};
 ghost use Rattle.drill_theory.specs.Pair.{header, typeLines, row, startRow, fallingMaps, spawnRows, allSpawnRows, joinRows, allJoinRows, splitText};
 
+// The three types of a pair, and the map that holds all.
+const INT: TypeNumber = TypeNumber(0);
+
+const REF: TypeNumber = TypeNumber(1);
+
+const TID: TypeNumber = TypeNumber(2);
+
+const FULL: MapNumber = MapNumber(0);
+
 // Writes a row without a start.
-fn write_row(buffer: &mut [u8], at: usize, t: u64, m: u64) -> usize
-    ensures { λ r. ⌜ Written (now (buffer .entry)) (now (buffer .exit)) at (text (row t m ∷ [])) r ⌝ }
+fn write_row(buffer: &mut [u8], at: usize, t: TypeNumber, m: MapNumber) -> usize
+    ensures { λ r. ⌜ Written (now (buffer .entry)) (now (buffer .exit)) at (text (row (t .0) (m .0) ∷ [])) r ⌝ }
 {
-    let typed = write_field(buffer, at, t, b',');
-    let left = write_field(buffer, typed, m, b',');
+    let typed = write_field(buffer, at, t.0 as u64, b',');
+    let left = write_field(buffer, typed, m.0 as u64, b',');
     write_byte(buffer, left, b'\n')
 }
 
 // Writes a row with a start.
-fn write_start_row(buffer: &mut [u8], at: usize, t: u64, m: u64, s: u64) -> usize
-    ensures { λ r. ⌜ Written (now (buffer .entry)) (now (buffer .exit)) at (text (startRow t m s ∷ [])) r ⌝ }
+fn write_start_row(buffer: &mut [u8], at: usize, t: TypeNumber, m: MapNumber, s: MapNumber) -> usize
+    ensures { λ r. ⌜ Written (now (buffer .entry)) (now (buffer .exit)) at (text (startRow (t .0) (m .0) (s .0) ∷ [])) r ⌝ }
 {
-    let typed = write_field(buffer, at, t, b',');
-    let left = write_field(buffer, typed, m, b',');
-    write_field(buffer, left, s, b'\n')
+    let typed = write_field(buffer, at, t.0 as u64, b',');
+    let left = write_field(buffer, typed, m.0 as u64, b',');
+    write_field(buffer, left, s.0 as u64, b'\n')
 }
 
 // Writes so many maps, the last of which holds 0.
@@ -41,39 +52,42 @@ fn write_maps(buffer: &mut [u8], at: usize, count: u64) -> usize
 }
 
 // Writes the rows of a spawn with map m before it.
-fn write_spawn_rows(buffer: &mut [u8], at: usize, share: u64, m: u64) -> usize
-    requires { ⌜ m ≤ 31 ⌝ }
-    ensures { λ r. ⌜ Written (now (buffer .entry)) (now (buffer .exit)) at (text (spawnRows share m)) r ⌝ }
+fn write_spawn_rows(buffer: &mut [u8], at: usize, share: MapNumber, m: MapNumber) -> usize
+    requires { ⌜ m .0 ≤ 31 ⌝ }
+    ensures { λ r. ⌜ Written (now (buffer .entry)) (now (buffer .exit)) at (text (spawnRows (share .0) (m .0))) r ⌝ }
 {
-    let bound = write_row(buffer, at, 0, 0);
-    let spawned = write_start_row(buffer, bound, 0, m + 1, share);
-    let named = write_row(buffer, spawned, 2, m);
-    let read = write_row(buffer, named, 0, share);
-    write_row(buffer, read, 1, share)
+    let less = MapNumber(m.0 + 1);
+    let bound = write_row(buffer, at, INT, FULL);
+    let spawned = write_start_row(buffer, bound, INT, less, share);
+    let named = write_row(buffer, spawned, TID, m);
+    let read = write_row(buffer, named, INT, share);
+    write_row(buffer, read, REF, share)
 }
 
 // Writes the rows of so many spawns, the first with map 0 before it.
-fn write_all_spawn_rows(buffer: &mut [u8], at: usize, share: u64, count: u64) -> usize
+fn write_all_spawn_rows(buffer: &mut [u8], at: usize, share: MapNumber, count: u64) -> usize
     requires { ⌜ count ≤ 31 ⌝ }
-    ensures { λ r. ⌜ Written (now (buffer .entry)) (now (buffer .exit)) at (text (allSpawnRows share 0 count)) r ⌝ }
+    ensures { λ r. ⌜ Written (now (buffer .entry)) (now (buffer .exit)) at (text (allSpawnRows (share .0) 0 count)) r ⌝ }
 {
     let mut to = at;
     let mut m = 0;
     while m < count {
-        to = write_spawn_rows(buffer, to, share, m);
+        let before = MapNumber(m as u32);
+        to = write_spawn_rows(buffer, to, share, before);
         m += 1;
     }
     to
 }
 
 // Writes the rows of a join with map m behind it.
-fn write_join_rows(buffer: &mut [u8], at: usize, m: u64) -> usize
-    requires { ⌜ m ≤ 31 ⌝ }
-    ensures { λ r. ⌜ Written (now (buffer .entry)) (now (buffer .exit)) at (text (joinRows m)) r ⌝ }
+fn write_join_rows(buffer: &mut [u8], at: usize, m: MapNumber) -> usize
+    requires { ⌜ m .0 ≤ 31 ⌝ }
+    ensures { λ r. ⌜ Written (now (buffer .entry)) (now (buffer .exit)) at (text (joinRows (m .0))) r ⌝ }
 {
-    let bound = write_row(buffer, at, 0, 0);
-    let joined = write_row(buffer, bound, 0, m);
-    write_row(buffer, joined, 2, m + 1)
+    let less = MapNumber(m.0 + 1);
+    let bound = write_row(buffer, at, INT, FULL);
+    let joined = write_row(buffer, bound, INT, m);
+    write_row(buffer, joined, TID, less)
 }
 
 // Writes the rows of so many joins, the last with map 0 behind it.
@@ -85,7 +99,8 @@ fn write_all_join_rows(buffer: &mut [u8], at: usize, count: u64) -> usize
     let mut n = count;
     while 0 < n {
         n -= 1;
-        to = write_join_rows(buffer, to, n);
+        let behind = MapNumber(n as u32);
+        to = write_join_rows(buffer, to, behind);
     }
     to
 }
@@ -112,7 +127,8 @@ pub(crate) fn write_split(buffer: &mut [u8], k: u64) -> usize
     let headed = write_head(buffer, k);
     let mapped = write_maps(buffer, headed, k + 1);
     let made = write_bytes(buffer, mapped, b"0,0,\n1,0,\n0,0,\n0,0,\n2,0,\n");
-    let spawned = write_all_spawn_rows(buffer, made, k - 1, k);
+    let share = MapNumber((k - 1) as u32);
+    let spawned = write_all_spawn_rows(buffer, made, share, k);
     let joined = write_all_join_rows(buffer, spawned, k);
     write_bytes(buffer, joined, b"0,0,\n1,0,\n0,0,\n")
 }

@@ -1,8 +1,44 @@
--- What reading a file leaves: no more bytes than the buffer has.
-use Prim.Native.Nat.{ℕ, _≤_}
+-- What goes between the programs and their files.
+use Prim.Native.Nat.{ℕ, _+_, _≤_}
+use mathlib.Core.Path.{_≡_}
+use mathlib.Core.List.{List}
+use mathlib.Core.Option.{Option, none, some}
+use lib.ListN.{length, take}
+use Rattle.spec.specs.Text.{bytes}
+use Rattle.spec.specs.Program.{programLimit}
+use Rattle.spec.specs.Split.{splitLimit}
 use Rattle.files.specs.declared.Contents.{Contents}
 use Rattle.files.specs.declared.Contents.the-variants.{Bytes, Unread}
+use Rattle.files.specs.declared.making.Making.{Making}
+use Rattle.files.specs.declared.making.Making.the-variants.{Made, Taken, Unwritten}
 
+-- as many bytes of a trace as `racereplay` holds
+unfoldable pub traceLimit : ℕ
+traceLimit = 4000000
+
+-- Each file by its name in documents 01 and 02, with room for one byte more than its text may have.
+pub data ReadInto (name : List ℕ) (room : ℕ) : Type 0 where
+  program : name ≡ bytes "program.txt" → room ≡ programLimit + 1 → ReadInto name room
+  split : name ≡ bytes "split.txt" → room ≡ splitLimit + 1 → ReadInto name room
+  trace : name ≡ bytes "trace.txt" → room ≡ traceLimit + 1 → ReadInto name room
+
+-- what reading a file leaves: no more bytes than the buffer has
 abbrev pub Within : Contents → ℕ → Type 0
 Within (Bytes n) room = n ≤ room
 Within Unread room = Unit {0}
+
+-- the text that was read into a buffer, or none
+abbrev pub textIn : Contents → (buffer : List ℕ) → Option (List ℕ)
+textIn (Bytes n) buffer = some (take n buffer)
+textIn Unread buffer = none
+
+-- the first n bytes of a buffer are a text
+pub record InFront (text : List ℕ) (n : ℕ) (buffer : List ℕ) : Type 0 where
+  pub within : n ≤ length buffer
+  pub are : take n buffer ≡ text
+
+-- a file that is made took as many bytes as its text has
+abbrev pub Whole : Making → ℕ → Type 0
+Whole (Made n) long = n ≡ long
+Whole Taken long = Unit {0}
+Whole Unwritten long = Unit {0}

@@ -1,5 +1,6 @@
-// What the programs of the house share of the outside: reading a file into a lent buffer, making a file, telling an outcome in one
-// line, writing bytes to a descriptor.
+// What the programs of the house share of the outside: reading a sheet into a lent buffer, making a file, telling an outcome in one
+// line, writing bytes to a descriptor. No contract of the kit says what a file holds. So what is to go in and out stands in the
+// `requires` of the functions that meet the outside: which file is read into how much room, which bytes are a line.
 mod making;
 mod retry;
 
@@ -10,8 +11,10 @@ pub use making::remove_file;
 use report::Outcome;
 use report::write_line;
 pub use retry::write_all;
+ghost use mathlib.Core.Path.{_≡_};
 ghost use lib.ListN.{length};
-ghost use Rattle.files.specs.Files.{Within};
+ghost use Rattle.report.specs.Line.{outputLine};
+ghost use Rattle.files.specs.Files.{Within, ReadInto};
 
 // What reading a file comes to: how many bytes of it stand in the buffer, or that it can't be read.
 pub enum Contents {
@@ -38,8 +41,9 @@ fn fill(fd: i32, buffer: &mut [u8]) -> Contents
     Contents::Bytes(n)
 }
 
-// Reads a file by its name.
-pub fn read_file(name: &[u8], buffer: &mut [u8]) -> Contents
+// Reads a file of the house by its name, into as much room as its text asks for.
+fn read_file(name: &[u8], buffer: &mut [u8]) -> Contents
+    requires { ⌜ ReadInto (now name) (length (now buffer)) ⌝ }
     ensures { λ r. ⌜ Within r (length (now (buffer .exit))) ⌝ }
 {
     let fd = retry::open(name);
@@ -51,10 +55,41 @@ pub fn read_file(name: &[u8], buffer: &mut [u8]) -> Contents
     contents
 }
 
-// Writes the line of an outcome to standard output. It is made first and written by one call, so that no other program's line comes
-// between its parts.
+// Reads the program sheet. The buffer has room for one byte more than a sheet may have, so that a longer file is seen to be longer,
+// and no more of it is read.
+pub fn read_program(buffer: &mut [u8; 16385]) -> Contents
+    ensures { λ r. ⌜ Within r (length (now (buffer .exit))) ⌝ }
+    ensures { λ r. ⌜ 16385 ≡ length (now (buffer .exit)) ⌝ }
+{
+    read_file(b"program.txt", buffer)
+}
+
+// Reads the split sheet, with the same one byte more.
+pub fn read_split(buffer: &mut [u8; 65537]) -> Contents
+    ensures { λ r. ⌜ Within r (length (now (buffer .exit))) ⌝ }
+    ensures { λ r. ⌜ 65537 ≡ length (now (buffer .exit)) ⌝ }
+{
+    read_file(b"split.txt", buffer)
+}
+
+// Reads a trace. It has no limit of its own: so many bytes are held, and one more is read.
+pub fn read_trace(buffer: &mut [u8; 4_000_001]) -> Contents
+    ensures { λ r. ⌜ Within r (length (now (buffer .exit))) ⌝ }
+    ensures { λ r. ⌜ 4000001 ≡ length (now (buffer .exit)) ⌝ }
+{
+    read_file(b"trace.txt", buffer)
+}
+
+// Writes the line of an outcome to standard output by one call, so that no other program's line comes between its parts.
+fn put_line(line: &[u8], outcome: Outcome)
+    requires { ⌜ now line ≡ outputLine outcome ⌝ }
+{
+    write_all(STDOUT_FILENO, line);
+}
+
+// Tells an outcome in its line, which is made first.
 pub fn tell(outcome: Outcome) {
     let mut line = [0u8; 64];
     let n = write_line(&mut line, outcome);
-    write_all(STDOUT_FILENO, &line[..n]);
+    put_line(&line[..n], outcome);
 }

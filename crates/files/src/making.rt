@@ -1,21 +1,28 @@
 // Making a file that is not there yet.
 use crate::retry;
+ghost use lib.ListN.{length};
+ghost use Rattle.libc.specs.Io.{Status};
+ghost use Rattle.files.specs.Files.{Whole};
 
-// What making a file comes to: it is made; its name is taken; or it can't be written to its end.
+// What making a file comes to: it is made, and took so many bytes; its name is taken; or it can't be written to its end.
 pub enum Making {
-    Made,
+    Made(usize),
     Taken,
     Unwritten,
 }
 
-// Removes a file, and hands back whether it is gone.
-pub fn remove_file(name: &[u8]) -> bool {
-    retry::unlink(name) == 0
+// Removes a file, and hands back 0 if it is gone, or -1.
+pub fn remove_file(name: &[u8]) -> i32
+    ensures { λ r. ⌜ Status r ⌝ }
+{
+    retry::unlink(name)
 }
 
 // Makes a new file of a text. One that can't be written to its end is removed again. A file is closed once, whatever comes of it: after
 // a signal it is closed all the same.
-pub fn make_file(name: &[u8], text: &[u8]) -> Making {
+pub fn make_file(name: &[u8], text: &[u8]) -> Making
+    ensures { λ r. ⌜ Whole r (length (now (text .entry))) ⌝ }
+{
     let fd = retry::create(name);
     if fd < 0 {
         if os::errno() == libc::EEXIST {
@@ -23,11 +30,11 @@ pub fn make_file(name: &[u8], text: &[u8]) -> Making {
         }
         return Making::Unwritten;
     }
-    let is_written = retry::write_all(fd, text);
+    let taken = retry::write_all(fd, text);
     let closed = libc::close(fd);
-    if is_written {
+    if taken == text.len() {
         if closed == 0 {
-            return Making::Made;
+            return Making::Made(taken);
         }
     }
     remove_file(name);

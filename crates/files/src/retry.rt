@@ -1,5 +1,9 @@
 // Calls of the system that are made again when they failed for a reason that passes. Every loop has to end, so a call is made at
 // most a million times; then it counts as one that failed.
+ghost use Prim.Native.Nat.{_≤_};
+ghost use lib.ListN.{length};
+ghost use Rattle.libc.specs.Io.{Status};
+
 const TRIES: u32 = 1_000_000;
 
 // Whether a call is not to be made again: it succeeded, or it failed for good. A signal that interrupted it passes, and so
@@ -42,7 +46,9 @@ pub(crate) fn create(name: &[u8]) -> i32 {
 }
 
 // Removes a file, and hands back 0, or -1.
-pub(crate) fn unlink(name: &[u8]) -> i32 {
+pub(crate) fn unlink(name: &[u8]) -> i32
+    ensures { λ r. ⌜ Status r ⌝ }
+{
     let mut tries = TRIES;
     while 0 < tries {
         let gone = os::unlink(name);
@@ -80,17 +86,19 @@ fn write(fd: i32, bytes: &[u8]) -> isize {
     -1
 }
 
-// Writes bytes by one call. If it takes only a part, the rest follows from where it stopped, until a call fails. Hands back whether
-// all were taken.
-pub fn write_all(fd: i32, bytes: &[u8]) -> bool {
+// Writes bytes by one call. If it takes only a part, the rest follows from where it stopped, until a call fails. Hands back how many
+// were taken.
+pub fn write_all(fd: i32, bytes: &[u8]) -> usize
+    ensures { λ n. ⌜ n ≤ length (now (bytes .entry)) ⌝ }
+{
     let mut n: usize = 0;
     while n < bytes.len() {
         let put = write(fd, &bytes[n..]);
         let more = io::count(put, &bytes[n..]);
         if more == 0 {
-            return false;
+            return n;
         }
         n += more;
     }
-    true
+    n
 }

@@ -3,6 +3,7 @@ use pass::Given;
 use pass::fill_location;
 use spec::Header;
 use spec::Location;
+use spec::MapNumber;
 use ways::Column;
 use workspace::MAPS;
 use workspace::POSTS;
@@ -105,8 +106,9 @@ fn show_maps(work: &mut [u32], steps: usize, maps: usize)
 {
     let mut i = 0;
     while i < steps {
-        let shown = maps + i;
-        work[POSTS + i] = shown as u32;
+        let number = maps + i;
+        let shown = MapNumber(number as u32);
+        work[POSTS + i] = shown.0;
         i += 1;
     }
 }

@@ -1,5 +1,5 @@
 -- From what a drill tells to the pair of a seed, which buffers for any sheet have room for.
-use mathlib.Core.Path.{_≡_, sym, ap, _∙_}
+use mathlib.Core.Path.{_≡_, refl, sym, ap, _∙_}
 use mathlib.Core.List.{List}
 use mathlib.Core.Option.{some}
 use Prim.Native.Nat.{ℕ, _≤_}
@@ -17,7 +17,9 @@ use Rattle.drill.specs.Answer.{Numbers, drilledNumbers, returnedBy, roomy, answ
 use Rattle.drill.specs.declared.Drilled.{Drilled}
 use Rattle.drill.specs.declared.Drilled.the-variants as drilled
 use Rattle.drill.proofs.Drilling.{program-within, split-within, front-back}
+use Rattle.racedrill.specs.Seed.{seedOf}
 use Rattle.racedrill.specs.Pair.{Drill, pairOf, shown, Roomy}
+use Rattle.racedrill.specs.Made.{TextsOf, LineOf}
 use Rattle.racedrill.specs.declared.seed.Seed.{Seed}
 use Rattle.racedrill.specs.declared.seed.Seed.the-variants.{Given, Absent}
 use Rattle.racedrill.specs.declared.pair.Pair.{Pair}
@@ -83,3 +85,20 @@ shown-within {x} {p} {s} r (Given seed) program split is h =
       part p (programOf seed) program (ap (λ (y : Drill). y .programLength) same) (ap (λ (y : Drill). y .program) same),
       part s (splitOf seed) split (ap (λ (y : Drill). y .splitLength) same) (ap (λ (y : Drill). y .split) same),
     )
+
+-- what a pair that is shown has in front of its buffers, and in its line
+module _ {x p s : ℕ} (r : Pair) (word program split : List ℕ) (is : r ≡ Made x p s) (h : shown r program split ≡ pairOf (seedOf word)) where
+  drill : Drill
+  drill = record { next = x; programLength = p; splitLength = s; program = take p program; split = take s split }
+
+  asked : pairOf (seedOf word) ≡ some drill
+  unfolding shown drill
+  asked = sym h ∙ ap (λ (y : Pair). shown y program split) is
+
+  pub texts-shown : TextsOf word (take p program) (take s split)
+  unfolding drill
+  texts-shown = record { drill = drill; asked = asked; programText = refl; splitText = refl }
+
+  pub line-shown : LineOf word x p s
+  unfolding drill
+  line-shown = record { drill = drill; asked = asked; newX = refl; programLong = refl; splitLong = refl }

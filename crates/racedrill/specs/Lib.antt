@@ -1,3 +1,4 @@
 pub mod Seed
 pub mod Pair
 pub mod Line
+pub mod Made

@@ -14,6 +14,9 @@ use libc::STDOUT_FILENO;
 use line::write_line;
 use pair::Pair;
 use pair::pair_of;
+ghost use mathlib.Core.Path.{_≡_};
+ghost use Rattle.spec.specs.Text.{bytes};
+ghost use Rattle.racedrill.specs.Made.{FileOf, TextsOf, LineOf};
 
 // Says on standard error what is wrong with a file.
 fn complain(name: &[u8], what: &[u8]) {
@@ -26,17 +29,21 @@ fn write_unmade() {
     write_all(STDOUT_FILENO, b"UNMADE\n");
 }
 
-// The line is made first and written by one call.
-fn write_drill(next: u32, program: u32, split: u32) {
+// Tells of the pair that a word asks for. The line is made first and written by one call.
+fn write_drill(word: &[u8], next: u32, program: u32, split: u32)
+    requires { ⌜ LineOf (now word) next program split ⌝ }
+{
     let mut line = [0u8; 40];
     let n = write_line(&mut line, next, program, split);
     write_all(STDOUT_FILENO, &line[..n]);
 }
 
-// Makes a new file of a text, or says why there is none.
-fn make(name: &[u8], text: &[u8]) -> bool {
+// Makes a file of the pair that a word asks for, with its own text, or says why there is none.
+fn make(word: &[u8], name: &[u8], text: &[u8]) -> bool
+    requires { ⌜ FileOf (now word) (now name) (now text) ⌝ }
+{
     match make_file(name, text) {
-        Making::Made => true,
+        Making::Made(_) => true,
         Making::Taken => {
             complain(name, b" is there already\n");
             false
@@ -48,17 +55,26 @@ fn make(name: &[u8], text: &[u8]) -> bool {
     }
 }
 
+// Takes back the program sheet, which was made just before. No other file is ever removed.
+fn take_back(name: &[u8])
+    requires { ⌜ now name ≡ bytes "program.txt" ⌝ }
+{
+    if remove_file(name) != 0 {
+        complain(name, b" can't be removed again\n");
+    }
+}
+
 // Makes both files or none.
-fn make_both(program: &[u8], split: &[u8]) -> bool {
-    if !make(b"program.txt", program) {
+fn make_both(word: &[u8], program: &[u8], split: &[u8]) -> bool
+    requires { ⌜ TextsOf (now word) (now program) (now split) ⌝ }
+{
+    if !make(word, b"program.txt", program) {
         return false;
     }
-    if make(b"split.txt", split) {
+    if make(word, b"split.txt", split) {
         return true;
     }
-    if !remove_file(b"program.txt") {
-        complain(b"program.txt", b" can't be removed again\n");
-    }
+    take_back(b"program.txt");
     false
 }
 
@@ -72,8 +88,8 @@ fn run(word: &[u8]) {
             program: p,
             split: s,
         } => {
-            if make_both(&program[..p as usize], &split[..s as usize]) {
-                write_drill(x, p, s);
+            if make_both(word, &program[..p as usize], &split[..s as usize]) {
+                write_drill(word, x, p, s);
             } else {
                 write_unmade();
             }

@@ -1,11 +1,11 @@
 -- From what filling tells to what is written.
-use mathlib.Core.Path.{_≡_, sym, ap, _∙_}
+use mathlib.Core.Path.{_≡_, refl, sym, ap, _∙_}
 use mathlib.Core.Path.{subst as along}
 use mathlib.Core.List.{List}
 use Prim.Native.Nat.{ℕ, _≤_}
 use native.Mathlib.Omega.{arith}
-use lib.ListN.{length, take, drop, length-take}
-use lib.Seq.{take-append-seam}
+use mathlib.Core.Option.{Option, none, some}
+use lib.ListN.{length, take}
 use Rattle.spec.specs.Reading.{Out, stop, on}
 use Rattle.spec.specs.Split.{splitLimit}
 use Rattle.spec.specs.Workspace.{workspaceSize}
@@ -15,24 +15,24 @@ use Rattle.spec.specs.declared.Answer.the-variants.{Refuse}
 use Rattle.spec.specs.declared.Refusal.{Refusal}
 use Rattle.spec.proofs.Refusals.{refusal-number}
 use Rattle.writer.specs.Buffer.{Written}
-use Rattle.writer.proofs.Buffer.{overwrite-front}
 use Rattle.report.specs.Line.{refusalLine, answerLine, outputLine}
 use Rattle.report.specs.declared.Outcome.the-variants.{Answered}
+use Rattle.report.specs.declared.Outcome.the-variants.{Unread as UnreadLine}
+use Rattle.files.specs.Files.{Within, textIn, InFront}
+use Rattle.files.specs.declared.Contents.{Contents}
+use Rattle.files.specs.declared.Contents.the-variants.{Unread}
+use Rattle.files.proofs.Buffers.{front, line-in-front}
 use Rattle.fill_theory.specs.Answer.{fill, returnedFor, bufferAfter}
 use Rattle.fill.specs.Numbers.{returnedBy}
 use Rattle.fill.specs.Stages.{Tells}
 use Rattle.fill.specs.declared.Filled.{Filled}
 use Rattle.fill.specs.declared.Filled.the-variants as filled
 use Rattle.fill.proofs.Promises.{begins}
-use Rattle.racefill.specs.Output.{outputOf, InFront}
+use Rattle.racefill.specs.Output.{outputOf, outputFor}
 
 -- in a work space and a buffer of the lengths that are wanted
 pub same-fill : {room buffer : ℕ} (p s : List ℕ) → room ≡ workspaceSize → buffer ≡ splitLimit → fill room buffer p s ≡ fill workspaceSize splitLimit p s
 same-fill p s enough fits = λ i. fill (enough i) (fits i) p s
-
--- a text in front, by its length
-front : {text : List ℕ} {n : ℕ} (buffer : List ℕ) → n ≡ length text → take n buffer ≡ text → InFront text n buffer
-front {n = n} buffer e h = record { within = omega (arith, length-take n buffer, ap length h, e); are = h }
 
 -- ------------------------------------------------------------------ a sheet
 
@@ -59,17 +59,31 @@ unfolding returnedFor outputOf outputLine answerLine four
 refusal-output (stop q) r e = ap refusalLine e
 refusal-output (on t) r e = absurd (omega (arith, refusal-number r, ap (λ (n : Returned). n .number) e))
 
--- a line of at most 51 bytes
-line-in-front : {line : List ℕ} {n : ℕ} (before after : List ℕ) → Written before after 0 line n → n ≤ 51 → 51 ≤ length before
-    → InFront line n after
-line-in-front {line} {n} before after w short room =
-    let long : n ≡ length line = omega (arith, w .moved, short) in
-    let is = w .holds ∙ overwrite-front before line (omega (arith, long, short, room)) in
-    front after long (rw (long, is) (take-append-seam line (drop (length line) before)))
-
 pub refusal-in-front : {n : ℕ} {r : Refusal} (o : Out (List ℕ)) (before after : List ℕ) (f : Filled) {o′ : Out (List ℕ)} → o ≡ o′ → returnedBy f ≡ returnedFor o
     → f ≡ filled.Refused r → Written before after 0 (outputLine (Answered (Refuse r))) n → n ≤ 51 → 51 ≤ length before
     → InFront (outputOf o′) n after
 unfolding returnedBy
 refusal-in-front {n} {r} o before after f same told is w short room =
-    along (λ (line : List ℕ). InFront line n after) (refusal-output o r (sym (ap returnedBy is) ∙ told) ∙ ap outputOf same) (line-in-front before after w short room)
+    along (λ (line : List ℕ). InFront line n after) (refusal-output o r (sym (ap returnedBy is) ∙ told) ∙ ap outputOf same) (line-in-front 51 before after w short room (omega arith))
+
+-- ------------------------------------------------------------------ a file that can't be read
+
+unread-program : {x : Contents} (buffer : List ℕ) (split : Option (List ℕ)) → x ≡ Unread → outputLine UnreadLine ≡ outputFor (textIn x buffer) split
+unfolding outputFor
+unread-program buffer split e = sym (ap (λ (y : Contents). outputFor (textIn y buffer) split) e)
+
+unread-split : {x : Contents} (program : Option (List ℕ)) (buffer : List ℕ) → x ≡ Unread → outputLine UnreadLine ≡ outputFor program (textIn x buffer)
+unfolding outputFor
+unread-split none buffer e = refl
+unread-split (some p) buffer e = sym (ap (λ (y : Contents). outputFor (some p) (textIn y buffer)) e)
+
+module _ {n : ℕ} (before after : List ℕ) (w : Written before after 0 (outputLine UnreadLine) n) (short : n ≤ 51) (room : length before ≡ splitLimit) where
+  line : InFront (outputLine UnreadLine) n after
+  unfolding splitLimit
+  line = line-in-front 51 before after w short (omega (arith, room)) (omega arith)
+
+  pub program-unread : {x : Contents} (buffer : List ℕ) (split : Option (List ℕ)) → x ≡ Unread → InFront (outputFor (textIn x buffer) split) n after
+  program-unread buffer split e = along (λ (text : List ℕ). InFront text n after) (unread-program buffer split e) line
+
+  pub split-unread : {x : Contents} (program : Option (List ℕ)) (buffer : List ℕ) → x ≡ Unread → InFront (outputFor program (textIn x buffer)) n after
+  split-unread program buffer e = along (λ (text : List ℕ). InFront text n after) (unread-split program buffer e) line

@@ -2,7 +2,8 @@
 // sheet, or one line: `REFUSE,` and four numbers, or `UNREAD`. The filling is in the library `fill`, the wording in `report`; here
 // is only what meets the outside.
 use files::Contents;
-use files::read_file;
+use files::read_program;
+use files::read_split;
 use files::tell;
 use files::write_all;
 use fill::Filled;
@@ -17,7 +18,8 @@ ghost use lib.ListN.{length};
 ghost use Rattle.spec.specs.Split.{splitLimit};
 ghost use Rattle.spec.specs.Workspace.{workspaceSize};
 ghost use Rattle.fill_theory.specs.Answer.{fill as filling};
-ghost use Rattle.racefill.specs.Output.{outputOf, InFront};
+ghost use Rattle.files.specs.Files.{Within, textIn, InFront};
+ghost use Rattle.racefill.specs.Output.{outputOf, outputFor};
 
 // Makes what is written for two texts, in front of a buffer that has room for any sheet, and hands back its length.
 fn fill_texts(program: &[u8], split: &[u8], out: &mut [u8]) -> usize
@@ -31,9 +33,26 @@ fn fill_texts(program: &[u8], split: &[u8], out: &mut [u8]) -> usize
     }
 }
 
-// A sheet or a line that standard output does not take to its end is not to be taken for a whole one.
-fn write_output(output: &[u8]) {
-    if !write_all(STDOUT_FILENO, output) {
+// Makes what is written for the two files as they were read, each into its buffer.
+fn output_of(program: &[u8], p: Contents, split: &[u8], s: Contents, out: &mut [u8]) -> usize
+    requires { ⌜ Within p (length (now program)) × Within s (length (now split)) × (length (now out) ≡ splitLimit) ⌝ }
+    ensures { λ n. ⌜ InFront (outputFor (textIn p (now (program .entry))) (textIn s (now (split .entry)))) n (now (out .exit)) ⌝ }
+{
+    let Contents::Bytes(m) = p else {
+        return write_line(out, Outcome::Unread);
+    };
+    let Contents::Bytes(n) = s else {
+        return write_line(out, Outcome::Unread);
+    };
+    fill_texts(&program[..m], &split[..n], out)
+}
+
+// Writes what was made for the two files, and no other bytes. A sheet or a line that standard output does not take to its end is not
+// to be taken for a whole one.
+fn write_output(program: &[u8], p: Contents, split: &[u8], s: Contents, output: &[u8])
+    requires { ⌜ now output ≡ outputFor (textIn p (now program)) (textIn s (now split)) ⌝ }
+{
+    if write_all(STDOUT_FILENO, output) < output.len() {
         write_all(
             STDERR_FILENO,
             b"racefill: standard output did not take all that was written\n",
@@ -41,22 +60,15 @@ fn write_output(output: &[u8]) {
     }
 }
 
-// Both files are read before anything is filled. A buffer has room for one byte more than its sheet may have, so that a longer
-// file is seen to be longer, and no more of it is read.
+// Both files are read before anything is filled.
 fn run() {
     let mut program = [0u8; 16385];
     let mut split = [0u8; 65537];
-    let Contents::Bytes(p) = read_file(b"program.txt", &mut program) else {
-        tell(Outcome::Unread);
-        return;
-    };
-    let Contents::Bytes(s) = read_file(b"split.txt", &mut split) else {
-        tell(Outcome::Unread);
-        return;
-    };
+    let p = read_program(&mut program);
+    let s = read_split(&mut split);
     let mut out = [0u8; 65536];
-    let n = fill_texts(&program[..p], &split[..s], &mut out);
-    write_output(&out[..n]);
+    let n = output_of(&program, p, &split, s, &mut out);
+    write_output(&program, p, &split, s, &out[..n]);
 }
 
 // An argument is refused: who names a folder would take the sheet for that folder's.

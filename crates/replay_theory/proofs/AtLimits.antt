@@ -7,7 +7,7 @@ use lib.ListN.{length, replicate}
 use Rattle.calculus.specs.Expression.{int, name, value, ref, call, newtid, newlock, newsem, newrwlock, make, Redex, spawnRedex, unaryRedex, makeRedex}
 use Rattle.calculus.specs.Reduction.{startState}
 use Rattle.replay_theory.specs.Paths.{partAt}
-use Rattle.replay_theory.specs.Run.{Kind, cells, locks, rwlocks, semaphores, identifiers, Run, startRun, placeOf, hasFinished, isOpen, makes, unaryEffect, kindMade, effect, threadLimit, thingLimit, callLimit}
+use Rattle.replay_theory.specs.Run.{ObjectKind, cells, locks, rwlocks, semaphores, identifiers, Run, startRun, placeOf, hasFinished, isOpen, makes, unaryEffect, kindMade, effect, threadLimit, thingLimit, callLimit}
 use Rattle.replay_theory.specs.Claim.{Reduced, partIn, openThrough, takesCall, openCallsOf, howMany, Within}
 
 -- Thread 0 reduces that word so many times.
@@ -18,7 +18,7 @@ unfoldable pub spawning : ℕ → List Reduced
 spawning n = steps n (spawnRedex (name 0) (value (int 0)))
 
 -- Things of each kind by its own word.
-unfoldable pub made : Kind → Redex
+unfoldable pub made : ObjectKind → Redex
 made cells = unaryRedex ref (int 0)
 made locks = makeRedex newlock
 made rwlocks = makeRedex (newrwlock 1)
@@ -44,7 +44,7 @@ threads-at-limit = (
   λ W. let many = W .threads in omega (arith, many),
 )
   where
-    nothing : (k : Kind) → howMany (makes k) (spawning 15) ≡ 0
+    nothing : (k : ObjectKind) → howMany (makes k) (spawning 15) ≡ 0
     nothing cells = refl
     nothing locks = refl
     nothing rwlocks = refl
@@ -52,21 +52,21 @@ threads-at-limit = (
     nothing identifiers = refl
 
 -- 64 things of every kind are within the limit: each kind is counted by itself. 65 of one kind are not.
-pub things-at-limit : Within [] (making 64) × ((k : Kind) → ¬ Within [] (steps 65 (made k)))
+pub things-at-limit : Within [] (making 64) × ((k : ObjectKind) → ¬ Within [] (steps 65 (made k)))
 unfolding making made steps howMany openCallsOf effect unaryEffect kindMade threadLimit thingLimit callLimit
 things-at-limit = (
   record { threads = omega arith; things = λ k. let made-of = by-itself k in omega (arith, made-of); calls = λ i. omega arith },
   λ k W. let many = W .things k in let made-of = one-past k in omega (arith, many, made-of),
 )
   where
-    by-itself : (k : Kind) → howMany (makes k) (making 64) ≡ 64
+    by-itself : (k : ObjectKind) → howMany (makes k) (making 64) ≡ 64
     by-itself cells = refl
     by-itself locks = refl
     by-itself rwlocks = refl
     by-itself semaphores = refl
     by-itself identifiers = refl
 
-    one-past : (k : Kind) → howMany (makes k) (steps 65 (made k)) ≡ 65
+    one-past : (k : ObjectKind) → howMany (makes k) (steps 65 (made k)) ≡ 65
     one-past cells = refl
     one-past locks = refl
     one-past rwlocks = refl

@@ -11,7 +11,7 @@ use Rattle.calculus.specs.Reduction.{reduce}
 use Rattle.calculus.proofs.Laws.Maps.{some-injective, none-is-not-some}
 use Rattle.replay_theory.specs.Trace.{TraceLine, traceLine}
 use Rattle.replay_theory.specs.Run.{Run, placeOf}
-use Rattle.replay_theory.specs.Claim.{MoveOf, Reduced, Step, NoStepOf, Stops, allDone, notALine, cannotStep, tooMany, Follows}
+use Rattle.replay_theory.specs.Claim.{MoveOf, Reduced, LanguageStep, NoStepOf, Stops, allDone, notALine, cannotStep, tooMany, Follows}
 use Rattle.replay_theory.specs.Exact.{OneEnd, Alike}
 use Rattle.replay_theory.specs.declared.Numbers.{Numbers}
 use Rattle.replay_theory.proofs.AtMostOneStep.{alike-back}
@@ -26,7 +26,7 @@ move-too {l = l} {m} E of = record {
 }
 
 -- Where no move of the line is a reduction, there is no step.
-pub no-step-beside : {r s s′ : Run} {l : TraceLine} {d : Reduced} → Alike r s → NoStepOf r l → Step s l d s′ → ⊥
+pub no-step-beside : {r s s′ : Run} {l : TraceLine} {d : Reduced} → Alike r s → NoStepOf r l → LanguageStep s l d s′ → ⊥
 no-step-beside E none-goes B =
     none-is-not-some (sym (none-goes (B .move) (move-too E (B .listed))) ∙ (λ z. reduce (E .procedures z) (E .state z) (B .move)) ∙ B .reduces)
 
@@ -36,8 +36,8 @@ same-line l q q′ = some-injective (sym q ∙ q′)
 pub not-a-line : {A : Type 0} {t : TraceLine} (l : Line) → traceLine l ≡ none → traceLine l ≡ some t → A
 not-a-line l q q′ = none-is-not-some (sym q ∙ q′)
 
-pub stepping : {s s′ : Run} {t t′ : TraceLine} {d : Reduced} → t ≡ t′ → Step s t d s′ → Step s t′ d s′
-stepping {s} {s′} {d = d} e A = subst (λ (t : TraceLine). Step s t d s′) e A
+pub stepping : {s s′ : Run} {t t′ : TraceLine} {d : Reduced} → t ≡ t′ → LanguageStep s t d s′ → LanguageStep s t′ d s′
+stepping {s} {s′} {d = d} e A = subst (λ (t : TraceLine). LanguageStep s t d s′) e A
 
 -- Each line has one answer.
 one-answer : {rs ss : List Run} {ds es : List Reduced} {r s : Run} {o o′ : Option Line} {k : ℕ} {a b : Numbers} → Alike r s → o ≡ o′ →

@@ -13,8 +13,8 @@ use Rattle.calculus.specs.Reduction.{wordOf, reduct, reduce}
 use Rattle.calculus.proofs.Laws.Maps.{some-injective, none-is-not-some, bind-goes-on}
 use Rattle.replay_theory.specs.Trace.{TraceLine}
 use Rattle.replay_theory.specs.Paths.{nextPath}
-use Rattle.replay_theory.specs.Run.{Kind, cells, Run, placeOf, partChosen, Effect, plain, spawns, joins, opens, makes, unaryEffect, kindMade, effect, numbersAfter, threadsAfter}
-use Rattle.replay_theory.specs.Claim.{Numbered, LowestFinished, Reduced, Step}
+use Rattle.replay_theory.specs.Run.{ObjectKind, cells, Run, placeOf, partChosen, Effect, plain, spawns, joins, opens, makes, unaryEffect, kindMade, effect, numbersAfter, threadsAfter}
+use Rattle.replay_theory.specs.Claim.{Numbered, LowestFinished, Reduced, LanguageStep}
 use Rattle.replay_theory.specs.Exact.{Apart, OneLowest, Alike}
 use Rattle.replay_theory.proofs.Effects.{another}
 use Rattle.replay_theory.proofs.Proper.{Rising, rising-append, rising-remove}
@@ -62,7 +62,7 @@ rises-after r m joins rising = rising-remove 0 (r .threads) (r .numbers) (m .fin
 rises-after r m opens rising = rising
 rises-after r m (makes k) rising = rising
 
-pub step-rises : {r r′ : Run} {l : TraceLine} {d : Reduced} → Step r l d r′ → Rising 0 (r .numbers) (r .threads) → Rising 0 (r′ .numbers) (r′ .threads)
+pub step-rises : {r r′ : Run} {l : TraceLine} {d : Reduced} → LanguageStep r l d r′ → Rising 0 (r .numbers) (r .threads) → Rising 0 (r′ .numbers) (r′ .threads)
 step-rises {r} {r′} {d = d} A rising =
     subst (Rising 0 (r′ .numbers)) (sym (A .counted))
     (subst (λ (ns : List ℕ). Rising 0 ns (threadsAfter (effect (d .word)) (r .threads))) (sym (A .numbered)) (rises-after r (A .move) (effect (d .word)) rising))
@@ -75,7 +75,7 @@ listing m f n = record { thread = m .thread; part = m .part; finished = f; fresh
 
 -- A join alone looks at the finished thread, a word that makes something alone at the name.
 module _ (P : List Procedure) (s : State) (m : Move) (t : Thread) (f n : ℕ) where
-  unary-looks : (o : Unary) (v : Value) → (unaryEffect o ≡ joins → m .finished ≡ f) → ((k : Kind) → unaryEffect o ≡ makes k → m .fresh ≡ n) →
+  unary-looks : (o : Unary) (v : Value) → (unaryEffect o ≡ joins → m .finished ≡ f) → ((k : ObjectKind) → unaryEffect o ≡ makes k → m .fresh ≡ n) →
       reduct P s m t (unaryRedex o v) ≡ reduct P s (listing m f n) t (unaryRedex o v)
   unfolding unaryEffect
   unary-looks join v same named = ap (λ (x : ℕ). reduct P s (listing m x n) t (unaryRedex join v)) (same refl)
@@ -88,7 +88,7 @@ module _ (P : List Procedure) (s : State) (m : Move) (t : Thread) (f n : ℕ) wh
   unary-looks (hold w) v same named = refl
   unary-looks (call g) v same named = refl
 
-  looks : (w : Redex) → (effect w ≡ joins → m .finished ≡ f) → ((k : Kind) → effect w ≡ makes k → m .fresh ≡ n) →
+  looks : (w : Redex) → (effect w ≡ joins → m .finished ≡ f) → ((k : ObjectKind) → effect w ≡ makes k → m .fresh ≡ n) →
       reduct P s m t w ≡ reduct P s (listing m f n) t w
   unfolding effect
   looks (letRedex x v e) same named = refl
@@ -137,12 +137,12 @@ numbers-alike m k (makes thing) E same = E .numbers
 word-injective : {w u : Redex} → atWord w ≡ atWord u → w ≡ u
 word-injective h = cc
 
-word-reduces : {r r′ : Run} {l : TraceLine} {d : Reduced} (A : Step r l d r′) → reduct (r .procedures) (r .state) (A .move) (A .thread) (d .word) ≡ some (r′ .state)
+word-reduces : {r r′ : Run} {l : TraceLine} {d : Reduced} (A : LanguageStep r l d r′) → reduct (r .procedures) (r .state) (A .move) (A .thread) (d .word) ≡ some (r′ .state)
 unfolding reduce
 word-reduces {r} A = bind-goes-on (wordOf (nextWord (A .thread .body))) _ (ap wordOf (A .next))
     (bind-goes-on (getElem? (r .state .threads) (A .move .thread)) _ (A .there) (A .reduces))
 
-module _ {r s r′ s′ : Run} {l l′ : TraceLine} {d e : Reduced} (E : Alike r s) (line : l ≡ l′) (A : Step r l d r′) (B : Step s l′ e s′) where
+module _ {r s r′ s′ : Run} {l l′ : TraceLine} {d e : Reduced} (E : Alike r s) (line : l ≡ l′) (A : LanguageStep r l d r′) (B : LanguageStep s l′ e s′) where
   one-place : A .move .thread ≡ B .move .thread
   one-place = some-injective {a = A .move .thread} (sym (A .listed .place) ∙ (λ z. placeOf (line z .thread) (E .numbers z)) ∙ B .listed .place)
 
@@ -172,7 +172,7 @@ module _ {r s r′ s′ : Run} {l l′ : TraceLine} {d e : Reduced} (E : Alike r
         one-of-alike n (A .move .finished) (B .move .finished) E apart (A .joinsLowest n at) (B .joinsLowest n (sym one-word ∙ at))
 
     -- They come to the same, if a new thing gets the same name.
-    pub one-after : ((k : Kind) → effect (d .word) ≡ makes k → A .move .fresh ≡ B .move .fresh) → Alike r′ s′
+    pub one-after : ((k : ObjectKind) → effect (d .word) ≡ makes k → A .move .fresh ≡ B .move .fresh) → Alike r′ s′
     one-after named = record {
       procedures = A .sameProcedures ∙ E .procedures ∙ sym (B .sameProcedures);
       state = some-injective

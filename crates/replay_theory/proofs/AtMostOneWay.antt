@@ -12,8 +12,8 @@ use Rattle.spec.specs.Text.{Line}
 use Rattle.calculus.specs.Expression.{Program}
 use Rattle.calculus.proofs.Laws.Maps.{some-injective, none-is-not-some}
 use Rattle.replay_theory.specs.Trace.{TraceLine, traceLine}
-use Rattle.replay_theory.specs.Run.{Kind, Run, startRun, Effect, plain, spawns, joins, opens, makes, effect}
-use Rattle.replay_theory.specs.Claim.{Reduced, Step, Within, StepDone, Stops, allDone, notALine, cannotStep, tooMany, Follows}
+use Rattle.replay_theory.specs.Run.{ObjectKind, Run, startRun, Effect, plain, spawns, joins, opens, makes, effect}
+use Rattle.replay_theory.specs.Claim.{Reduced, LanguageStep, Within, StepDone, Stops, allDone, notALine, cannotStep, tooMany, Follows}
 use Rattle.replay_theory.specs.Exact.{Alike, SameNames, OneWay}
 use Rattle.replay_theory.specs.declared.Numbers.{Numbers}
 use Rattle.replay_theory.proofs.Lists.{there-below, first-of, one-more-of, all-of}
@@ -25,7 +25,7 @@ use Rattle.replay_theory.proofs.SameCalls.{AllAlike, alike-first, alike
 
 -- It makes nothing.
 abbrev Other : Effect → Type 0
-Other e = (k : Kind) → eqb (effectNumber e) (effectNumber (makes k)) ≡ false
+Other e = (k : ObjectKind) → eqb (effectNumber e) (effectNumber (makes k)) ≡ false
 
 module _ (p : Program) {rs ss : List Run} {ls : List Line} {m n : ℕ} {a b : Numbers} (begins : getElem? rs 0 ≡ some (startRun p))
     (begins′ : getElem? ss 0 ≡ some (startRun p)) (F : Follows rs ls m a) (G : Follows ss ls n b) (named : SameNames F G) where
@@ -80,7 +80,7 @@ module _ (p : Program) {rs ss : List Run} {ls : List Line} {m n : ℕ} {a b : Nu
     last-alike : Alike (F .last) (goes .before) × Rising 0 (F .last .numbers) (F .last .threads)
     last-alike = so-far m (omega arith) (omega arith) (F .last) (goes .before) (F .lastThere) (goes .beforeThere)
 
-    module _ (l : TraceLine) (read : l ≡ goes .read) (d : Reduced) (r : Run) (A : Step (F .last) l d r) where
+    module _ (l : TraceLine) (read : l ≡ goes .read) (d : Reduced) (r : Run) (A : LanguageStep (F .last) l d r) where
       reduced-alike : F .reduced ++ (d ∷ []) ≡ take (suc m) (G .reduced)
       reduced-alike =
           let counted = F .reducedCounted in

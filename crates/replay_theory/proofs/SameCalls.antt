@@ -12,7 +12,7 @@ use Rattle.calculus.specs.Expression.{choose}
 use Rattle.calculus.specs.State.{Thread}
 use Rattle.calculus.specs.Reduction.{_>>=_}
 use Rattle.replay_theory.specs.Paths.{Path, partAt}
-use Rattle.replay_theory.specs.Run.{Kind, sameKind, Run, placeOf, isOpen, openIn, opens, makes, sameEffect, effect, callLimit}
+use Rattle.replay_theory.specs.Run.{ObjectKind, sameKind, Run, placeOf, isOpen, openIn, opens, makes, sameEffect, effect, callLimit}
 use Rattle.replay_theory.specs.Claim.{Reduced, partIn, openThrough, takesCall, openCallsOf, Within}
 use Rattle.replay_theory.specs.Exact.{Alike}
 use Rattle.replay_theory.proofs.Effects.{another}
@@ -83,7 +83,7 @@ fewer (some t) (q ∷ ps) = by-cases (isOpen (partAt q (t .body))) (fewer (some 
     by-cases true later = omega (arith, later)
     by-cases false later = omega (arith, later)
 
-no-call : (i : ℕ) (d : Reduced) (k : Kind) → effect (d .word) ≡ makes k → takesCall i d ≡ false
+no-call : (i : ℕ) (d : Reduced) (k : ObjectKind) → effect (d .word) ≡ makes k → takesCall i d ≡ false
 unfolding takesCall
 no-call i d k is = by-cases (sameEffect sameKind (effect (d .word)) opens)
   where
@@ -91,7 +91,7 @@ no-call i d k is = by-cases (sameEffect sameKind (effect (d .word)) opens)
     by-cases (yes p) = another (makes k) opens refl (sym is ∙ p)
     by-cases (no p) = refl
 
-pub made-within : (rs : List Run) (r : Run) (ds es : List Reduced) (d : Reduced) (k : Kind) (ss : List Run) → effect (d .word) ≡ makes k →
+pub made-within : (rs : List Run) (r : Run) (ds es : List Reduced) (d : Reduced) (k : ObjectKind) (ss : List Run) → effect (d .word) ≡ makes k →
     length rs ≡ suc (length ds) → ds ++ (d ∷ []) ≡ es → Within rs ds → Within ss es → Within (rs ++ (r ∷ [])) (ds ++ (d ∷ []))
 made-within rs r ds es d k ss is counted same before W =
     let W′ = subst (Within ss) (sym same) W in

@@ -8,7 +8,7 @@ use mathlib.Core.Option.{some}
 use lib.ListN.{getElem?, length}
 use Rattle.spec.specs.Text.{Line}
 use Rattle.calculus.specs.Expression.{Program}
-use Rattle.replay_theory.specs.Run.{Kind, Run, startRun, makes, effect}
+use Rattle.replay_theory.specs.Run.{ObjectKind, Run, startRun, makes, effect}
 use Rattle.replay_theory.specs.Claim.{LowestFinished, Follows, RaceTold}
 use Rattle.replay_theory.specs.declared.FirstRace.{FirstRace}
 use Rattle.replay_theory.specs.declared.Numbers.{Numbers}
@@ -41,7 +41,7 @@ pub record Alike (r s : Run) : Type 0 where
 module _ {rs ss : List Run} {ls : List Line} {m n : ℕ} {a b : Numbers} (F : Follows rs ls m a) (G : Follows ss ls n b) where
   -- No line of a trace lists the name that a new thing gets: it is given beside the trace.
   abbrev pub SameNames : Type 0
-  SameNames = (k : ℕ) (i : k < m) (j : k < n) (thing : Kind) → effect (F .each k i .reduced .word) ≡ makes thing →
+  SameNames = (k : ℕ) (i : k < m) (j : k < n) (thing : ObjectKind) → effect (F .each k i .reduced .word) ≡ makes thing →
       F .each k i .step .move .fresh ≡ G .each k j .step .move .fresh
 
   -- The one is the other, run by run and step by step.

@@ -5,7 +5,7 @@ use mathlib.Core.List.{List}
 use Prim.Native.Nat.{ℕ}
 use Rattle.spec.specs.Program.{Program}
 use Rattle.spec.specs.Split.{Split}
-use Rattle.spec.specs.Sites.{Claim, claimsOf}
+use Rattle.spec.specs.Sites.{NumberedCondition, claimsOf}
 use Rattle.spec.specs.FirstFalse.{Holds, Earlier, Refuted}
 use Rattle.spec.specs.declared.Refusal.{Refusal}
 use Rattle.spec.specs.declared.Purpose.the-variants.{Check}
@@ -15,7 +15,7 @@ use Rattle.spec.proofs.Claims.{one-first}
 use Rattle.spec.proofs.Earlier.{Among, others-later}
 
 -- any other claim of the pair that is false is later than the one that a refusal names
-pub named-is-earliest : {p s : List ℕ} {r : Refusal} (f : Refuted p s r) (d : Claim) → Among d (claimsOf (f .S) (f .P)) → (Holds (d .condition) → ⊥) →
+pub named-is-earliest : {p s : List ℕ} {r : Refusal} (f : Refuted p s r) (d : NumberedCondition) → Among d (claimsOf (f .S) (f .P)) → (Holds (d .condition) → ⊥) →
     (d ≡ f .first .here) ⊎ Earlier (f .first .here) d
 named-is-earliest f d among isFalse = others-later (f .first) d (f .inOrder) among isFalse
 

@@ -2,6 +2,7 @@
 use lexer::Cursor;
 use spec::Header;
 use spec::TypeLine;
+use spec::TypeNumber;
 use split_fields::LinesRead;
 use split_types::TypeRead;
 use split_types::type_line;
@@ -15,13 +16,14 @@ ghost use Rattle.workspace.specs.Layout.{kindsAt, firstsAt, secondsAt, workSize
 ghost use Rattle.split_sections.specs.Stored.{Storing, TypesRead};
 
 // Stores a type in the three columns of types.
-fn store_type(work: &mut [u32], own: usize, t: TypeLine)
-    requires { ⌜ (length (now work) ≡ workSize) × (own < 64) ⌝ }
-    ensures { λ _. ⌜ now (work .exit) ≡ set (set (set (now (work .entry)) (kindsAt + own) (kindCode t)) (firstsAt + own) (firstOf t)) (secondsAt + own) (secondOf t) ⌝ }
+fn store_type(work: &mut [u32], own: TypeNumber, t: TypeLine)
+    requires { ⌜ (length (now work) ≡ workSize) × (own .0 < 64) ⌝ }
+    ensures { λ _. ⌜ now (work .exit) ≡ set (set (set (now (work .entry)) (kindsAt + own .0) (kindCode t)) (firstsAt + own .0) (firstOf t)) (secondsAt + own .0) (secondOf t) ⌝ }
 {
-    work[KINDS + own] = workspace::kind_of(t);
-    work[FIRSTS + own] = workspace::first_of(t);
-    work[SECONDS + own] = workspace::second_of(t);
+    let at = workspace::index(own.0);
+    work[KINDS + at] = workspace::kind_of(t);
+    work[FIRSTS + at] = workspace::first_of(t);
+    work[SECONDS + at] = workspace::second_of(t);
 }
 
 // The type lines, from a cursor on.
@@ -33,10 +35,11 @@ pub fn read_types(text: &[u8], from: Cursor, header: Header, work: &mut [u32]) -
     let mut cursor = from;
     let mut own = 0;
     while own < types {
-        let found = type_line(text, cursor, own, header);
+        let number = TypeNumber(own as u32);
+        let found = type_line(text, cursor, number, header);
         match found {
             TypeRead::Read(t, next) => {
-                store_type(work, own, t);
+                store_type(work, number, t);
                 cursor = next;
             }
             TypeRead::Refused(r) => {

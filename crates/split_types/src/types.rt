@@ -67,16 +67,17 @@ fn lock_of(first: u32, second: u32, heading: Heading, maps: usize) -> TypeSeen
 }
 
 // The type that a word and two numbers make, each number in its range. Where a line shows 0, 0 is the one number.
-fn type_of(kind: TypeWord, first: u32, second: u32, own: usize, header: Header) -> TypeSeen
-    ensures { λ r. ⌜ r ≡ typeSeen kind header own (first ∷ second ∷ []) ⌝ }
+fn type_of(kind: TypeWord, first: u32, second: u32, own: TypeNumber, header: Header) -> TypeSeen
+    ensures { λ r. ⌜ r ≡ typeSeen kind header (own .0) (first ∷ second ∷ []) ⌝ }
 {
     let locations = header.locations;
     let maps = header.maps;
+    let earlier = workspace::index(own.0);
     match kind {
         TypeWord::Int => ranged_type(first, second, 1, 1, TypeLine::Int),
         TypeWord::Ref => {
             let cell = TypeLine::Ref(Location(first), TypeNumber(second));
-            ranged_type(first, second, locations, own, cell)
+            ranged_type(first, second, locations, earlier, cell)
         }
         TypeWord::Lock => {
             let heading = header.heading;
@@ -93,9 +94,9 @@ fn type_of(kind: TypeWord, first: u32, second: u32, own: usize, header: Header) 
 }
 
 // The line of the type with the number `own`, at a cursor.
-pub fn type_line(text: &[u8], cursor: Cursor, own: usize, header: Header) -> TypeRead
-    requires { ⌜ AtType (now text) cursor header own ⌝ }
-    ensures { λ r. ⌜ TypeAnswer (now (text .entry)) (readLine splitSheet (typeLine header own) (placeAt (now (text .entry)) cursor)) r ⌝ }
+pub fn type_line(text: &[u8], cursor: Cursor, own: TypeNumber, header: Header) -> TypeRead
+    requires { ⌜ AtType (now text) cursor header (own .0) ⌝ }
+    ensures { λ r. ⌜ TypeAnswer (now (text .entry)) (readLine splitSheet (typeLine header (own .0)) (placeAt (now (text .entry)) cursor)) r ⌝ }
 {
     if cursor.at_end(text) {
         return TypeRead::Refused(Refusal::SplitLines(cursor.line));

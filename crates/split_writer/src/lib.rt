@@ -137,11 +137,11 @@ fn write_signature(buffer: &mut [u8], at: usize, work: &[u32], f: usize) -> usiz
     requires { ⌜ f < 4294967296 ⌝ }
     ensures { λ r. ⌜ Written (now (buffer .entry)) (now (buffer .exit)) at (text (signatureFields (signatureIn (now (work .entry)) f) ∷ [])) r ⌝ }
 {
-    let before = workspace::at(work, SIG_BEFORES + f);
-    let argument = workspace::at(work, SIG_ARGUMENTS + f);
-    let after = workspace::at(work, SIG_AFTERS + f);
-    let result = workspace::at(work, SIG_RESULTS + f);
-    write_numbers(buffer, at, &[before, argument, after, result])
+    let before = MapNumber(workspace::at(work, SIG_BEFORES + f));
+    let argument = TypeNumber(workspace::at(work, SIG_ARGUMENTS + f));
+    let after = MapNumber(workspace::at(work, SIG_AFTERS + f));
+    let result = TypeNumber(workspace::at(work, SIG_RESULTS + f));
+    write_numbers(buffer, at, &[before.0, argument.0, after.0, result.0])
 }
 
 // Writes the lines of so many procedures.
@@ -163,15 +163,15 @@ fn write_row(buffer: &mut [u8], at: usize, work: &[u32], step: usize) -> usize
     requires { ⌜ startsAt + step < length (now work) ⌝ }
     ensures { λ r. ⌜ Written (now (buffer .entry)) (now (buffer .exit)) at (text (rowFields Check (rowIn (now (work .entry)) step) ∷ [])) r ⌝ }
 {
-    let of = workspace::at(work, ROW_TYPES + step);
-    let post = workspace::at(work, POSTS + step);
-    let start = workspace::at(work, STARTS + step);
-    let typed = write_field(buffer, at, of as u64, b',');
-    let left = write_field(buffer, typed, post as u64, b',');
-    if start == EMPTY_MAP {
+    let of = TypeNumber(workspace::at(work, ROW_TYPES + step));
+    let post = MapNumber(workspace::at(work, POSTS + step));
+    let start = MapNumber(workspace::at(work, STARTS + step));
+    let typed = write_field(buffer, at, of.0 as u64, b',');
+    let left = write_field(buffer, typed, post.0 as u64, b',');
+    if start.0 == EMPTY_MAP {
         return write_byte(buffer, left, b'\n');
     }
-    write_field(buffer, left, start as u64, b'\n')
+    write_field(buffer, left, start.0 as u64, b'\n')
 }
 
 // Writes the rows of so many steps.

@@ -1,7 +1,8 @@
 // Runs the library on the known pairs of document 01 and on every edge row of the specification, and looks at the work space
 // after each check. The file `stdin` has the rows of the tables `starred`, `sheetEdges`, `conditionEdges`, `agreementEdges`,
 // `numberEdges`, `startEdges`, `semaphoreEdges`, `spawnEdges`, `lockEdges`, `freelockEdges`, `rwlockEdges` and `procedureEdges`
-// in that order, and `stdout` the answers that these tables are proved to have.
+// in that order, and `stdout` the answers that these tables are proved to have. It promises nothing, so it has no edits: a wrong checker is
+// one of `checker` and of what that stands on.
 //
 // A line of the input is a program, a tab and a split; in both texts a bar stands for byte 10. The first 131,072 bytes of the
 // input are read, and that is the one limit on the length of a line.

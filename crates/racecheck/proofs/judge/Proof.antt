@@ -2,12 +2,12 @@ use mathlib.Core.Path.{ap}
 use mathlib.Core.Option.{some}
 use borrow.Author.Needs.{needs}
 use Rattle.spec.specs.Workspace.{workspaceSize}
-use Rattle.racecheck.specs.Told.{told}
+use Rattle.racecheck.specs.Told.{told, toldOf}
 use Rattle.racecheck.proofs.judge.Statement.{statement}
 use Rattle.racecheck.proofs.judge.Tie as tie
 
 returns : tie.Need-returns
-unfolding told workspaceSize
+unfolding told toldOf workspaceSize
 returns c = ap some (c .before .check .ensures .0)
 
 pub judge-spec : {M : Type 1} → statement M

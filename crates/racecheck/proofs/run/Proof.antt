@@ -1,40 +1,24 @@
--- Two files in, one line out.
+-- Two files in, one outcome out.
 use borrow.Author.Needs.{needs}
-use Rattle.files.proofs.Buffers.{bytes-within, bytes-part}
 use Rattle.racecheck.proofs.run.Statement.{statement}
 use Rattle.racecheck.proofs.run.Tie as tie
 
-array-share-prefix-program : tie.Need-array-share-prefix-program
-array-share-prefix-program c = bytes-within (c .before .before .before .before .before .before .before .before .p .given .1) (c .before .before .before .before .before .before .before .before .before .before .before .read-file .ensures)
+slice-aggregate-outcome-of : tie.Need-slice-aggregate-outcome-of
+slice-aggregate-outcome-of c = c .before .before .before .read-program .ensures .1
 
-slice-aggregate-judge : tie.Need-slice-aggregate-judge
-slice-aggregate-judge c = bytes-part _ (c .before .before .before .before .before .before .before .before .before .p .given .1) (c .before .before .before .before .before .before .before .before .before .before .before .before .read-file .ensures)
+slice-aggregate-outcome-of-2 : tie.Need-slice-aggregate-outcome-of-2
+slice-aggregate-outcome-of-2 c = c .before .before .read-split .ensures .1
 
-array-share-prefix-split : tie.Need-array-share-prefix-split
-array-share-prefix-split c = bytes-within (c .before .before .s .given .1) (c .before .before .before .before .before .read-file2 .ensures)
-
-slice-aggregate-judge-2 : tie.Need-slice-aggregate-judge-2
-slice-aggregate-judge-2 c = bytes-part _ (c .before .before .before .s .given .1) (c .before .before .before .before .before .before .read-file2 .ensures)
+outcome-of-requires : tie.Need-outcome-of-requires
+outcome-of-requires c κs = (c .before .before .before .before .read-program .ensures .0, c .before .before .read-split .ensures .0)
 
 pub run-spec : {M : Type 1} → statement M
 run-spec =
     tie.close
     (tie.spec
-    (λ c. search needs)
-    (λ c. search needs)
     (λ c κs. search needs)
-    (λ c. search needs)
-    (λ c. search needs)
-    (λ c. search needs)
-    (λ c. search needs)
-    (λ c. search needs)
     (λ c κs. search needs)
-    (λ c. search needs)
-    (λ c. search needs)
-    (λ c. search needs)
-    array-share-prefix-program
-    slice-aggregate-judge
-    array-share-prefix-split
-    slice-aggregate-judge-2
-    (λ c κs. search needs)
+    slice-aggregate-outcome-of
+    slice-aggregate-outcome-of-2
+    outcome-of-requires
     (λ c. search needs))

@@ -7,12 +7,12 @@ use Rattle.racedrill.proofs.write_drill.Tie as tie
 
 array-share-prefix-line : tie.Need-array-share-prefix-line
 array-share-prefix-line c =
-    let start = c .before .before .before in
+    let start = c .before .before .before .before in
     line-fits (start .fits .next .fits) (start .fits .program .fits) (start .fits .split .fits) (search needs) (c .before .write-line .ensures)
 
 slice-aggregate-write-all : tie.Need-slice-aggregate-write-all
 slice-aggregate-write-all c =
-    let start = c .before .before .before .before in
+    let start = c .before .before .before .before .before in
     sym (length-take-le _ _
     (line-fits (start .fits .next .fits) (start .fits .program .fits) (start .fits .split .fits) (search needs) (c .before .before .write-line .ensures)))
 

@@ -9,9 +9,9 @@ returns : tie.Need-returns
 returns c =
     let c₃ = c .before .before in
     let test = c₃ .before .before in
-    let c₂ = test .before .before .before in
-    let c₁ = c₂ .before .before .before .before in
-    let start-read = c₁ .before .before in
+    let c₂ = test .before .before .before .before in
+    let c₁ = c₂ .before .before .before .before .before in
+    let start-read = c₁ .before .before .before in
     let post-read = start-read .before in
     let type-read = post-read .before in
     let start = type-read .before .before .before in
@@ -21,10 +21,10 @@ returns c =
 returns-2 : tie.Need-returns-2
 returns-2 c =
     let c₃ = c .before .before in
-    let test = c₃ .before .before in
-    let c₂ = test .before .before .before in
-    let c₁ = c₂ .before .before .before .before in
-    let start-read = c₁ .before .before in
+    let test = c₃ .before .before .before in
+    let c₂ = test .before .before .before .before in
+    let c₁ = c₂ .before .before .before .before .before in
+    let start-read = c₁ .before .before .before in
     let post-read = start-read .before in
     let type-read = post-read .before in
     let start = type-read .before .before .before in

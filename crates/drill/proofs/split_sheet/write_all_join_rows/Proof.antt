@@ -41,4 +41,4 @@ returns c = done (restated (all-join-rows-none _ (c .loop-test .left)) (c .befor
 
 pub write-all-join-rows-spec : {M : Type 1} → statement M
 write-all-join-rows-spec =
-    tie.close (tie.spec Inv-loop μ-loop loop-holds sub-n write-join-rows-requires loop-less loop-again same-length returns)
+    tie.close (tie.spec Inv-loop μ-loop loop-holds sub-n (λ c. omega arith) write-join-rows-requires loop-less loop-again same-length returns)

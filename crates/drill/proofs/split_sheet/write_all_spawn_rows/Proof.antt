@@ -12,7 +12,7 @@ use Rattle.drill.proofs.split_sheet.write_all_spawn_rows.Tie as tie
 
 abbrev Inv-loop : tie.InvT-loop
 Inv-loop buffer₀ at share count to₀ m₀ buffer to m =
-    Remains buffer₀ at (text (allSpawnRows share 0 count)) buffer to (text (allSpawnRows share m (count - m)))
+    Remains buffer₀ at (text (allSpawnRows (share .0) 0 count)) buffer to (text (allSpawnRows (share .0) m (count - m)))
 
 abbrev μ-loop : tie.MeasureT-loop
 μ-loop buffer₀ at share count to₀ m₀ buffer to m = count - m
@@ -42,4 +42,4 @@ returns c = done (restated (all-spawn-rows-none _ _ _ (c .loop-test .left)) (c .
 
 pub write-all-spawn-rows-spec : {M : Type 1} → statement M
 write-all-spawn-rows-spec =
-    tie.close (tie.spec Inv-loop μ-loop loop-holds write-spawn-rows-requires add-m loop-less loop-again same-length returns)
+    tie.close (tie.spec Inv-loop μ-loop loop-holds (λ c. omega arith) write-spawn-rows-requires add-m loop-less loop-again same-length returns)

@@ -12,7 +12,7 @@ returns c =
     let c₃ = c₄ .before .before .before .before in
     let c₂ = c₃ .before .before .before .before in
     let c₁ = c₂ .before .before .before .before in
-    let start = c₁ .before .before .before in
+    let start = c₁ .before .before .before .before in
     let r₀ = parted _ _ (spawn-rows-parts _ _) (start .good .0 .0) (start .fits .at .fits) in
     let r₁ = onward _ _ r₀ (c₁ .write-row .ensures) in
     let r₂ = onward _ _ r₁ (c₂ .write-start-row .ensures) in
@@ -24,8 +24,8 @@ pub write-spawn-rows-spec : {M : Type 1} → statement M
 write-spawn-rows-spec =
     tie.close
     (tie.spec
-    (λ c κs. search needs)
     (λ c. search needs)
+    (λ c κs. search needs)
     (λ c κs. search needs)
     (λ c κs. search needs)
     (λ c κs. search needs)

@@ -72,6 +72,7 @@ read-types-spec =
     Inv-loop
     μ-loop
     loop-holds
+    (λ c. omega (arith, c .loop-test .taken, start (c .before) .pre .small .types))
     type-line-requires
     (λ c. search needs)
     store-type-requires
