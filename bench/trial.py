@@ -9,10 +9,10 @@ ENTRIES = {
     "racecheck_check": ("sssrrr", "b\"P\", b\"C\", &mut work, &mut a, &mut b, &mut c"),
     "racecheck_drill": ("nssrrr", "0, &mut first, &mut second, &mut a, &mut b, &mut c"),
     "racecheck_fill": ("ssssrrr", "b\"P\", b\"C\", &mut work, &mut first, &mut a, &mut b, &mut c"),
-    "racecheck_replay": ("sssrrrrr", "b\"P\", b\"0\", &mut work, &mut d, &mut e, &mut f, &mut a, &mut b"),
+    "racecheck_replay": ("sssrrrrrrr", "b\"P\", b\"0\", &mut work, &mut d, &mut a, &mut b, &mut e, &mut f, &mut c, &mut g"),
 }
 LOCALS = [("work", "[0u32; 16]"), ("first", "[0u8; 16]"), ("second", "[0u8; 16]")]
-LOCALS += [(name, "0u32") for name in "abc"] + [(name, "0u64") for name in "def"]
+LOCALS += [(name, "0u32") for name in "abcg"] + [(name, "0u64") for name in "def"]
 
 
 def program():

@@ -75,16 +75,18 @@ uint32_t racecheck_fill(
     uint32_t *condition,
     uint32_t *location);
 
-/* Runs a job in a recorded order (docs/REPLAY.md). Returns 0 if every line of the trace was done, else the number of the refusal
- * and its line; `line` is 0 where there is none. Stores the steps done, and the first state with a race among them with its two
- * threads, or RACECHECK_NO_STATE and two times RACECHECK_NO_THREAD. A trace may have any length. Afterwards anything may stand
- * in the first RACECHECK_REPLAY_SPACE numbers of `space`, and the rest is as it was; if `space` was too short, all of it is as it
- * was. */
+/* Runs a job in a recorded order (docs/REPLAY.md). Returns 0 if every line of the trace was done, else the number of the refusal,
+ * with its line, condition and location stored; 0 stands where there is none. Stores the steps done, and the first state with a
+ * race among them with its two threads, or RACECHECK_NO_STATE and two times RACECHECK_NO_THREAD. A trace may have any length.
+ * Afterwards anything may stand in the first RACECHECK_REPLAY_SPACE numbers of `space`, and the rest is as it was; if `space` was
+ * too short, all of it is as it was. */
 uint32_t racecheck_replay(
     const uint8_t *program, size_t program_len,
     const uint8_t *trace, size_t trace_len,
     uint32_t *space, size_t space_len,
     uint64_t *line,
+    uint32_t *condition,
+    uint32_t *location,
     uint64_t *steps,
     uint64_t *state,
     uint32_t *first,

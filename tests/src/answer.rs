@@ -62,14 +62,16 @@ impl std::fmt::Display for Returned {
 pub struct Replayed {
     pub number: u32,
     pub line: u64,
+    pub condition: u32,
+    pub location: u32,
     pub steps: u64,
     pub race: Option<Race>,
 }
 
 impl Replayed {
-    /// An answer with no steps and no race.
+    /// An answer with no condition, no location, no steps and no race.
     pub const fn at_line(number: u32, line: u64) -> Replayed {
-        Replayed { number, line, steps: 0, race: None }
+        Replayed { number, line, condition: 0, location: 0, steps: 0, race: None }
     }
 }
 
@@ -84,13 +86,13 @@ pub struct Race {
 impl std::fmt::Display for Replayed {
     /// The line that `racereplay` writes, without its closing byte.
     fn fmt(&self, out: &mut std::fmt::Formatter<'_>) -> std::fmt::Result {
-        let Replayed { number, line, steps, race } = self;
+        let Replayed { number, line, condition, location, steps, race } = self;
         match (number, race) {
             (0, None) => write!(out, "RAN,{steps}"),
             (0, Some(Race { state, first, second })) => write!(out, "RACE,{steps},{state},{first},{second}"),
-            (_, None) => write!(out, "REFUSE,{number},{line},0,0,{steps}"),
+            (_, None) => write!(out, "REFUSE,{number},{line},{condition},{location},{steps}"),
             (_, Some(Race { state, first, second })) => {
-                write!(out, "REFUSE,{number},{line},0,0,{steps},RACE,{state},{first},{second}")
+                write!(out, "REFUSE,{number},{line},{condition},{location},{steps},RACE,{state},{first},{second}")
             }
         }
     }

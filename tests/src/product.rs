@@ -78,6 +78,8 @@ mod calls {
             space: *mut u32,
             space_len: usize,
             line: *mut u64,
+            condition: *mut u32,
+            location: *mut u32,
             steps: *mut u64,
             state: *mut u64,
             first: *mut u32,
@@ -154,9 +156,10 @@ mod calls {
     /// Calls the product's replay on a program, a trace and a lent space.
     fn replay(program: &[u8], trace: &[u8], space: &mut [u32]) -> Replayed {
         // What is stored must overwrite this.
-        let (mut line, mut steps, mut race) = (77, 77, Race { state: 77, first: 77, second: 77 });
-        // The three slices and the five places are live and apart for the whole call.
-        let number = unsafe {
+        let mut race = Race { state: 77, first: 77, second: 77 };
+        let mut done = Replayed { number: 77, line: 77, condition: 77, location: 77, steps: 77, race: None };
+        // The three slices and the seven places are live and apart for the whole call.
+        done.number = unsafe {
             racecheck_replay(
                 program.as_ptr(),
                 program.len(),
@@ -164,13 +167,15 @@ mod calls {
                 trace.len(),
                 space.as_mut_ptr(),
                 space.len(),
-                &mut line,
-                &mut steps,
+                &mut done.line,
+                &mut done.condition,
+                &mut done.location,
+                &mut done.steps,
                 &mut race.state,
                 &mut race.first,
                 &mut race.second,
             )
         };
-        Replayed { number, line, steps, race: (race != NO_RACE).then_some(race) }
+        Replayed { race: (race != NO_RACE).then_some(race), ..done }
     }
 }

@@ -258,7 +258,7 @@ mod tests {
     #[test]
     fn one_that_knows_no_limits() {
         let replayer: Replayer = |program, trace, space| match SECOND(program, trace, space) {
-            Replayed { number: 48, race, line, .. } => Replayed { number: 0, line: 0, steps: line, race },
+            Replayed { number: 48, race, line, .. } => Replayed { steps: line, race, ..Replayed::at_line(0, 0) },
             done => done,
         };
         assert!(told_apart(replayer) > 30);
@@ -267,7 +267,7 @@ mod tests {
     #[test]
     fn one_that_names_the_last_step_done() {
         let replayer: Replayer = |program, trace, space| match SECOND(program, trace, space) {
-            Replayed { number: number @ 46.., steps, race, .. } => Replayed { number, line: steps, steps, race },
+            done @ Replayed { number: 46.., steps, .. } => Replayed { line: steps, ..done },
             done => done,
         };
         assert!(told_apart(replayer) > 100);

@@ -90,14 +90,15 @@ static void call_fill(struct desk *desk)
 /* What a replay returns and stores. */
 struct replayed {
     uint64_t line, steps, state;
-    uint32_t number, first, second;
+    uint32_t number, condition, location, first, second;
 };
 
 static struct replayed replay(struct desk *desk, const char *program, const void *trace, size_t length, size_t space)
 {
-    struct replayed r = {7, 7, 7, 7, 7, 7};
+    struct replayed r = {7, 7, 7, 7, 7, 7, 7, 7};
     r.number = racecheck_replay((const uint8_t *)program, strlen(program), trace, length, desk->space, space,
-        &r.line, &r.steps, &r.state, &r.first, &r.second);
+        &r.line, &r.condition, &r.location, &r.steps, &r.state, &r.first, &r.second);
+    want(desk, r.condition == 0 && r.location == 0, "a replay stores no condition and no location");
     return r;
 }
 
@@ -137,13 +138,13 @@ static void call_deepest(struct desk *desk)
 {
     static const char HEAD[] = "C2,1,1,1,1,0\nint,0,0\n1\n";
     uint8_t *program = desk->deep_program, *split = desk->deep_split;
-    uint32_t n[3];
+    uint32_t n[4];
     uint64_t at[3];
     size_t steps = lines(program, lines(program, lines(program, 0, "P,256\n", 1), "while,0\n", 255), "int,0\n", 1);
     size_t rows = lines(split, lines(split, 0, HEAD, 1), "0,0,\n", 256);
     want(desk, check(desk, program, steps, split, rows, n) == 0, "the deepest job is accepted");
     want(desk, racecheck_replay(program, steps, (const uint8_t *)"0,0\n0,0\n", 8, desk->space, RACECHECK_REPLAY_SPACE,
-         &at[0], &at[1], &at[2], &n[0], &n[1]) == 0, "the deepest job is replayed");
+         &at[0], &n[0], &n[1], &at[1], &at[2], &n[2], &n[3]) == 0, "the deepest job is replayed");
     rows = lines(split, lines(split, 0, HEAD, 1), "0,,\n", 256);
     want(desk, racecheck_fill(program, steps, split, rows, desk->work, RACECHECK_WORK, desk->out, sizeof desk->out, &n[0], &n[1], &n[2])
          == 0, "the deepest job is filled");

@@ -24,9 +24,9 @@ ghost use Rattle.checker.specs.Promise.{RefutedAs};
 ghost use Rattle.fill_theory.specs.AfterMaps.{AfterMaps};
 ghost use Rattle.fill_theory.specs.Answer.{fill as filling, returnedFor, bufferAfter, Fillable, FilledSheet, GreatestOverLimits};
 ghost use Rattle.replay_theory.specs.declared.FirstRace.the-variants.{None};
-ghost use Rattle.replay_theory.specs.Replay.{replaySpace, replay as replayed, lineNumbers, returnedFor as endingNumbers};
+ghost use Rattle.replay_theory.specs.Replay.{replaySpace, replay as replayed, returnedFor as endingNumbers};
 ghost use Rattle.replay_theory.specs.Claim.{TraceFollowed, RaceFound};
-ghost use Rattle.replay_numbers.specs.Numbers.{raceNumbers, raceTold, Stored};
+ghost use Rattle.replay_numbers.specs.Numbers.{answerTold, raceNumbers, raceTold, Stored};
 
 // The answer to a pair of texts: `check` of the crate `checker`, clause by clause.
 #[no_mangle]
@@ -125,7 +125,7 @@ pub extern "C" fn racecheck_fill(
     }
 }
 
-// The replay of a program and a trace: `replay` of the crate `replay`. Without a race, the state and the two threads are the largest numbers
+// The replay of a program and a trace: `replay` of the crate `replay`, clause by clause. Without a race, the state and the two threads are the largest numbers
 // of their kinds.
 #[no_mangle]
 pub extern "C" fn racecheck_replay(
@@ -133,17 +133,19 @@ pub extern "C" fn racecheck_replay(
     trace: &[u8],
     space: &mut [u32],
     line: &mut u64,
+    condition: &mut u32,
+    location: &mut u32,
     steps: &mut u64,
     state: &mut u64,
     first: &mut u32,
     second: &mut u32,
 ) -> u32
-    ensures answer { λ n. ⌜ (n ≡ endingNumbers (replayed (length (now (space .entry))) (now (program .entry)) (now (trace .entry)) .ending) .number) × (now (line .exit) ≡ endingNumbers (replayed (length (now (space .entry))) (now (program .entry)) (now (trace .entry)) .ending) .line) ⌝ }
+    ensures answer { λ n. ⌜ answerTold n (now (line .exit)) (now (condition .exit)) (now (location .exit)) ≡ endingNumbers (replayed (length (now (space .entry))) (now (program .entry)) (now (trace .entry)) .ending) ⌝ }
     ensures report { λ n. ⌜ (now (steps .exit) ≡ replayed (length (now (space .entry))) (now (program .entry)) (now (trace .entry)) .report .steps) × (raceTold (now (state .exit)) (now (first .exit)) (now (second .exit)) ≡ raceNumbers (replayed (length (now (space .entry))) (now (program .entry)) (now (trace .entry)) .report .race)) ⌝ }
     ensures unchanged { λ n. ⌜ (now (program .exit) ≡ now (program .entry)) × (now (trace .exit) ≡ now (trace .entry)) ⌝ }
     ensures kept { λ n. ⌜ (length (now (space .entry)) < replaySpace → now (space .exit) ≡ now (space .entry)) ⌝ }
     ensures free { λ n. ⌜ (length (now (space .exit)) ≡ length (now (space .entry))) × (drop replaySpace (now (space .exit)) ≡ drop replaySpace (now (space .entry))) ⌝ }
-    ensures stops { λ n. ⌜ TraceFollowed (length (now (space .entry))) (now (program .entry)) (now (trace .entry)) (now (steps .exit)) (lineNumbers n (now (line .exit))) ⌝ }
+    ensures stops { λ n. ⌜ TraceFollowed (length (now (space .entry))) (now (program .entry)) (now (trace .entry)) (now (steps .exit)) (answerTold n (now (line .exit)) (now (condition .exit)) (now (location .exit))) ⌝ }
     ensures first_race { λ n. ⌜ Stored (RaceFound (length (now (space .entry))) (now (program .entry)) (now (trace .entry))) (now (state .exit)) (now (first .exit)) (now (second .exit)) ⌝ }
     ensures safe { λ n. ⌜ ((room : ℕ) (split : List ℕ) → verdict room (now (program .entry)) split ≡ Accept → raceTold (now (state .exit)) (now (first .exit)) (now (second .exit)) ≡ raceNumbers None) ⌝ }
 {
@@ -154,6 +156,8 @@ pub extern "C" fn racecheck_replay(
     let four = replay_numbers::ending_numbers(ending);
     let pair = replay_numbers::race_numbers(race);
     *line = four.line as u64;
+    *condition = four.condition;
+    *location = four.location;
     *steps = report.steps as u64;
     *state = pair.state as u64;
     *first = pair.first;

@@ -54,30 +54,34 @@ long-space-after s x h k = record {
 
 -- U is the clause of the texts, which are lent unchanged.
 pub promises-kept : {U : Type 0} (text trace s s′ : List ℕ) (r : Replayed) → r ≡ replay (length s) text trace → U → SpaceAfter s s′ →
-    (r .ending ≡ replay (length s) text trace .ending)
+    (returnedFor (r .ending) ≡ returnedFor (replay (length s) text trace .ending))
+    × ((r .ending ≡ replay (length s) text trace .ending)
     × ((r .report ≡ replay (length s) text trace .report)
     × (U
     × ((length s < replaySpace → s′ ≡ s)
     × (((length s′ ≡ length s) × (drop replaySpace s′ ≡ drop replaySpace s))
     × (TraceFollowed (length s) text trace (r .report .steps) (returnedFor (r .ending))
     × (RaceFound (length s) text trace (r .report .race)
-    × NoneIfAccepted text (r .report .race)))))))
+    × NoneIfAccepted text (r .report .race))))))))
 promises-kept text trace s s′ r e u S = (
-  ap (λ (a : Replayed). a .ending) e,
+  ap (λ (a : Replayed). returnedFor (a .ending)) e,
   (
-    ap (λ (a : Replayed). a .report) e,
+    ap (λ (a : Replayed). a .ending) e,
     (
-      u,
+      ap (λ (a : Replayed). a .report) e,
       (
-        S .kept,
+        u,
         (
-          (S .long, S .behind),
+          S .kept,
           (
-            subst (λ (a : Replayed). TraceFollowed (length s) text trace (a .report .steps) (returnedFor (a .ending))) (sym e)
-                (trace-is-followed (length s) text trace),
+            (S .long, S .behind),
             (
-              subst (λ (a : Replayed). RaceFound (length s) text trace (a .report .race)) (sym e) (race-is-found (length s) text trace),
-              subst (λ (a : Replayed). NoneIfAccepted text (a .report .race)) (sym e) (none-if-accepted (length s) text trace),
+              subst (λ (a : Replayed). TraceFollowed (length s) text trace (a .report .steps) (returnedFor (a .ending))) (sym e)
+                  (trace-is-followed (length s) text trace),
+              (
+                subst (λ (a : Replayed). RaceFound (length s) text trace (a .report .race)) (sym e) (race-is-found (length s) text trace),
+                subst (λ (a : Replayed). NoneIfAccepted text (a .report .race)) (sym e) (none-if-accepted (length s) text trace),
+              ),
             ),
           ),
         ),

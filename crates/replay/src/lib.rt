@@ -44,7 +44,8 @@ fn replay_texts(program: &[u8], trace: &[u8], space: &mut [u32]) -> Replayed
 }
 
 // The replay of a program and a trace. What request (xii) asks of it, clause by clause:
-// answer: the ending is the one that the definition gives, for every input;
+// answer: its four numbers are those of the request, for every input, with a refused sheet those of document 01;
+// ending: and it ends as the definition does;
 // report: so are the steps done and the first state with a race;
 // unchanged: both texts are as they were;
 // kept: a space that is too short is as it was;
@@ -54,7 +55,8 @@ fn replay_texts(program: &[u8], trace: &[u8], space: &mut [u32]) -> Replayed
 // first_race: the race reported is the first of these states, with its lowest pair; where none is reported there is none;
 // safe: of an accepted program no race is reported, whatever the trace.
 pub fn replay(program: &[u8], trace: &[u8], space: &mut [u32]) -> Replayed
-    ensures answer { λ r. ⌜ r .ending ≡ replayed (length (now (space .entry))) (now (program .entry)) (now (trace .entry)) .ending ⌝ }
+    ensures answer { λ r. ⌜ returnedFor (r .ending) ≡ returnedFor (replayed (length (now (space .entry))) (now (program .entry)) (now (trace .entry)) .ending) ⌝ }
+    ensures ending { λ r. ⌜ r .ending ≡ replayed (length (now (space .entry))) (now (program .entry)) (now (trace .entry)) .ending ⌝ }
     ensures report { λ r. ⌜ r .report ≡ replayed (length (now (space .entry))) (now (program .entry)) (now (trace .entry)) .report ⌝ }
     ensures unchanged { λ r. ⌜ (now (program .exit) ≡ now (program .entry)) × (now (trace .exit) ≡ now (trace .entry)) ⌝ }
     ensures kept { λ r. ⌜ (length (now (space .entry)) < replaySpace → now (space .exit) ≡ now (space .entry)) ⌝ }

@@ -1,9 +1,6 @@
 -- An ending and a race in numbers, case by case.
 use Prim.Native.Nat.{ℕ}
-use mathlib.Core.Path.{_≡_, refl, sym, _∙_, ap, subst}
-use mathlib.Core.List.{List}
-use mathlib.Core.Option.{Option}
-use Rattle.spec.specs.Text.{Line, lines}
+use mathlib.Core.Path.{_≡_, refl, ap}
 use Rattle.spec.specs.Verdict.{returned}
 use Rattle.spec.specs.declared.Answer.the-variants.{Refuse}
 use Rattle.spec.specs.declared.Refusal.{Refusal}
@@ -13,9 +10,7 @@ use Rattle.replay_theory.specs.declared.Ending.the-variants.{Done, Refused, Tra
 use Rattle.replay_theory.specs.declared.FirstRace.{FirstRace}
 use Rattle.replay_theory.specs.declared.FirstRace.the-variants.{None, Found}
 use Rattle.replay_theory.specs.declared.Numbers.{Numbers}
-use Rattle.replay_theory.specs.Run.{Run}
 use Rattle.replay_theory.specs.Replay.{lineNumbers, sheetNumbers, returnedFor}
-use Rattle.replay_theory.specs.Claim.{runsOf, Reduced, Stops, allDone, notALine, cannotStep, tooMany, Follows, TraceFollowed}
 use Rattle.replay_numbers.specs.Numbers.{raceTold, raceNumbers}
 
 pub no-race-told : (race : FirstRace) → race ≡ None → raceTold 18446744073709551615 4294967295 4294967295 ≡ raceNumbers race
@@ -50,19 +45,3 @@ module _ (e : Ending) (n : Numbers) where
   pub past-limit-told : (k : ℕ) → e ≡ PastLimit k → n ≡ lineNumbers 48 k → n ≡ returnedFor e
   unfolding returnedFor
   past-limit-told k h q = rw h q
-
--- ------------------------------------------------------------------ stored numbers
-
--- Where a trace stops, the answer's last two numbers are 0.
-stops-with-line : {rs : List Run} {ds : List Reduced} {r : Run} {l : Option Line} {k : ℕ} {n : Numbers} → Stops rs ds r l k n → n ≡ lineNumbers (n .number) (n .line)
-unfolding lineNumbers
-stops-with-line allDone = refl
-stops-with-line (notALine l q) = refl
-stops-with-line (cannotStep l t q e) = refl
-stops-with-line (tooMany l t w s q e b) = refl
-
-pub followed-as-stored : (room : ℕ) (text trace : List ℕ) (steps : ℕ) (n : Numbers) {number line : ℕ} → number ≡ n .number → line ≡ n .line →
-    TraceFollowed room text trace steps n → TraceFollowed room text trace steps (lineNumbers number line)
-followed-as-stored room text trace steps n e q F P read =
-    let told = F P read in
-    subst (Follows (runsOf P trace) (lines trace) steps) (stops-with-line (told .stops) ∙ (λ i. lineNumbers (sym e i) (sym q i))) told

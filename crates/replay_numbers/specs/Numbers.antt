@@ -1,9 +1,13 @@
--- A race in numbers.
+-- What a caller in C is handed: the four numbers of an answer, and a race in three.
 use Prim.Native.Nat.{ℕ}
 use mathlib.Core.Path.{_≡_}
+use Rattle.replay_theory.specs.declared.Numbers.{Numbers}
 use Rattle.replay_theory.specs.declared.FirstRace.{FirstRace}
 use Rattle.replay_theory.specs.declared.FirstRace.the-variants.{None, Found}
 use Rattle.replay_numbers.specs.declared.RaceNumbers.{RaceNumbers}
+
+abbrev pub answerTold : (number line condition location : ℕ) → Numbers
+answerTold n l c p = record { number = n; line = l; condition = c; location = p }
 
 abbrev pub raceTold : (state first second : ℕ) → RaceNumbers
 raceTold n i j = record { state = n; first = i; second = j }

@@ -1,10 +1,8 @@
 -- The numbers of the ending and of the report that `replay` hands back.
-use mathlib.Core.Path.{refl, _∙_, ap}
+use mathlib.Core.Path.{refl, sym, _∙_, ap}
 use Rattle.replay_theory.specs.declared.Numbers.{Numbers}
 use Rattle.replay_theory.specs.declared.Report.{Report}
-use Rattle.replay_theory.specs.Replay.{returnedFor}
 use Rattle.replay_numbers.specs.Numbers.{raceNumbers}
-use Rattle.replay_numbers.proofs.Told.{followed-as-stored}
 use borrow.Author.Needs.{needs}
 use Rattle.entries.proofs.racecheck_replay.Statement.{statement}
 use Rattle.entries.proofs.racecheck_replay.Tie as tie
@@ -12,20 +10,18 @@ use Rattle.entries.proofs.racecheck_replay.Tie as tie
 returns : tie.Need-returns
 returns c =
     let told = c .before .before .before .before .before .replay .ensures in
-    let answer = told .0 in
-    let report = told .1 .0 in
-    let kept = told .1 .1 .1 .0 in
-    let free = told .1 .1 .1 .1 .0 in
-    let stops = told .1 .1 .1 .1 .1 .0 in
-    let first-race = told .1 .1 .1 .1 .1 .1 .0 in
-    let safe = told .1 .1 .1 .1 .1 .1 .1 in
-    let ending = c .before .ending-numbers .ensures in
-    let four = ending ∙ ap returnedFor (answer) in
-    let race = c .race-numbers .ensures in
-    let followed = followed-as-stored _ _ _ _ _ (ap (λ (x : Numbers). x .number) ending) (ap (λ (x : Numbers). x .line) ending) (stops) in (
-      (ap (λ (x : Numbers). x .number) four, ap (λ (x : Numbers). x .line) four),
+    let report = told .1 .1 .0 in
+    let rest = told .1 .1 .1 .1 in
+    let kept = rest .0 in
+    let free = rest .1 .0 in
+    let stops = rest .1 .1 .0 in
+    let first-race = rest .1 .1 .1 .0 in
+    let safe = rest .1 .1 .1 .1 in
+    let four = c .before .ending-numbers .ensures in
+    let race = c .race-numbers .ensures in (
+      four ∙ told .0,
       (
-        (ap (λ (x : Report). x .steps) (report), race ∙ ap (λ (x : Report). raceNumbers (x .race)) (report)),
+        (ap (λ (x : Report). x .steps) report, race ∙ ap (λ (x : Report). raceNumbers (x .race)) report),
         (
           (refl, refl),
           (
@@ -33,7 +29,7 @@ returns c =
             (
               free,
               (
-                followed,
+                rw (sym four) at stops,
                 (
                   record { race = _; told = race; holds = first-race },
                   λ room split accepted. race ∙ ap raceNumbers (safe room split accepted),

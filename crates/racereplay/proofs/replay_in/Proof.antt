@@ -18,4 +18,4 @@ ran text trace r long ending report =
 
 pub replay-in-spec : {M : Type 1} → statement M
 replay-in-spec =
-    tie.close (tie.spec (λ c κs. search needs) (λ c. ran _ _ _ (search needs) (c .replay .ensures .0) (c .replay .ensures .1 .0)))
+    tie.close (tie.spec (λ c κs. search needs) (λ c. ran _ _ _ (search needs) (c .replay .ensures .1 .0) (c .replay .ensures .1 .1 .0)))
