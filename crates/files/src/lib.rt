@@ -9,7 +9,9 @@ pub use making::make_file;
 pub use making::remove_file;
 use report::Outcome;
 use report::write_line;
+pub use retry::open;
 pub use retry::write_all;
+ghost use Prim.Native.Nat.{_≤_};
 ghost use lib.ListN.{length};
 ghost use Rattle.files.specs.Files.{Within};
 
@@ -19,11 +21,12 @@ pub enum Contents {
     Unread,
 }
 
-// Reads from a descriptor until the file ends, the buffer is full or a read fails.
-fn fill(fd: i32, buffer: &mut [u8]) -> Contents
+// Reads from a descriptor behind the bytes that the buffer holds, until the file ends, the buffer is full or a read fails.
+pub fn fill(fd: i32, buffer: &mut [u8], held: usize) -> Contents
+    requires { ⌜ held ≤ length (now buffer) ⌝ }
     ensures { λ r. ⌜ Within r (length (now (buffer .exit))) ⌝ }
 {
-    let mut n: usize = 0;
+    let mut n = held;
     while n < buffer.len() {
         let got = retry::read(fd, &mut buffer[n..]);
         if got < 0 {
@@ -46,7 +49,7 @@ pub fn read_file(name: &[u8], buffer: &mut [u8]) -> Contents
     if fd < 0 {
         return Contents::Unread;
     }
-    let contents = fill(fd, buffer);
+    let contents = fill(fd, buffer, 0);
     libc::close(fd);
     contents
 }
