@@ -9,7 +9,7 @@ from .words import KINDS, MAPS, NO_STEP, WITH_PROCEDURES, WORDS
 DIGITS = 10
 NUMERAL = re.compile(rb"0|[1-9][0-9]{0,%d}" % (DIGITS - 1))
 PROGRAM_BYTES, SPLIT_BYTES = 16_384, 65_536
-TRACE_BYTES = 4_000_000  # the longest trace that racereplay holds
+TRACE_BYTES = 4_000_000  # the longest trace that the tools work out again; racereplay takes any
 WHOLE = 1_000_000_000
 MOST_TO_FILL = 256  # maps given in a sheet for filling
 

@@ -9,7 +9,7 @@ from stepping.program import Steps
 from . import causes, doing, forms
 from .disagreement import require
 from .findings import explained, place_in
-from .sheets import counts_of, read_sheet, steps_of
+from .sheets import counts_of, steps_of
 from .showing import grouped, shown
 from .texts import job_fault, program_lines_fault
 
@@ -73,16 +73,7 @@ def _race(machine, state, number, naming):
 
 def explain(run, folder, walks=False):
     """The explanation of racereplay's line in a folder, with the order as far as it was done."""
-    explanation = explained(run, folder, lambda explanation, program, trace: _compare(explanation, program, trace, walks))
-    if run.answer == "UNREAD":
-        explanation.causes += _too_long(read_sheet(folder, TRACE))
-    return explanation
-
-
-def _too_long(trace):
-    if trace is None or trace.length <= forms.TRACE_BYTES:
-        return []
-    return [f"{TRACE} has {grouped(trace.length)} bytes; at most {grouped(forms.TRACE_BYTES)} are held"]
+    return explained(run, folder, lambda explanation, program, trace: _compare(explanation, program, trace, walks))
 
 
 def _compare(explanation, program, trace, walks):
@@ -90,6 +81,9 @@ def _compare(explanation, program, trace, walks):
     fault = program_lines_fault(program) or job_fault(steps_of(program), counts_of(program).procedures)
     if fault:
         return _tell_fault(explanation, program, fault)
+    if trace.length > forms.TRACE_BYTES:
+        explanation.unseen.append(f"{TRACE} has {grouped(trace.length)} bytes; an order is worked out again here up to {grouped(forms.TRACE_BYTES)}")
+        return None
     order = explanation.order = order_of(program, trace, explanation.names, walks)
     require(explanation.answer == order.line(), f"the steps taken here come to {order.line()}")
     if order.stopped:

@@ -103,7 +103,7 @@ def _trace(folder, asked):
     with open(file, "rb") as opened:
         text = opened.read(TRACE_BYTES + 1)
     if len(text) > TRACE_BYTES:
-        raise Failure(f"the recorded order has more bytes than racereplay reads: {visible(file)}")
+        raise Failure(f"the recorded order has more bytes than a page can have: {visible(file)}")
     return text
 
 

@@ -9,10 +9,10 @@ use Rattle.engine.specs.declared.races.Access.{Access}
 use Rattle.engine.specs.declared.races.Partner.the-variants as partner
 use Rattle.engine.specs.declared.races.Pair.the-variants as pair
 
-one-less : (n j : ℕ) → j < n → n - j ≡ suc (n - (j + 1))
+pub one-less : (n j : ℕ) → j < n → n - j ≡ suc (n - (j + 1))
 one-less n j l = omega (arith, l)
 
-none-left : (n j : ℕ) → n ≤ j → n - j ≡ 0
+pub none-left : (n j : ℕ) → n ≤ j → n - j ≡ 0
 none-left n j l = omega (arith, l)
 
 module _ (p s : List ℕ) (a : Access) (j count : ℕ) where

@@ -67,12 +67,22 @@ writes None v = false
 writes (Read u) v = false
 writes (Write u) v = eqb u v
 
+unfoldable pub isWrite : Access → Bool
+isWrite None = false
+isWrite (Read v) = false
+isWrite (Write v) = true
+
 unfoldable pub clash : Access → Access → Bool
 clash None b = false
 clash (Read v) b = writes b v
 clash (Write v) b = if writes b v then true else reads b v
 
 -- ------------------------------------------------------------------ all threads
+
+-- of n threads from j on
+unfoldable pub anyWrites : (p s : List ℕ) (j n : ℕ) → Bool
+anyWrites p s j zero = false
+anyWrites p s j (suc n) = if isWrite (accessOf p s j) then true else anyWrites p s (j + 1) n
 
 -- n threads from j on
 unfoldable pub partnerOf : (p s : List ℕ) → Access → (j n : ℕ) → Partner

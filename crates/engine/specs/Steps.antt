@@ -3,14 +3,14 @@ use Prim.Native.Nat.{ℕ, zero, suc, _+_, _*_}
 use mathlib.Core.Bool.{Bool, true, false}
 use mathlib.Core.List.{List}
 use lib.Dec.{eqb, leb, ltb}
-use lib.ListN.{length, getD, set, replicate}
+use lib.ListN.{getD, set}
 use Rattle.spec.specs.Choice.{if_then_else_}
 use Rattle.threads.specs.declared.Threads.{Threads}
 use Rattle.threads.specs.declared.Found.{Found}
 use Rattle.threads.specs.declared.Found.the-variants.{At, Nothing}
 use Rattle.threads.specs.Records.{lowest}
 use Rattle.threads.specs.Threads.{started, spawned, finished, joined, runs}
-use Rattle.control.specs.Layout.{environmentsAt, focusRowsAt, nextValueAt, thingKindsAt}
+use Rattle.control.specs.Layout.{environmentsAt, focusRowsAt, thingCountsAt, nextValueAt, thingKindsAt}
 use Rattle.control.specs.declared.Focus.{Focus}
 use Rattle.control.specs.Shapes.{shapeAt, isIf}
 use Rattle.control.specs.Control.{variable, second, rootOf, entering}
@@ -94,9 +94,15 @@ stepped p s T t c = if runs T t then steppedFrom p s T t (focusAt s t) c else (e
 
 -- ------------------------------------------------------------------ the start
 
--- a cleared space with the start's identifier
+-- n numbers from i on are 0
+unfoldable pub zeroed : (s : List ℕ) (i n : ℕ) → List ℕ
+zeroed s i zero = s
+zeroed s i (suc n) = zeroed (set s i 0) (i + 1) n
+
+-- the variables of the first row are 0, and there is no thing but the start's identifier; what else stands in the space is not looked at
+-- before it is stored
 unfoldable pub startSpace : (s : List ℕ) → List ℕ
-startSpace s = set (set (replicate (length s) 0) (thingKindsAt + 1) 1) nextValueAt 2
+startSpace s = set (set (zeroed (zeroed s environmentsAt 256) thingCountsAt 400) (thingKindsAt + 1) 1) nextValueAt 2
 
 unfoldable pub startOf : (p s : List ℕ) → Threads × List ℕ
 startOf p s = proceeded p (startSpace s) (started 1) 0 (entering 0 (rootOf p))

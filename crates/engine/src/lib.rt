@@ -20,8 +20,8 @@ use threads::Threads;
 use workspace::at;
 use workspace::index;
 ghost use mathlib.Core.Path.{_≡_};
-ghost use Prim.Native.Nat.{_<_};
-ghost use Rattle.engine.specs.Steps.{mayChoose as mayChooseOf, proceeded, outcomeOf, ending, copied, spawnedStep, joinedStep, actStep, stepped, startOf};
+ghost use Prim.Native.Nat.{_-_, _<_};
+ghost use Rattle.engine.specs.Steps.{mayChoose as mayChooseOf, proceeded, outcomeOf, ending, copied, spawnedStep, joinedStep, actStep, stepped, zeroed, startOf};
 
 // How a step ended: it is done; it cannot be taken; or it is past a limit.
 pub enum Outcome {
@@ -196,11 +196,24 @@ pub fn step(program: &[u32], space: &mut [u32], threads: Threads, t: u32, choice
     }
 }
 
-// The start: one thread, about to evaluate the root, and no thing but its identifier, whose value is 1.
+// The numbers of the space from a place up to another become 0.
+fn clear_part(space: &mut [u32], from: usize, to: usize)
+    ensures { λ _. ⌜ now (space .exit) ≡ zeroed (now (space .entry)) from (to - from) ⌝ }
+{
+    let mut i = from;
+    while i < to {
+        put(space, i, 0);
+        i += 1;
+    }
+}
+
+// The start: one thread, about to evaluate the root, and no thing but its identifier, whose value is 1. Of the space only what is looked at
+// before it is stored is cleared: the variables of the first row, and the counts and kinds of things.
 pub fn start(program: &[u32], space: &mut [u32]) -> Threads
     ensures { λ r. ⌜ startOf (now (program .entry)) (now (space .entry)) ≡ (r, now (space .exit)) ⌝ }
 {
-    workspace::clear(space);
+    clear_part(space, layout::ENVIRONMENTS, layout::ROW);
+    clear_part(space, layout::THING_COUNTS, layout::THING_FIRSTS);
     put(space, layout::THING_KINDS + 1, things::IDENTIFIER);
     put(space, layout::NEXT_VALUE, 2);
     let root = Focus {

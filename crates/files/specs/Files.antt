@@ -12,15 +12,10 @@ use Rattle.files.specs.declared.Contents.the-variants.{Bytes, Unread}
 use Rattle.files.specs.declared.making.Making.{Making}
 use Rattle.files.specs.declared.making.Making.the-variants.{Made, Taken, Unwritten}
 
--- as many bytes of a trace as `racereplay` holds
-unfoldable pub traceLimit : ℕ
-traceLimit = 4000000
-
--- Each file by its name in documents 01 and 02, with room for one byte more than its text may have.
+-- Each sheet by its name in document 01, with room for one byte more than its text may have.
 pub data ReadInto (name : List ℕ) (room : ℕ) : Type 0 where
   program : name ≡ bytes "program.txt" → room ≡ programLimit + 1 → ReadInto name room
   split : name ≡ bytes "split.txt" → room ≡ splitLimit + 1 → ReadInto name room
-  trace : name ≡ bytes "trace.txt" → room ≡ traceLimit + 1 → ReadInto name room
 
 -- what reading a file leaves: no more bytes than the buffer has
 abbrev pub Within : Contents → ℕ → Type 0

@@ -12,7 +12,9 @@ use report::Outcome;
 use report::write_line;
 pub use retry::write_all;
 ghost use mathlib.Core.Path.{_≡_};
+ghost use Prim.Native.Nat.{_≤_};
 ghost use lib.ListN.{length};
+ghost use Rattle.spec.specs.Text.{bytes};
 ghost use Rattle.report.specs.Line.{outputLine};
 ghost use Rattle.files.specs.Files.{Within, ReadInto};
 
@@ -22,11 +24,12 @@ pub enum Contents {
     Unread,
 }
 
-// Reads from a descriptor until the file ends, the buffer is full or a read fails.
-fn fill(fd: i32, buffer: &mut [u8]) -> Contents
+// Reads from a descriptor behind the bytes that the buffer holds, until the file ends, the buffer is full or a read fails.
+pub fn fill(fd: i32, buffer: &mut [u8], held: usize) -> Contents
+    requires { ⌜ held ≤ length (now buffer) ⌝ }
     ensures { λ r. ⌜ Within r (length (now (buffer .exit))) ⌝ }
 {
-    let mut n: usize = 0;
+    let mut n = held;
     while n < buffer.len() {
         let got = retry::read(fd, &mut buffer[n..]);
         if got < 0 {
@@ -50,7 +53,7 @@ fn read_file(name: &[u8], buffer: &mut [u8]) -> Contents
     if fd < 0 {
         return Contents::Unread;
     }
-    let contents = fill(fd, buffer);
+    let contents = fill(fd, buffer, 0);
     libc::close(fd);
     contents
 }
@@ -72,12 +75,16 @@ pub fn read_split(buffer: &mut [u8; 65537]) -> Contents
     read_file(b"split.txt", buffer)
 }
 
-// Reads a trace. It has no limit of its own: so many bytes are held, and one more is read.
-pub fn read_trace(buffer: &mut [u8; 4_000_001]) -> Contents
-    ensures { λ r. ⌜ Within r (length (now (buffer .exit))) ⌝ }
-    ensures { λ r. ⌜ 4000001 ≡ length (now (buffer .exit)) ⌝ }
+// Opens a file that is read as it goes, and hands back a descriptor, or -1.
+fn open_file(name: &[u8]) -> i32
+    requires { ⌜ now name ≡ bytes "trace.txt" ⌝ }
 {
-    read_file(b"trace.txt", buffer)
+    retry::open(name)
+}
+
+// Opens the trace. It has no limit, and `fill` reads it part by part.
+pub fn open_trace() -> i32 {
+    open_file(b"trace.txt")
 }
 
 // Writes the line of an outcome to standard output by one call, so that no other program's line comes between its parts.

@@ -20,7 +20,7 @@ fn is_over(succeeded: bool) -> bool {
 }
 
 // Opens a file for reading, and hands back a descriptor, or -1.
-pub(crate) fn open(name: &[u8]) -> i32 {
+pub fn open(name: &[u8]) -> i32 {
     let mut tries = TRIES;
     while 0 < tries {
         let fd = os::open_read(name);

@@ -1,3 +1,4 @@
 pub mod Races
+pub mod Steadying
 pub mod Playing
 pub mod Moves

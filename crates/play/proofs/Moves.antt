@@ -11,10 +11,10 @@ use Rattle.replay_theory.specs.declared.FirstRace.{FirstRace}
 use Rattle.replay_theory.specs.declared.Ending.the-variants.{TraceForm, NoStep, PastLimit}
 use Rattle.play.specs.declared.Progress.the-variants.{Goes}
 use Rattle.play.specs.declared.Point.{Point}
-use Rattle.play.specs.Play.{raceAfter, CountKept, stoppedBy, byOutcome, afterStep, lineDone}
+use Rattle.play.specs.Play.{raceAfter, stoppedBy, byOutcome, afterStep, lineDone}
 
-pub count-low : (x : Stepped × List ℕ) (r : Stepped) (s : List ℕ) → x ≡ (r, s) → CountKept x → r .outcome ≡ Moved → r .threads .count ≤ 16
-count-low x r s e kept m = subst CountKept e kept m
+pub few-left : {x : Stepped × List ℕ} {r : Stepped} {s : List ℕ} → x ≡ (r, s) → x .0 .threads .count ≤ 16 → r .threads .count ≤ 16
+few-left e few = subst (λ (y : Stepped × List ℕ). y .0 .threads .count ≤ 16) e few
 
 module _ (p : List ℕ) (q : Point) (next : ℕ) (x : Stepped × List ℕ) (r : Stepped) (s : List ℕ) (e : x ≡ (r, s)) where
   pub after-moved : r .outcome ≡ Moved → {race : FirstRace} → race ≡ raceAfter p s (r .threads .count) (q .race) (q .steps + 1) →

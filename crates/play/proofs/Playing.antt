@@ -2,7 +2,7 @@
 use Prim.Native.Nat.{ℕ, suc, _+_, _-_, _<_, _≤_}
 use mathlib.Core.Path.{_≡_, refl, sym, _∙_, ap, subst}
 use mathlib.Core.Bool.{Bool, true, false}
-use mathlib.Core.List.{List, [], _∷_}
+use mathlib.Core.List.{List, [], _∷_, _++_}
 use mathlib.Core.Option.{Option, none, some}
 use native.Mathlib.Omega.{arith}
 use lib.Dec.{eqb}
@@ -11,8 +11,6 @@ use Rattle.spec.specs.Choice.{if_then_else_}
 use Rattle.spec.specs.Text.{Line, closed, unclosed, lines, onLine as textLine}
 use Rattle.lexer.specs.Views.{lineAt}
 use Rattle.lexer.specs.Numbers.{stored}
-use Rattle.trace.specs.declared.TraceLine as read
-use Rattle.trace.specs.declared.TraceLine.the-variants as line
 use Rattle.trace.specs.Lines.{moveIn}
 use Rattle.engine.specs.declared.Outcome.the-variants.{Moved, Stuck, Past}
 use Rattle.engine.specs.declared.Stepped.{Stepped}
@@ -20,36 +18,27 @@ use Rattle.engine.specs.Steps.{stepped}
 use Rattle.replay_theory.specs.Trace.{TraceLine, traceLine}
 use Rattle.replay_theory.specs.Replay.{Outcome, badForm, noStep, pastLimit, step, limited, lineOutcome}
 use Rattle.replay_theory.specs.declared.Ending.{Ending}
-use Rattle.replay_theory.specs.declared.Ending.the-variants.{Done}
 use Rattle.replay_theory.specs.declared.Replayed.{Replayed}
 use Rattle.machine.specs.Replay as machine
 use Rattle.machine.specs.Replay.{Replay, within, orRace, ended, playOn, playFrom}
 use Rattle.simulation.proofs.Moving.{Answered}
 use Rattle.simulation.proofs.Racing.{lowest-pair-alike}
-use Rattle.simulation.proofs.Stepping.{step-simulated}
-use Rattle.simulation.proofs.Posting.{CountsWithin, counts-roomy, stepped-counts}
+use Rattle.simulation.proofs.Posting.{CountsWithin, stepped-counts}
 use Rattle.simulation.proofs.Lining.{LineTold, open-line, shut-line, line-told}
 use Rattle.simulation.proofs.Resting.{RestAt, rest-at}
 use Rattle.simulation.proofs.Stored.{line-answered}
 use Rattle.play.specs.declared.Progress.{Progress}
 use Rattle.play.specs.declared.Progress.the-variants.{Goes, Stops}
 use Rattle.play.specs.declared.Point.{Point}
-use Rattle.play.specs.Play.{raceAfter, CountKept, CountsKept, stoppedBy, byOutcome, afterStep, lineDone, PlaysTo}
+use Rattle.play.specs.Play.{raceAfter, stoppedBy, byOutcome, afterStep, lineDone, Steady, PlaysTo, GoesTo, ComesTo}
 
 -- what is known of a run behind a line, by its progress
-abbrev pub Tells : Progress → (whole : Replayed) (p s text : List ℕ) → (before after : Point) → Type 0
-Tells (Stops e) whole p s text q q′ = ended e (q′ .steps) (q′ .race) ≡ whole
-Tells Goes whole p s text q q′ = PlaysTo whole p s text q′ × (q .at < q′ .at)
+abbrev pub Tells : Progress → (whole : List Line → Replayed) (p s piece : List ℕ) → Point → Type 0
+Tells (Stops e) whole p s piece q = (ls : List Line) → ended e (q .steps) (q .race) ≡ whole ls
+Tells Goes whole p s piece q = PlaysTo whole p s piece q
 
-abbrev pub LineTells : (whole : Replayed) (p text : List ℕ) → (before : Point) → Point × List ℕ → Type 0
-LineTells whole p text q r = Tells (r .0 .progress) whole p (r .1) text q (r .0)
-
--- a step that is answered has room for its threads
-answered-count : (p : List ℕ) (o : Outcome Replay) (r : Stepped × List ℕ) → Answered p o r → CountKept r
-answered-count p badForm r a e = absurd a
-answered-count p noStep r a e = absurd (let z : Stuck ≡ Moved = sym a ∙ e in let y : _≡_ {A = ℕ} 0 1 = cc in omega arith)
-answered-count p pastLimit r a e = absurd (let z : Past ≡ Moved = sym a ∙ e in let y : _≡_ {A = ℕ} 0 1 = cc in omega arith)
-answered-count p (step R) r (m, H) e = let l = H .sized .fits in let k = H .sized .count in omega (arith, l, k)
+abbrev pub LineTells : (whole : List Line → Replayed) (p piece : List ℕ) → Point × List ℕ → Type 0
+LineTells whole p piece r = Tells (r .0 .progress) whole p (r .1) piece (r .0)
 
 limited-step : (o : Option Replay) (R : Replay) → limited within o ≡ step R → o ≡ some R
 unfolding limited
@@ -72,93 +61,85 @@ some-line (b ∷ t) h e = by-byte (eqb b 10) (lines t) e
     by-byte false (closed l ∷ r) e = let y : _≡_ {A = ℕ} 0 1 = cc in omega arith
     by-byte false (unclosed l ∷ r) e = let y : _≡_ {A = ℕ} 0 1 = cc in omega arith
 
-module _ (whole : Replayed) (p s text : List ℕ) (q : Point) (P : PlaysTo whole p s text q) (small : length text < 18446744073709551616) where
+module _ (whole : List Line → Replayed) (p s piece : List ℕ) (q : Point) (P : PlaysTo whole p s piece q) (S : Steady piece q) where
   abbrev R : Replay
   R = P .run
 
-  few : q .at < length text → suc (q .steps) < 18446744073709551616
-  few l = let b = P .behind in omega arith
+  few : q .at < length piece → suc (q .steps) < 18446744073709551616
+  few l = let b = S .room in omega (arith, b, l)
 
-  answers : q .at < length text → (l : TraceLine) → Answered p (limited within (machine.stepped R l)) (stepped p s (q .threads) (stored (l .thread)) (stored (l .choice)))
+  answers : q .at < length piece → (l : TraceLine) → Answered p (limited within (machine.stepped R l)) (stepped p s (q .threads) (stored (l .thread)) (stored (l .choice)))
   answers h l = line-answered p s (q .threads) R (q .steps) (P .held) (P .counts) (few h) l
 
-  held-answers : q .at < length text → (t c : ℕ) → Answered p (limited within (machine.stepped R (record { thread = t; choice = c }))) (stepped p s (q .threads) t c)
-  held-answers h t c = step-simulated p s (q .threads) R (P .held) (counts-roomy (q .steps) (R .machine .names) (few h) (P .counts)) t c
-
   -- the answer to a line that lists a move
-  by-answer : (o : Outcome Replay) (r : Stepped × List ℕ) (next : ℕ) (ls : List Line) → Answered p o r → ((R′ : Replay) → o ≡ step R′ → CountsWithin (suc (q .steps)) (R′ .machine .names)) →
-      q .at < next → next ≤ length text → lines (drop next text) ≡ ls →
-      playOn (q .steps) (q .race) o (λ R′. playFrom (q .steps + 1) (orRace (q .race) (q .steps + 1) (machine.lowestPair R′)) R′ ls) ≡ whole →
-      LineTells whole p text q (afterStep p q next r)
+  by-answer : (o : Outcome Replay) (r : Stepped × List ℕ) (next : ℕ) (rest : List Line) → Answered p o r → ((R′ : Replay) → o ≡ step R′ → CountsWithin (suc (q .steps)) (R′ .machine .names)) →
+      lines (drop next piece) ≡ rest →
+      ((ls : List Line) → playOn (q .steps) (q .race) o (λ R′. playFrom (q .steps + 1) (orRace (q .race) (q .steps + 1) (machine.lowestPair R′)) R′ (rest ++ ls)) ≡ whole ls) →
+      LineTells whole p piece (afterStep p q next r)
   unfolding afterStep byOutcome playOn stoppedBy raceAfter
-  by-answer badForm r next ls a counts further in-text left e = absurd a
-  by-answer noStep r next ls a counts further in-text left e = rw a e
-  by-answer pastLimit r next ls a counts further in-text left e = rw a e
-  by-answer (step R′) r next ls (m, H) counts further in-text left e = rw m (
-    record {
-      run = R′;
-      held = H;
-      counts = subst (λ (k : ℕ). CountsWithin k (R′ .machine .names)) (let z : suc (q .steps) ≡ q .steps + 1 = omega arith in z) (counts R′ refl);
-      in-text = in-text;
-      behind = let b = P .behind in omega arith;
-      comes-to = ap (λ (x : Option (ℕ × ℕ)). playFrom (q .steps + 1) (orRace (q .race) (q .steps + 1) x) R′ (lines (drop next text))) (lowest-pair-alike p (r .1) (r .0 .threads) R′ H)
-          ∙ ap (playFrom (q .steps + 1) (orRace (q .race) (q .steps + 1) (machine.lowestPair R′)) R′) left ∙ e;
-    },
-    further,
-  )
+  by-answer badForm r next rest a counts left e = absurd a
+  by-answer noStep r next rest a counts left e = rw a e
+  by-answer pastLimit r next rest a counts left e = rw a e
+  by-answer (step R′) r next rest (m, H) counts left e = rw m (
+      record {
+        going = refl;
+        run = R′;
+        held = H;
+        counts = subst (λ (k : ℕ). CountsWithin k (R′ .machine .names)) (let z : suc (q .steps) ≡ q .steps + 1 = omega arith in z) (counts R′ refl);
+        comes-to = λ ls.
+            ap (λ (x : Option (ℕ × ℕ)). playFrom (q .steps + 1) (orRace (q .race) (q .steps + 1) x) R′ (lines (drop next piece) ++ ls)) (lowest-pair-alike p (r .1) (r .0 .threads) R′ H)
+            ∙ ap (λ (x : List Line). playFrom (q .steps + 1) (orRace (q .race) (q .steps + 1) (machine.lowestPair R′)) R′ (x ++ ls)) left ∙ e ls;
+      }
+      )
 
   -- the first of the lines that are left
-  by-line : q .at < length text → (l : Line) (ls : List Line) → lines (drop (q .at) text) ≡ l ∷ ls → LineTold (drop (q .at) text) l ls (length text) →
-      LineTells whole p text q (lineDone p s q (moveIn (length text) (lineAt (drop (q .at) text))))
+  by-line : q .at < length piece → (l : Line) (rest : List Line) → lines (drop (q .at) piece) ≡ l ∷ rest → LineTold (drop (q .at) piece) l rest (length piece) →
+      LineTells whole p piece (lineDone p s q (moveIn (length piece) (lineAt (drop (q .at) piece))))
   unfolding playFrom playOn lineOutcome lineDone stoppedBy
-  by-line h l ls e (open-line malformed none-there) =
-      let w = ap (playFrom (q .steps) (q .race) R) (sym e) ∙ P .comes-to in
+  by-line h l rest e (open-line malformed none-there) =
+      let w : (ls : List Line) → playFrom (q .steps) (q .race) R (l ∷ (rest ++ ls)) ≡ whole ls = λ ls. ap (λ (x : List Line). playFrom (q .steps) (q .race) R (x ++ ls)) (sym e) ∙ P .comes-to ls in
       rw malformed (rw none-there at w)
-  by-line h l ls e (shut-line fs r line-there told left) = by-form (traceLine l) refl
+  by-line h l rest e (shut-line fs r line-there told left) = by-form (traceLine l) refl
     where
-      next : ℕ
-      next = length text - length r
+      behind : RestAt piece (q .at) (length piece - length r) r
+      behind = rest-at piece (q .at) fs r (S .in-piece) line-there
 
-      rest : RestAt text (q .at) (length text - length r) r
-      rest = rest-at text (q .at) fs r (P .in-text) line-there
+      w : (ls : List Line) → playFrom (q .steps) (q .race) R (l ∷ (rest ++ ls)) ≡ whole ls
+      w = λ ls. ap (λ (x : List Line). playFrom (q .steps) (q .race) R (x ++ ls)) (sym e) ∙ P .comes-to ls
 
-      w : playFrom (q .steps) (q .race) R (l ∷ ls) ≡ whole
-      w = ap (playFrom (q .steps) (q .race) R) (sym e) ∙ P .comes-to
-
-      by-form : (o : Option TraceLine) → traceLine l ≡ o → LineTells whole p text q (lineDone p s q (moveIn (length text) (lineAt (drop (q .at) text))))
+      by-form : (o : Option TraceLine) → traceLine l ≡ o → LineTells whole p piece (lineDone p s q (moveIn (length piece) (lineAt (drop (q .at) piece))))
       by-form none z = rw (told, z) (rw z at w)
       by-form (some m) z =
           rw (told, z)
-          (by-answer (limited within (machine.stepped R m)) (stepped p s (q .threads) (stored (m .thread)) (stored (m .choice))) (length text - length r) ls (answers h m)
+          (by-answer (limited within (machine.stepped R m)) (stepped p s (q .threads) (stored (m .thread)) (stored (m .choice))) (length piece - length r) rest (answers h m)
           (λ R′ y. stepped-counts (q .steps) R R′ m (P .counts) (limited-step (machine.stepped R m) R′ y))
-          (rest .further) (rest .in-text) (ap lines (rest .left) ∙ left)
+          (ap lines (behind .left) ∙ left)
           (rw z at w))
 
-  pub line-tells : q .at < length text → LineTells whole p text q (lineDone p s q (moveIn (length text) (lineAt (drop (q .at) text))))
-  line-tells h = by-lines (drop (q .at) text) (lines (drop (q .at) text)) refl refl
+  line-tells : q .at < length piece → LineTells whole p piece (lineDone p s q (moveIn (length piece) (lineAt (drop (q .at) piece))))
+  line-tells h = by-lines (lines (drop (q .at) piece)) refl
     where
-      by-lines : (t : List ℕ) (ls : List Line) → drop (q .at) text ≡ t → lines (drop (q .at) text) ≡ ls → LineTells whole p text q (lineDone p s q (moveIn (length text) (lineAt (drop (q .at) text))))
-      by-lines t [] d e = absurd (some-line (drop (q .at) text) (let l = length-drop (q .at) text in omega (arith, l, h)) e)
-      by-lines t (l ∷ ls) d e = by-line h l ls e (line-told (drop (q .at) text) l ls (length text) e)
+      by-lines : (ls : List Line) → lines (drop (q .at) piece) ≡ ls → LineTells whole p piece (lineDone p s q (moveIn (length piece) (lineAt (drop (q .at) piece))))
+      by-lines [] e = absurd (some-line (drop (q .at) piece) (let l = length-drop (q .at) piece in omega (arith, l, h)) e)
+      by-lines (l ∷ ls) e = by-line h l ls e (line-told (drop (q .at) piece) l ls (length piece) e)
 
-  -- the end of the text
-  pub text-done : length text ≤ q .at → ended Done (q .steps) (q .race) ≡ whole
-  unfolding playFrom lines
-  text-done h = rw (drop-of-length-le text {i = q .at} h) at (P .comes-to)
+  -- the end of the piece
+  pub piece-done : length piece ≤ q .at → ComesTo (q .progress) whole p s q
+  unfolding lines
+  piece-done h = subst (λ (x : Progress). ComesTo x whole p s q) (sym (P .going))
+      (record { run = P .run; held = P .held; counts = P .counts; comes-to = rw (drop-of-length-le piece {i = q .at} h) at (P .comes-to) })
 
   -- ---- what a caller of a line knows
 
-  pub may-go : q .at < length text → (q .at ≤ length text) × (q .steps < 18446744073709551615) × CountsKept p s (q .threads)
-  may-go h = (P .in-text, let f = few h in omega arith, λ t c. answered-count p (limited within (machine.stepped R (record { thread = t; choice = c }))) (stepped p s (q .threads) t c) (held-answers h t c))
-
   abbrev After : Point → List ℕ → Type 0
-  After q′ s′ = lineDone p s q (moveIn (length text) (lineAt (drop (q .at) text))) ≡ (q′, s′)
+  After q′ s′ = lineDone p s q (moveIn (length piece) (lineAt (drop (q .at) piece))) ≡ (q′, s′)
 
-  told-after : (q′ : Point) (s′ : List ℕ) → q .at < length text → After q′ s′ → Tells (q′ .progress) whole p s′ text q q′
-  told-after q′ s′ h e = subst (LineTells whole p text q) e (line-tells h)
+  told-after : (q′ : Point) (s′ : List ℕ) → q .at < length piece → After q′ s′ → Tells (q′ .progress) whole p s′ piece q′
+  told-after q′ s′ h e = subst (LineTells whole p piece) e (line-tells h)
 
-  pub line-stops : {q′ : Point} {s′ : List ℕ} {ending : Ending} → q .at < length text → After q′ s′ → q′ .progress ≡ Stops ending → ended ending (q′ .steps) (q′ .race) ≡ whole
-  line-stops {q′} {s′} {ending} h e z = subst (λ (x : Progress). Tells x whole p s′ text q q′) z (told-after q′ s′ h e)
+  pub line-stops : {q′ : Point} {s′ : List ℕ} {ending : Ending} → q .at < length piece → After q′ s′ → q′ .progress ≡ Stops ending → ComesTo (q′ .progress) whole p s′ q′
+  line-stops {q′} {s′} {ending} h e z =
+      subst (λ (x : Progress). ComesTo x whole p s′ q′) (sym z) (subst (λ (x : Progress). Tells x whole p s′ piece q′) z (told-after q′ s′ h e))
 
-  pub line-goes : {q′ : Point} {s′ : List ℕ} → q .at < length text → After q′ s′ → q′ .progress ≡ Goes → PlaysTo whole p s′ text q′ × (q .at < q′ .at)
-  line-goes {q′} {s′} h e z = subst (λ (x : Progress). Tells x whole p s′ text q q′) z (told-after q′ s′ h e)
+  pub line-goes : {q′ : Point} {s′ : List ℕ} → q .at < length piece → After q′ s′ → q′ .progress ≡ Goes → PlaysTo whole p s′ piece q′
+  line-goes {q′} {s′} h e z = subst (λ (x : Progress). Tells x whole p s′ piece q′) z (told-after q′ s′ h e)

@@ -1,9 +1,9 @@
 -- The lines of a trace in turn, on numbers.
-use Prim.Native.Nat.{ℕ, _+_, _≤_}
+use Prim.Native.Nat.{ℕ, _+_, _-_, _<_, _≤_}
 use mathlib.Core.Path.{_≡_}
-use mathlib.Core.List.{List}
+use mathlib.Core.List.{List, _++_}
 use lib.ListN.{length, drop}
-use Rattle.spec.specs.Text.{lines}
+use Rattle.spec.specs.Text.{Line, lines}
 use Rattle.threads.specs.declared.Threads.{Threads}
 use Rattle.trace.specs.declared.TraceLine.{TraceLine}
 use Rattle.trace.specs.declared.TraceLine.the-variants.{Move, Malformed}
@@ -16,22 +16,16 @@ use Rattle.replay_theory.specs.declared.Ending.{Ending}
 use Rattle.replay_theory.specs.declared.Ending.the-variants.{TraceForm, NoStep, PastLimit}
 use Rattle.replay_theory.specs.declared.FirstRace.{FirstRace}
 use Rattle.replay_theory.specs.declared.Replayed.{Replayed}
-use Rattle.machine.specs.Replay.{Replay, orRace, playFrom}
+use Rattle.machine.specs.Replay.{Replay, orRace, ended, playFrom}
 use Rattle.simulation.proofs.Holds.{Holds}
 use Rattle.simulation.proofs.Racing.{pairTold}
 use Rattle.simulation.proofs.Posting.{CountsWithin}
 use Rattle.play.specs.declared.Point.{Point}
+use Rattle.play.specs.declared.Progress.{Progress}
 use Rattle.play.specs.declared.Progress.the-variants.{Stops, Goes}
 
 unfoldable pub raceAfter : (p s : List ℕ) (count : ℕ) → FirstRace → (state : ℕ) → FirstRace
 raceAfter p s n race k = orRace race k (pairTold (lowestPair p s n))
-
--- a step that is done leaves no more threads than there is room for
-abbrev pub CountKept : Stepped × List ℕ → Type 0
-CountKept r = r .0 .outcome ≡ Moved → r .0 .threads .count ≤ 16
-
-abbrev pub CountsKept : (p s : List ℕ) → Threads → Type 0
-CountsKept p s T = (t c : ℕ) → CountKept (stepped p s T t c)
 
 unfoldable pub stoppedBy : Point → Ending → Point
 stoppedBy q e = record { progress = Stops e; threads = q .threads; at = q .at; steps = q .steps; race = q .race }
@@ -54,15 +48,27 @@ lineDone p s q Malformed = (stoppedBy q (TraceForm (q .steps + 1)), s)
 
 -- ------------------------------------------------------------------ what the numbers stand for
 
--- the numbers hold a run of the machine from which the rest of the text comes to `whole`
-pub record PlaysTo (whole : Replayed) (p s text : List ℕ) (q : Point) : Type 0 where
+-- the point stands in the piece, and its counts have room for every byte that is left
+pub record Steady (piece : List ℕ) (q : Point) : Type 0 where
+  pub in-piece : q .at ≤ length piece
+  pub room : q .steps + (length piece - q .at) < 18446744073709551616
+  pub few : q .threads .count ≤ 16
+
+-- the numbers hold a run of the machine; what is left of the piece, and whatever lines come behind it, come to what `whole` says of those lines
+pub record PlaysTo (whole : List Line → Replayed) (p s piece : List ℕ) (q : Point) : Type 0 where
+  pub going : q .progress ≡ Goes
   pub run : Replay
   pub held : Holds p s (q .threads) run
   pub counts : CountsWithin (q .steps) (run .machine .names)
-  pub in-text : q .at ≤ length text
-  pub behind : q .steps ≤ q .at
-  pub comes-to : playFrom (q .steps) (q .race) run (lines (drop (q .at) text)) ≡ whole
+  pub comes-to : (ls : List Line) → playFrom (q .steps) (q .race) run (lines (drop (q .at) piece) ++ ls) ≡ whole ls
 
-pub record Plays (p s text : List ℕ) (q : Point) : Type 0 where
-  pub whole : Replayed
-  pub plays : PlaysTo whole p s text q
+-- the same of a point with no piece at hand: the run has stopped, whatever lines come, or they go on with it
+pub record GoesTo (whole : List Line → Replayed) (p s : List ℕ) (q : Point) : Type 0 where
+  pub run : Replay
+  pub held : Holds p s (q .threads) run
+  pub counts : CountsWithin (q .steps) (run .machine .names)
+  pub comes-to : (ls : List Line) → playFrom (q .steps) (q .race) run ls ≡ whole ls
+
+abbrev pub ComesTo : Progress → (whole : List Line → Replayed) (p s : List ℕ) → Point → Type 0
+ComesTo (Stops e) whole p s q = (ls : List Line) → ended e (q .steps) (q .race) ≡ whole ls
+ComesTo Goes whole p s q = GoesTo whole p s q

@@ -1,21 +1,20 @@
-// The lines of a trace in turn: the run between two of them, and the first race so far.
+// The lines of a piece of a trace in turn: the run between two of them, and the first race so far.
 use engine::Outcome;
 use engine::Pair;
 use replay_theory::Ending;
 use replay_theory::FirstRace;
-use replay_theory::Replayed;
-use replay_theory::Report;
 use threads::Threads;
 use trace::TraceLine;
 ghost use mathlib.Core.Path.{_≡_};
+ghost use mathlib.Core.List.{List};
 ghost use Prim.Native.Nat.{_<_, _≤_};
 ghost use lib.ListN.{length, drop};
+ghost use Rattle.spec.specs.Text.{Line};
 ghost use Rattle.lexer.specs.Views.{lineAt};
 ghost use Rattle.trace.specs.Lines.{moveIn};
 ghost use Rattle.engine.specs.Steps.{stepped};
 ghost use Rattle.replay_theory.specs.declared.Replayed.{Replayed as Whole};
-ghost use Rattle.machine.specs.Replay.{ended};
-ghost use Rattle.play.specs.Play.{raceAfter, CountKept, CountsKept, stoppedBy, afterStep, lineDone, Plays, PlaysTo};
+ghost use Rattle.play.specs.Play.{raceAfter, stoppedBy, afterStep, lineDone, Steady, PlaysTo, ComesTo};
 
 // Whether a run goes on, or what has stopped it.
 pub enum Progress {
@@ -23,7 +22,8 @@ pub enum Progress {
     Stops(Ending),
 }
 
-// A run between two lines of its trace: its threads, the byte of the next line, the steps done, the first race so far.
+// A run between two lines of its trace: its threads, the byte of the next line in the piece at hand, the steps done and the first race
+// so far, both counted from the start of the trace.
 pub struct Point {
     pub progress: Progress,
     pub threads: Threads,
@@ -87,7 +87,7 @@ fn move_on(
     choice: u32,
     next: usize,
 ) -> Point
-    requires { ⌜ (p .steps < 18446744073709551615) × CountKept (stepped (now program) (now space) (p .threads) thread choice) ⌝ }
+    requires { ⌜ (p .steps < 18446744073709551615) × (p .threads .count ≤ 16) ⌝ }
     ensures { λ r. ⌜ afterStep (now (program .entry)) p next (stepped (now (program .entry)) (now (space .entry)) (p .threads) thread choice) ≡ (r, now (space .exit)) ⌝ }
 {
     let line = p.steps + 1;
@@ -113,41 +113,32 @@ fn move_on(
 }
 
 // The next line.
-fn next_line(program: &[u32], space: &mut [u32], trace: &[u8], p: Point) -> Point
-    requires { ⌜ (p .at ≤ length (now trace)) × (p .steps < 18446744073709551615) × CountsKept (now program) (now space) (p .threads) ⌝ }
-    ensures { λ r. ⌜ lineDone (now (program .entry)) (now (space .entry)) p (moveIn (length (now (trace .entry))) (lineAt (drop (p .at) (now (trace .entry))))) ≡ (r, now (space .exit)) ⌝ }
+fn next_line(program: &[u32], space: &mut [u32], piece: &[u8], p: Point) -> Point
+    requires { ⌜ (p .at ≤ length (now piece)) × (p .steps < 18446744073709551615) × (p .threads .count ≤ 16) ⌝ }
+    ensures { λ r. ⌜ lineDone (now (program .entry)) (now (space .entry)) p (moveIn (length (now (piece .entry))) (lineAt (drop (p .at) (now (piece .entry))))) ≡ (r, now (space .exit)) ⌝ }
 {
     let line = p.steps + 1;
-    match trace::line_at(trace, p.at) {
+    match trace::line_at(piece, p.at) {
         TraceLine::Move(thread, choice, next) => move_on(program, space, p, thread, choice, next),
         TraceLine::Malformed => stopped(p, Ending::TraceForm(line)),
     }
 }
 
-fn ended(ending: Ending, p: Point) -> Replayed
-    ensures { λ r. ⌜ r ≡ ended ending (p .steps) (p .race) ⌝ }
-{
-    let steps = p.steps;
-    let race = p.race;
-    let report = Report { steps, race };
-    Replayed { ending, report }
-}
-
-// The lines of the trace from there on, until one stops the run.
-pub fn play(program: &[u32], space: &mut [u32], trace: &[u8], start: Point) -> Replayed
-    requires { ⌜ Plays (now program) (now space) (now trace) start ⌝ }
-    ensures { λ r. ⌜ ((whole : Whole) → PlaysTo whole (now (program .entry)) (now (space .entry)) (now (trace .entry)) start → r ≡ whole) ⌝ }
+// The lines of the piece from there on, until one stops the run.
+pub fn play(program: &[u32], space: &mut [u32], piece: &[u8], start: Point) -> Point
+    requires { ⌜ Steady (now piece) start ⌝ }
+    ensures { λ r. ⌜ ((whole : List Line → Whole) → PlaysTo whole (now (program .entry)) (now (space .entry)) (now (piece .entry)) start → ComesTo (r .progress) whole (now (program .entry)) (now (space .exit)) r) ⌝ }
 {
     let mut p = start;
-    while p.at < trace.len() {
-        p = next_line(program, space, trace, p);
+    while p.at < piece.len() {
+        p = next_line(program, space, piece, p);
         let progress = p.progress;
         match progress {
-            Progress::Stops(ending) => {
-                return ended(ending, p);
+            Progress::Stops(_) => {
+                return p;
             }
             Progress::Goes => {}
         }
     }
-    ended(Ending::Done, p)
+    p
 }

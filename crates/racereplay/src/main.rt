@@ -1,71 +1,104 @@
 // Reads `program.txt` and `trace.txt` in the current folder and writes one line: `RAN,` or `RACE,` and what the replay reports, `REFUSE,`
 // and four numbers with what it reports, or `UNREAD`. The replay is in the library `replay`, the wording in `replay_line`; here is only
 // what meets the outside.
+mod buffered;
+
+use buffered::take_in;
 use files::Contents;
+use files::fill;
+use files::open_trace;
 use files::read_program;
-use files::read_trace;
 use files::write_all;
 use libc::STDERR_FILENO;
 use libc::STDOUT_FILENO;
-use replay::replay;
+use play::Point;
+use replay::begin;
+use replay::more;
+use replay::told;
 use replay_line::Outcome;
 use replay_line::write_line;
 ghost use mathlib.Core.Path.{_≡_};
+ghost use mathlib.Core.Bool.{true};
+ghost use mathlib.Core.List.{List, _++_};
+ghost use Prim.Native.Nat.{ℕ, _+_, _<_};
 ghost use lib.ListN.{length};
-ghost use Rattle.files.specs.Files.{Within, textIn};
-ghost use Rattle.replay_theory.specs.Replay.{replaySpace, replay as replayed};
+ghost use Rattle.replay_theory.specs.Replay.{replay as replayed};
 ghost use Rattle.replay_line.specs.Line.{outputLine};
 ghost use Rattle.replay_line.specs.declared.Outcome.the-variants.{Ran};
-ghost use Rattle.racereplay.specs.Told.{outcomeOf};
+ghost use Rattle.replay.specs.Pieces.{endsLine, RunOf};
 
-// The most bytes of a trace that are held.
-const TRACE_LIMIT: usize = 4_000_000;
-
-// Replays two texts in a space that is lent as an array, whose length is known: a proof that counts so many numbers runs out of room.
-fn replay_in(program: &[u8], trace: &[u8], space: &mut [u32; 542_960]) -> Outcome
-    ensures { λ o. ⌜ o ≡ Ran (replayed replaySpace (now (program .entry)) (now (trace .entry))) ⌝ }
+// What a run comes to behind the last bytes of its trace.
+fn rest(job: &[u32], space: &mut [u32], run: Point, bytes: &[u8]) -> Outcome
+    ensures { λ o. ⌜ ((program trace : List ℕ) → RunOf program trace (now (job .entry)) (now (space .entry)) run → endsLine trace ≡ true → run .steps + length (now (bytes .entry)) < 18446744073709551616 → o ≡ Ran (replayed (length (now (space .entry))) program (trace ++ now (bytes .entry)))) ⌝ }
 {
-    let replayed = replay(program, trace, space);
+    let replayed = told(more(job, space, run, bytes));
     Outcome::Ran(replayed)
 }
 
-// Replays two texts in a space of its own.
-fn replay_texts(program: &[u8], trace: &[u8]) -> Outcome
-    ensures { λ o. ⌜ o ≡ Ran (replayed replaySpace (now (program .entry)) (now (trace .entry))) ⌝ }
-{
-    let mut space = [0u32; 542_960];
-    replay_in(program, trace, &mut space)
-}
-
-// What is told of the two files as they were read, each into its buffer. A trace has no limit of its own: one that is too long to be
-// held is not replayed in part.
-fn outcome_of(program: &[u8], p: Contents, trace: &[u8], t: Contents) -> Outcome
-    requires { ⌜ Within p (length (now program)) × Within t (length (now trace)) ⌝ }
-    ensures { λ o. ⌜ o ≡ outcomeOf (textIn p (now (program .entry))) (textIn t (now (trace .entry))) ⌝ }
-{
-    let Contents::Bytes(m) = p else {
-        return Outcome::Unread;
-    };
-    let Contents::Bytes(n) = t else {
-        return Outcome::Unread;
-    };
-    if TRACE_LIMIT < n {
-        write_all(
-            STDERR_FILENO,
-            b"racereplay: trace.txt has more than 4,000,000 bytes\n",
-        );
-        return Outcome::Unread;
+// Replays a trace as it is read, through a buffer. A line that fills the buffer is longer than any line of a trace, and what comes behind it is
+// not read. A loop has to end: this one takes a whole buffer a turn, and no disk has so many.
+fn replay_through(
+    fd: i32,
+    job: &[u32],
+    space: &mut [u32],
+    start: Point,
+    buffer: &mut [u8],
+) -> Outcome {
+    let mut run = start;
+    let mut held: usize = 0;
+    let mut turns: u64 = 18446744073709551615;
+    while 0 < turns {
+        let Contents::Bytes(n) = fill(fd, buffer, held) else {
+            return Outcome::Unread;
+        };
+        if n < buffer.len() {
+            return rest(job, space, run, &buffer[..n]);
+        }
+        let taken = take_in(job, space, run, buffer);
+        let after = taken.run;
+        run = after;
+        held = taken.held;
+        if buffer.len() <= held {
+            return rest(job, space, run, buffer);
+        }
+        turns -= 1;
     }
-    replay_texts(&program[..m], &trace[..n])
+    Outcome::Unread
 }
 
-// Both files are read before anything is replayed.
+// The same with a buffer of its own.
+fn replay_file(fd: i32, job: &[u32], space: &mut [u32], start: Point) -> Outcome {
+    let mut buffer = [0u8; 65536];
+    replay_through(fd, job, space, start, &mut buffer)
+}
+
+// Replays a program and the trace of a file in a space that is lent as an array, whose length is known: a proof that counts so many numbers
+// runs out of room.
+fn replay_in(program: &[u8], fd: i32, space: &mut [u32; 542_960]) -> Outcome {
+    let mut job = [0u32; 2449];
+    let start = begin(program, &mut job, space);
+    replay_file(fd, &job, space, start)
+}
+
+// The same in a space of its own.
+fn replay_here(program: &[u8], fd: i32) -> Outcome {
+    let mut space = [0u32; 542_960];
+    replay_in(program, fd, &mut space)
+}
+
+// The program is read whole, and the trace is replayed as it is read.
 fn run() -> Outcome {
     let mut program = [0u8; 16385];
-    let mut trace = [0u8; 4_000_001];
-    let p = read_program(&mut program);
-    let t = read_trace(&mut trace);
-    outcome_of(&program, p, &trace, t)
+    let Contents::Bytes(p) = read_program(&mut program) else {
+        return Outcome::Unread;
+    };
+    let fd = open_trace();
+    if fd < 0 {
+        return Outcome::Unread;
+    }
+    let outcome = replay_here(&program[..p], fd);
+    libc::close(fd);
+    outcome
 }
 
 // Writes the line of an outcome to standard output by one call, so that no other program's line comes between its parts.

@@ -39,15 +39,22 @@ pub record SpaceAfter (s s′ : List ℕ) : Type 0 where
   pub long : length s′ ≡ length s
   pub behind : drop replaySpace s′ ≡ drop replaySpace s
 
-pub short-space-after : (s : List ℕ) → SpaceAfter s s
-short-space-after s = record { kept = λ l. refl; long = refl; behind = refl }
-
 pub long-space-after : (s x : List ℕ) → replaySpace ≤ length s → length x ≡ length (take replaySpace s) → SpaceAfter s (x ++ drop replaySpace s)
 unfolding replaySpace
 long-space-after s x h k = record {
   kept = λ l. absurd (omega (arith, h, l));
   long = same-length replaySpace s x h k;
   behind = rest-kept replaySpace s x h k;
+}
+
+pub space-after : (s s′ : List ℕ) → (length s < replaySpace → s′ ≡ s) → (length s′ ≡ length s) × (drop replaySpace s′ ≡ drop replaySpace s) → SpaceAfter s s′
+space-after s s′ kept (long, behind) = record { kept = kept; long = long; behind = behind }
+
+pub both-after : (s s′ s″ : List ℕ) → SpaceAfter s s′ → SpaceAfter s′ s″ → SpaceAfter s s″
+both-after s s′ s″ A B = record {
+  kept = λ l. B .kept (let e = A .long in omega (arith, l, e)) ∙ A .kept l;
+  long = B .long ∙ A .long;
+  behind = B .behind ∙ A .behind;
 }
 
 -- ------------------------------------------------------------------ all of them

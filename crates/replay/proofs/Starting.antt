@@ -5,7 +5,6 @@ use mathlib.Core.List.{List, [], _∷_, map}
 use native.Mathlib.Omega.{arith}
 use borrow.Author.Tests.{le-leb, lt-leb}
 use lib.ListN.{length, getD, length-map}
-use Rattle.spec.specs.Text.{lines}
 use Rattle.spec.specs.Reading.{Out, stop, on, _>>=_, demand}
 use Rattle.spec.specs.Expression.{Step, Expr, size, stepsAmong, Procedure}
 use Rattle.spec.specs.Program.{Program, program, programLimit}
@@ -28,14 +27,10 @@ use Rattle.engine.specs.Steps.{startOf}
 use Rattle.program.specs.Sheet.{Answered}
 use Rattle.program.specs.declared.ProgramRead.{ProgramRead}
 use Rattle.program.specs.declared.ProgramRead.the-variants.{Read, Refused}
-use Rattle.replay_theory.specs.Replay as definition
-use Rattle.replay_theory.specs.Replay.{replaySpace, judged, refused}
+use Rattle.replay_theory.specs.Replay.{replaySpace, judged}
 use Rattle.replay_theory.specs.declared.FirstRace.{FirstRace}
 use Rattle.replay_theory.specs.declared.FirstRace.the-variants.{None}
-use Rattle.replay_theory.specs.declared.Replayed.{Replayed}
-use Rattle.replay_theory.proofs.Answer.{short-space-is-refused}
-use Rattle.machine.specs.Replay.{startReplay, orRace, playFrom, play, played, replay}
-use Rattle.machine.proofs.Replay.{machine-replays}
+use Rattle.machine.specs.Replay.{startReplay, orRace, playFrom, play}
 use Rattle.simulation.proofs.Bodies.{allSize, AllStanding, FirstsAt, VariablesAt, ProgramStands, program-stands}
 use Rattle.simulation.proofs.Ranging.{ParametersLow, well-formed-ranged, well-formed-parameters}
 use Rattle.simulation.proofs.Holds.{Holds}
@@ -43,7 +38,7 @@ use Rattle.simulation.proofs.Starting.{start-held}
 use Rattle.simulation.proofs.Racing.{lowest-pair-alike}
 use Rattle.simulation.proofs.Posting.{start-counts}
 use Rattle.play.specs.declared.Progress.the-variants.{Goes}
-use Rattle.play.specs.Play.{raceAfter, PlaysTo}
+use Rattle.play.specs.Play.{raceAfter, GoesTo}
 use Rattle.replay.specs.Start.{Copied, HeldAs, Held}
 
 -- ------------------------------------------------------------------ the first point
@@ -55,16 +50,14 @@ module _ (p s : List ℕ) (long : length s ≡ spaceSize) (P : Program) (A : Pro
   pub start-count : T .count ≤ 16
   start-count = let l = held .sized .fits in let k = held .sized .count in omega (arith, l, k)
 
-  pub start-plays : (text : List ℕ) {race : FirstRace} → race ≡ raceAfter p s′ (T .count) None 0 →
-      PlaysTo (play (startReplay P) (lines text)) p s′ text (record { progress = Goes; threads = T; at = 0; steps = 0; race = race })
+  pub start-goes : {race : FirstRace} → race ≡ raceAfter p s′ (T .count) None 0 →
+      GoesTo (play (startReplay P)) p s′ (record { progress = Goes; threads = T; at = 0; steps = 0; race = race })
   unfolding play raceAfter
-  start-plays text {race} h = record {
+  start-goes {race} h = record {
     run = startReplay P;
     held = held;
     counts = start-counts P;
-    in-text = omega arith;
-    behind = omega arith;
-    comes-to = ap (λ (x : FirstRace). playFrom 0 x (startReplay P) (lines text)) (h ∙ ap (orRace None 0) (lowest-pair-alike p s′ T (startReplay P) held));
+    comes-to = λ ls. ap (λ (x : FirstRace). playFrom 0 x (startReplay P) ls) (h ∙ ap (orRace None 0) (lowest-pair-alike p s′ T (startReplay P) held));
   }
 
 -- ------------------------------------------------------------------ the columns
@@ -176,15 +169,13 @@ module _ (text : List ℕ) (fits : length text ≤ 16384) where
   unfolding judged _>>=_ demand replaySpace programLimit
   judged-read = rw (le-leb (length text) 16384 fits) refl
 
-  pub replay-refused : (trace w : List ℕ) (answer : ProgramRead) (r : Refusal) → Answered w answer (program text) → answer ≡ Refused r → refused r ≡ replay replaySpace text trace
-  unfolding replay played
-  replay-refused trace w answer r a e = sym (ap (λ (o : Out Program). played o (lines trace)) judged-read ∙ by-sheet (program text) a)
+  pub sheet-refused : (w : List ℕ) (answer : ProgramRead) (r : Refusal) → Answered w answer (program text) → answer ≡ Refused r → judged replaySpace text ≡ stop r
+  sheet-refused w answer r a e = judged-read ∙ by-sheet (program text) a
     where
-      by-sheet : (o : Out Program) → Answered w answer o → played o (lines trace) ≡ refused r
-      by-sheet (stop x) a = ap refused (let z : Refused x ≡ Refused r = sym a ∙ e in let y : x ≡ r = cc in y)
+      by-sheet : (o : Out Program) → Answered w answer o → o ≡ stop r
+      by-sheet (stop x) a = ap stop (let z : Refused x ≡ Refused r = sym a ∙ e in let y : x ≡ r = cc in y)
       by-sheet (on P) a = absurd (let z : Read (length (P .steps)) (length (P .procedures)) ≡ Refused r = sym (a .0) ∙ e in let y : _≡_ {A = ℕ} 0 1 = cc in omega arith)
 
-  -- a program that the front of the space holds
   pub record Sheet (w : List ℕ) (n m : ℕ) : Type 0 where
     pub P : Program
     pub read : program text ≡ on P
@@ -230,21 +221,20 @@ module _ (text : List ℕ) (fits : length text ≤ 16384) where
     pub sheet-holds : (s : List ℕ) → length s ≡ spaceSize → ((i : ℕ) → i < continuationsAt → getD s i 0 ≡ getD w i 0) → Held s n m
     sheet-holds s long same = record { listed = F .P; held = sheet-held s long same; few = F .few; procs = F .procs; long = long }
 
-    pub sheet-replayed : (trace : List ℕ) {r : Replayed} → r ≡ play (startReplay (F .P)) (lines trace) → r ≡ replay replaySpace text trace
-    unfolding replay played
-    sheet-replayed trace e = e ∙ sym (ap (λ (o : Out Program). played o (lines trace)) (judged-read ∙ F .read))
+    pub sheet-judged : judged replaySpace text ≡ on (F .P)
+    sheet-judged = judged-read ∙ F .read
 
-pub long-program : (text trace : List ℕ) → 16384 < length text → refused LongProgram ≡ replay replaySpace text trace
-unfolding replay played judged _>>=_ demand replaySpace programLimit
-long-program text trace h = rw (lt-leb (length text) 16384 h) refl
+pub long-program : (text : List ℕ) → 16384 < length text → judged replaySpace text ≡ stop LongProgram
+unfolding judged _>>=_ demand replaySpace programLimit
+long-program text h = rw (lt-leb (length text) 16384 h) refl
 
--- ------------------------------------------------------------------ the whole
+-- ------------------------------------------------------------------ the room
 
 -- more room changes nothing
-pub room-enough : (room : ℕ) (text trace : List ℕ) → spaceSize ≤ room → replay replaySpace text trace ≡ definition.replay room text trace
-unfolding definition.replay judged _>>=_ demand replaySpace
-room-enough room text trace h = machine-replays spaceSize text trace ∙ rw (le-leb spaceSize room h) refl
+pub room-enough : (room : ℕ) (text : List ℕ) → replaySpace ≤ room → judged replaySpace text ≡ judged room text
+unfolding judged _>>=_ demand replaySpace
+room-enough room text h = rw (le-leb spaceSize room h) refl
 
-pub short-room : (room : ℕ) (text trace : List ℕ) → room < spaceSize → refused ShortWorkspace ≡ definition.replay room text trace
-unfolding replaySpace
-short-room room text trace h = sym (short-space-is-refused room text trace h)
+pub short-room : (room : ℕ) (text : List ℕ) → room < spaceSize → judged room text ≡ stop ShortWorkspace
+unfolding judged _>>=_ demand replaySpace
+short-room room text h = rw (lt-leb spaceSize room h) refl

@@ -7,6 +7,12 @@ use Rattle.spec.specs.Program.{Program, program}
 use Rattle.program.specs.Sheet.{Answered}
 use Rattle.program.specs.declared.ProgramRead.{ProgramRead}
 use Rattle.control.specs.Layout.{continuationsAt, programSize, spaceSize}
+use Rattle.spec.specs.declared.Refusal.{Refusal}
+use Rattle.threads.specs.Threads.{started}
+use Rattle.replay_theory.specs.declared.Ending.the-variants.{Refused}
+use Rattle.replay_theory.specs.declared.FirstRace.the-variants.{None}
+use Rattle.play.specs.declared.Progress.the-variants.{Stops}
+use Rattle.play.specs.declared.Point.{Point}
 use Rattle.simulation.proofs.Bodies.{allSize, AllStanding, AllRanged, FirstsAt, VariablesAt, ProgramStands}
 
 -- a program sheet has been read in the front of a space: what its reader leaves there, and what it answers
@@ -42,3 +48,7 @@ pub record Held (s : List ℕ) (steps procedures : ℕ) : Type 0 where
   pub few : steps ≤ 256
   pub procs : procedures ≤ 16
   pub long : length s ≡ spaceSize
+
+-- a run that the refusal of its sheet has stopped
+unfoldable pub refusedPoint : Refusal → Point
+refusedPoint r = record { progress = Stops (Refused r); threads = started 1; at = 0; steps = 0; race = None }

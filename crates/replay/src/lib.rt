@@ -1,47 +1,18 @@
-// The offered call of request (xii): a program, a trace and a lent space in, an answer and a report out.
+// The offered calls of request (xii): a program, a trace and a lent space in, an answer and a report out; and the same of a trace that comes
+// in pieces.
+mod pieces;
 mod start;
 
-use control::layout::SPACE;
-use program::ProgramRead;
-use replay_theory::Ending;
-use replay_theory::FirstRace;
+use control::layout::PROGRAM;
+pub use pieces::more;
+pub use pieces::told;
 use replay_theory::Replayed;
-use replay_theory::Report;
-use spec::Refusal;
-use start::read_program;
-use start::run_held;
+pub use start::begin;
 ghost use mathlib.Core.Path.{_≡_};
 ghost use Prim.Native.Nat.{_<_};
 ghost use lib.ListN.{length, drop};
-ghost use Rattle.replay_theory.specs.Replay.{refused as refusedBy, replaySpace, replay as replayed, returnedFor};
+ghost use Rattle.replay_theory.specs.Replay.{replaySpace, replay as replayed, returnedFor};
 ghost use Rattle.replay_theory.specs.Claim.{TraceFollowed, RaceFound, NoneIfAccepted};
-ghost use Rattle.machine.specs.Replay.{replay as machineReplay};
-
-fn refused(r: Refusal) -> Replayed
-    ensures { λ a. ⌜ a ≡ refusedBy r ⌝ }
-{
-    let race = FirstRace::None;
-    let report = Report { steps: 0, race };
-    let ending = Ending::Refused(r);
-    Replayed { ending, report }
-}
-
-// The most bytes that a program sheet may have.
-const PROGRAM_LIMIT: usize = 16384;
-
-// The replay of a pair of texts, in a space that is long enough.
-fn replay_texts(program: &[u8], trace: &[u8], space: &mut [u32]) -> Replayed
-    requires { ⌜ length (now space) ≡ replaySpace ⌝ }
-    ensures { λ r. ⌜ r ≡ machineReplay replaySpace (now (program .entry)) (now (trace .entry)) ⌝ }
-{
-    if PROGRAM_LIMIT < program.len() {
-        return refused(Refusal::LongProgram);
-    }
-    match read_program(program, space) {
-        ProgramRead::Refused(r) => refused(r),
-        ProgramRead::Read(steps, procedures) => run_held(space, trace, steps, procedures),
-    }
-}
 
 // The replay of a program and a trace. What request (xii) asks of it, clause by clause:
 // answer: its four numbers are those of the request, for every input, with a refused sheet those of document 01;
@@ -65,8 +36,7 @@ pub fn replay(program: &[u8], trace: &[u8], space: &mut [u32]) -> Replayed
     ensures first_race { λ r. ⌜ RaceFound (length (now (space .entry))) (now (program .entry)) (now (trace .entry)) (r .report .race) ⌝ }
     ensures safe { λ r. ⌜ NoneIfAccepted (now (program .entry)) (r .report .race) ⌝ }
 {
-    if space.len() < SPACE {
-        return refused(Refusal::ShortWorkspace);
-    }
-    replay_texts(program, trace, &mut space[..SPACE])
+    let mut job = [0u32; PROGRAM];
+    let start = begin(program, &mut job, space);
+    told(more(&job, space, start, trace))
 }

@@ -18,10 +18,11 @@ use Rattle.replay_theory.specs.declared.Status.the-variants.{Running}
 use Rattle.threads.specs.declared.Record.{Record}
 use Rattle.threads.specs.Records.{noRecord}
 use Rattle.threads.specs.Threads.{started}
-use Rattle.control.specs.Layout.{finish, thingCountsAt, nextValueAt, thingKindsAt, spaceSize}
+use Rattle.control.specs.Layout.{finish, environmentsAt, thingCountsAt, nextValueAt, thingKindsAt, spaceSize}
 use Rattle.control.specs.Control.{rootOf, variable, entering}
 use Rattle.reduction.specs.Slots.{slotAt}
-use Rattle.engine.specs.Steps.{startSpace, startOf}
+use Rattle.engine.specs.Steps.{zeroed, startSpace, startOf}
+use Rattle.engine.proofs.Clearing.{zeroed-length, zeroed-before, zeroed-in}
 use Rattle.replay_theory.specs.Run.{openIn}
 use Rattle.machine.specs.Control.{done, enter, openCalls}
 use Rattle.machine.proofs.Marks.{calls-counted, enter-tells}
@@ -33,15 +34,6 @@ use Rattle.simulation.proofs.Finding.{enters-word}
 use Rattle.simulation.proofs.Holds.{SlotIs, kindCode, kind-low, NamesHeld, ThreadHeld, Holds}
 use Rattle.simulation.proofs.Proceeding.{Paused, proceeds}
 
-getD-zeros : (n i : ℕ) → _≡_ {A = ℕ} (getD (replicate n 0) i 0) 0
-getD-zeros zero i = refl
-getD-zeros (suc n) zero = refl
-getD-zeros (suc n) (suc i) = getD-zeros n i
-
-length-zeros : (n : ℕ) → length {A = ℕ} (replicate n 0) ≡ n
-length-zeros zero = refl
-length-zeros (suc n) = ap suc (length-zeros n)
-
 record-behind : (n i : ℕ) (r : Record) → r .state ≡ Running → getD (replicate n r) i noRecord .state ≡ Running
 unfolding noRecord
 record-behind zero i r h = refl
@@ -49,36 +41,48 @@ record-behind (suc n) zero r h = h
 record-behind (suc n) (suc i) r h = record-behind n i r h
 
 module _ (p s : List ℕ) (long : length s ≡ spaceSize) where
-  abbrev zeros : List ℕ
-  zeros = replicate (length s) 0
+  abbrev s₀ : List ℕ
+  s₀ = zeroed (zeroed s environmentsAt 256) thingCountsAt 400
 
   abbrev s₁ : List ℕ
-  s₁ = set (set zeros (thingKindsAt + 1) 1) nextValueAt 2
+  s₁ = set (set s₀ (thingKindsAt + 1) 1) nextValueAt 2
 
-  long₀ : length zeros ≡ spaceSize
-  long₀ = length-zeros (length s) ∙ long
+  long₋ : length (zeroed s environmentsAt 256) ≡ spaceSize
+  long₋ = zeroed-length s environmentsAt 256 ∙ long
+
+  long₀ : length s₀ ≡ spaceSize
+  long₀ = zeroed-length (zeroed s environmentsAt 256) thingCountsAt 400 ∙ long₋
 
   long₁ : length s₁ ≡ spaceSize
-  long₁ = length-set (set zeros (thingKindsAt + 1) 1) nextValueAt 2 ∙ length-set zeros (thingKindsAt + 1) 1 ∙ long₀
+  long₁ = length-set (set s₀ (thingKindsAt + 1) 1) nextValueAt 2 ∙ length-set s₀ (thingKindsAt + 1) 1 ∙ long₀
 
-  elsewhere : (j : ℕ) → j ≢ thingKindsAt + 1 → j ≢ nextValueAt → getD s₁ j 0 ≡ 0
-  elsewhere j a b = getD-set-other (set zeros (thingKindsAt + 1) 1) nextValueAt j 2 0 b ∙ getD-set-other zeros (thingKindsAt + 1) j 1 0 a ∙ getD-zeros (length s) j
+  -- the places that are cleared
+  variable-clear : (x : ℕ) → x < 256 → getD s₀ x 0 ≡ 0
+  variable-clear x h =
+      zeroed-before (zeroed s environmentsAt 256) thingCountsAt 400 x (omega (arith, h))
+      ∙ zeroed-in s environmentsAt 256 x (omega (arith, long)) (omega arith) (omega (arith, h))
+
+  thing-clear : (j : ℕ) → thingCountsAt ≤ j → j < thingCountsAt + 400 → getD s₀ j 0 ≡ 0
+  thing-clear j l h = zeroed-in (zeroed s environmentsAt 256) thingCountsAt 400 j (omega (arith, long₋)) l h
+
+  elsewhere : (j : ℕ) → j ≢ thingKindsAt + 1 → j ≢ nextValueAt → getD s₁ j 0 ≡ getD s₀ j 0
+  elsewhere j a b = getD-set-other (set s₀ (thingKindsAt + 1) 1) nextValueAt j 2 0 b ∙ getD-set-other s₀ (thingKindsAt + 1) j 1 0 a
 
   kind-elsewhere : (v : ℕ) → v ≢ 1 → v < 322 → slotAt s₁ v .kind ≡ 0
   unfolding slotAt
-  kind-elsewhere v n l = rw (lt-ltb v 322 l) (elsewhere (thingKindsAt + v) (λ e. n (omega (arith, e))) (λ e. omega (arith, e)))
+  kind-elsewhere v n l = rw (lt-ltb v 322 l) (elsewhere (thingKindsAt + v) (λ e. n (omega (arith, e))) (λ e. omega (arith, e)) ∙ thing-clear (thingKindsAt + v) (omega arith) (omega (arith, l)))
 
   kind-here : slotAt s₁ 1 .kind ≡ 1
   unfolding slotAt
-  kind-here = getD-set-other (set zeros (thingKindsAt + 1) 1) nextValueAt (thingKindsAt + 1) 2 0 (λ e. omega (arith, e)) ∙ getD-set-same zeros (thingKindsAt + 1) 1 0 (omega (arith, long₀))
+  kind-here = getD-set-other (set s₀ (thingKindsAt + 1) 1) nextValueAt (thingKindsAt + 1) 2 0 (λ e. omega (arith, e)) ∙ getD-set-same s₀ (thingKindsAt + 1) 1 0 (omega (arith, long₀))
 
   names-start : NamesHeld s₁ (update (λ n. unused) 0 identifier) 1 (λ k. 0)
   names-start = record {
     constant = kind-elsewhere 0 (λ e. omega (arith, e)) (omega arith);
     slots = λ n l. by-name n l (ℕ-discrete n 0);
     unused-from = λ n l. update-other (λ m. unused) 0 n identifier (λ e. omega (arith, e, l));
-    nextStored = getD-set-same (set zeros (thingKindsAt + 1) 1) nextValueAt 2 0 (let l = length-set zeros (thingKindsAt + 1) 1 in omega (arith, l, long₀));
-    counted = λ k. let l = kind-low k in elsewhere (thingCountsAt + kindCode k) (λ e. omega (arith, e, l)) (λ e. omega (arith, e, l));
+    nextStored = getD-set-same (set s₀ (thingKindsAt + 1) 1) nextValueAt 2 0 (let l = length-set s₀ (thingKindsAt + 1) 1 in omega (arith, l, long₀));
+    counted = λ k. let l = kind-low k in elsewhere (thingCountsAt + kindCode k) (λ e. omega (arith, e, l)) (λ e. omega (arith, e, l)) ∙ thing-clear (thingCountsAt + kindCode k) (omega arith) (omega (arith, l));
     few = λ k. omega arith;
     all = refl;
   }
@@ -114,4 +118,4 @@ module _ (p s : List ℕ) (long : length s ≡ spaceSize) where
     start-held =
         proceeds p s₁ (started 1) (ph ∷ []) 0 0 paused (P .procedures) (A .bodies) (update (λ n. unused) 0 identifier) 1 (λ k. 0) names-start (entering 0 (rootOf p)) (enter (λ x. int 0) (P .root) []) none-open
         (enters-word p 0 (omega arith) (λ x. int 0) 0 s₁ (P .root) finish (rootOf p) [] s₁ (A .root-stands)
-        (record { same = same-all 0 s₁; long = long₁; inside = (omega arith, omega arith); values = λ x h. elsewhere (0 + 256 * 0 + x) (λ z. omega (arith, z, h)) (λ z. omega (arith, z, h)); frames = (refl, refl) }))
+        (record { same = same-all 0 s₁; long = long₁; inside = (omega arith, omega arith); values = λ x h. elsewhere (0 + 256 * 0 + x) (λ z. omega (arith, z, h)) (λ z. omega (arith, z, h)) ∙ variable-clear (0 + 256 * 0 + x) (omega (arith, h)); frames = (refl, refl) }))

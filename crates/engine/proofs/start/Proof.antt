@@ -7,7 +7,8 @@ returns : tie.Need-returns
 unfolding startOf startSpace
 returns c =
     rw (
-      ← (c .before .before .before .before .before .before .before .before .before .before .before .before .before .before .before .before .clear .ensures),
+      ← (c .before .before .before .before .before .before .before .before .before .before .before .before .before .before .before .before .before .before .before .before .clear-part .ensures),
+      ← (c .before .before .before .before .before .before .before .before .before .before .before .before .before .before .before .before .clear-part2 .ensures),
       ← (c .before .before .before .before .before .before .before .before .before .before .before .before .put .ensures),
       ← (c .before .before .before .before .before .before .before .before .put2 .ensures),
       ← (c .before .before .before .before .before .root .ensures),
@@ -19,6 +20,7 @@ pub start-spec : {M : Type 1} → statement M
 start-spec =
     tie.close
     (tie.spec
+    (λ c κs. search needs)
     (λ c κs. search needs)
     (λ c. search needs)
     (λ c κs. search needs)

@@ -1,6 +1,7 @@
 -- By the answer of the step.
 use native.Mathlib.Omega.{arith}
-use Rattle.play.proofs.Moves.{count-low, after-moved, after-stuck, after-past}
+use Rattle.engine.proofs.Counting.{stepped-few}
+use Rattle.play.proofs.Moves.{few-left, after-moved, after-stuck, after-past}
 use borrow.Author.Needs.{needs}
 use Rattle.play.proofs.move_on.Statement.{statement}
 use Rattle.play.proofs.move_on.Tie as tie
@@ -8,13 +9,13 @@ use Rattle.play.proofs.move_on.Tie as tie
 cast-count : tie.Need-cast-count
 cast-count c =
     let at-step = c .before .before .before .before .before .before in
-    let low = count-low _ _ _ (at-step .step .ensures) (at-step .before .before .before .before .before .pre .1) (c .before .enum-told .given .1) in
+    let low = few-left (at-step .step .ensures) (stepped-few _ _ _ _ _ (at-step .before .before .before .before .before .pre .1)) in
     omega (arith, low)
 
 race-after-requires : tie.Need-race-after-requires
 race-after-requires c κs =
     let at-step = c .before .before .before .before .before .before .before in
-    count-low _ _ _ (at-step .step .ensures) (at-step .before .before .before .before .before .pre .1) (c .before .before .enum-told .given .1)
+    few-left (at-step .step .ensures) (stepped-few _ _ _ _ _ (at-step .before .before .before .before .before .pre .1))
 
 returns : tie.Need-returns
 returns c =

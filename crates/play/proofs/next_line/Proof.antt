@@ -8,7 +8,7 @@ use Rattle.play.proofs.next_line.Tie as tie
 move-on-requires : tie.Need-move-on-requires
 move-on-requires c κs =
     let start = c .before .before .before .before .before .before .before .before .before in
-    (start .pre .1, start .pre .2 _ _)
+    (start .pre .1, start .pre .2)
 
 returns : tie.Need-returns
 returns c =

@@ -1,43 +1,44 @@
--- The loop's invariant: to whatever end the whole trace comes, the lines from here on come to it.
+-- The loop's invariant: the point stays steady; and to whatever end the trace comes, the lines from here on come to it.
+use mathlib.Core.List.{List}
 use mathlib.Core.Path.{_≡_, refl, _∙_}
 use Prim.Native.Nat.{_-_}
 use native.Mathlib.Omega.{arith}
 use lib.ListN.{length}
+use Rattle.spec.specs.Text.{Line}
 use Rattle.replay_theory.specs.declared.Replayed.{Replayed}
-use Rattle.play.specs.Play.{PlaysTo}
-use Rattle.play.proofs.Playing.{line-stops, line-goes, may-go, text-done}
+use Rattle.play.specs.Play.{Steady, PlaysTo}
+use Rattle.play.proofs.Playing.{line-stops, line-goes, piece-done}
+use Rattle.play.proofs.Steadying.{line-steady, may-go}
 use borrow.Author.Needs.{needs}
 use Rattle.play.proofs.play.Statement.{statement}
 use Rattle.play.proofs.play.Tie as tie
 
 abbrev Inv-loop : tie.InvT-loop
-Inv-loop program space₀ trace p₀ space p =
-    (length space ≡ length space₀) × ((whole : Replayed) → PlaysTo whole program space₀ trace p₀ → PlaysTo whole program space trace p)
+Inv-loop program space₀ piece p₀ space p =
+    (length space ≡ length space₀) × Steady piece p × ((whole : List Line → Replayed) → PlaysTo whole program space₀ piece p₀ → PlaysTo whole program space piece p)
 
 abbrev μ-loop : tie.MeasureT-loop
-μ-loop program space₀ trace p₀ space p = length trace - p .at
+μ-loop program space₀ piece p₀ space p = length piece - p .at
 
 loop-holds : tie.Need-loop-holds Inv-loop μ-loop
-loop-holds c = (refl, λ whole P. P)
+loop-holds c = (refl, c .before .before .before .pre, λ whole P. P)
 
 next-line-requires : tie.Need-next-line-requires Inv-loop μ-loop
 next-line-requires c κs =
     let here = c .before .before .before in
-    let start = here .before .before .before .before in
-    may-go _ _ _ _ _ (here .loop .inv .1 (start .pre .whole) (start .pre .plays)) (here .before .before .before .before .good .1 .1 .0 .0) (c .before .if1 .taken)
+    may-go _ _ (here .loop .inv .1) (c .before .if1 .taken)
 
 returns : tie.Need-returns Inv-loop μ-loop
 returns c = λ whole P.
-    let at-line = c .before .before .before .before .before .before in
+    let at-line = c .before .before .before .before in
     let here = at-line .before .before .before .before in
-    c .ended .ensures ∙ line-stops _ _ _ _ _ (here .loop .inv .1 whole P) (here .before .before .before .before .good .1 .1 .0 .0) (at-line .before .before .if1 .taken) (at-line .next-line .ensures) (c .before .before .progress .given .1)
+    line-stops _ _ _ _ _ (here .loop .inv .2 whole P) (here .loop .inv .1) (at-line .before .before .if1 .taken) (at-line .next-line .ensures) (c .enum-told .given .1)
 
 loop-less : tie.Need-loop-less Inv-loop μ-loop
 loop-less c =
     let at-line = c .before .before .before .before in
     let here = at-line .before .before .before .before in
-    let start = here .before .before .before .before in
-    let told = line-goes _ _ _ _ _ (here .loop .inv .1 (start .pre .whole) (start .pre .plays)) (here .before .before .before .before .good .1 .1 .0 .0) (at-line .before .before .if1 .taken) (at-line .next-line .ensures) (c .enum-told .given .1) .1 in
+    let told = line-steady _ _ _ _ (here .loop .inv .1) (at-line .next-line .ensures) (c .enum-told2 .given .1) .1 in
     omega (arith, told, at-line .before .before .if1 .taken)
 
 loop-again : tie.Need-loop-again Inv-loop μ-loop
@@ -45,14 +46,15 @@ loop-again c =
     let at-line = c .before .before .before .before in
     let here = at-line .before .before .before .before in (
       at-line .next-line .kept .1 .0 ∙ here .loop .inv .0,
+      line-steady _ _ _ _ (here .loop .inv .1) (at-line .next-line .ensures) (c .enum-told2 .given .1) .0,
       λ whole P.
-          line-goes _ _ _ _ _ (here .loop .inv .1 whole P) (here .before .before .before .before .good .1 .1 .0 .0) (at-line .before .before .if1 .taken) (at-line .next-line .ensures) (c .enum-told .given .1) .0,
+          line-goes _ _ _ _ _ (here .loop .inv .2 whole P) (here .loop .inv .1) (at-line .before .before .if1 .taken) (at-line .next-line .ensures) (c .enum-told2 .given .1),
     )
 
 returns-2 : tie.Need-returns-2 Inv-loop μ-loop
 returns-2 c = λ whole P.
-    let here = c .before .before .before in
-    c .ended2 .ensures ∙ text-done _ _ _ _ _ (here .loop .inv .1 whole P) (here .before .before .before .before .good .1 .1 .0 .0) (c .before .if1 .left)
+    let here = c .before .before in
+    piece-done _ _ _ _ _ (here .loop .inv .2 whole P) (here .loop .inv .1) (c .if1 .left)
 
 pub play-spec : {M : Type 1} → statement M
 play-spec =
@@ -63,12 +65,10 @@ play-spec =
     loop-holds
     next-line-requires
     (λ c. search needs)
-    (λ c κs. search needs)
     (λ c. search needs)
     returns
     (λ c. search needs)
     loop-less
     loop-again
-    (λ c κs. search needs)
     (λ c. search needs)
     returns-2)
