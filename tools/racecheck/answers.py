@@ -58,6 +58,8 @@ class Replay(NamedTuple):
 
     number: int  # of the refusal of a line; 0 if every line was done
     line: int
+    condition: int
+    location: int
     steps: int  # done
     race: Optional[Race]  # the first among them
 
@@ -69,4 +71,4 @@ class Replay(NamedTuple):
         race = "" if self.race is None else f"{self.race.state},{self.race.first},{self.race.second}"
         if self.ran:
             return f"RACE,{self.steps},{race}" if race else f"RAN,{self.steps}"
-        return f"REFUSE,{self.number},{self.line},0,0,{self.steps}" + (f",RACE,{race}" if race else "")
+        return f"REFUSE,{self.number},{self.line},{self.condition},{self.location},{self.steps}" + (f",RACE,{race}" if race else "")

@@ -27,7 +27,7 @@ ENTRIES = {
     "racecheck_check": [*_TEXT, *_TEXT, *_NUMBERS, _NUMBER, _NUMBER, _NUMBER],
     "racecheck_drill": [c_uint32, *_TEXT, *_TEXT, _NUMBER, _NUMBER, _NUMBER],
     "racecheck_fill": [*_TEXT, *_TEXT, *_NUMBERS, *_TEXT, _NUMBER, _NUMBER, _NUMBER],
-    "racecheck_replay": [*_TEXT, *_TEXT, *_NUMBERS, _LONG, _LONG, _LONG, _NUMBER, _NUMBER],
+    "racecheck_replay": [*_TEXT, *_TEXT, *_NUMBERS, _LONG, _NUMBER, _NUMBER, _LONG, _LONG, _NUMBER, _NUMBER],
 }
 
 
@@ -76,12 +76,13 @@ class Library:
     def replay(self, program: bytes, trace: bytes) -> Replay:
         """What becomes of a job in a recorded order, of any length."""
         self._space = self._space or (c_uint32 * REPLAY_SPACE)()
-        line, steps, state, first, second = c_uint64(), c_uint64(), c_uint64(), c_uint32(), c_uint32()
+        line, steps, state = c_uint64(), c_uint64(), c_uint64()
+        condition, location, first, second = c_uint32(), c_uint32(), c_uint32(), c_uint32()
+        stored = map(byref, (line, condition, location, steps, state, first, second))
         number = self._entries["racecheck_replay"](
-            program, len(program), trace, len(trace), self._space, REPLAY_SPACE, byref(line), byref(steps), byref(state),
-            byref(first), byref(second))
+            program, len(program), trace, len(trace), self._space, REPLAY_SPACE, *stored)
         race = None if state.value == NO_STATE else Race(state.value, first.value, second.value)
-        return Replay(number, line.value, steps.value, race)
+        return Replay(number, line.value, condition.value, location.value, steps.value, race)
 
 
 def _entry(handle: ctypes.CDLL, name: str, arguments: list) -> Any:
