@@ -13,14 +13,14 @@ use Rattle.spec.specs.declared.Purpose.the-variants.{Check}
 use Rattle.spec.specs.declared.Refusal.{Refusal}
 use Rattle.spec.proofs.Reasons.{sheets-refused, rules-decide}
 use Rattle.workspace.specs.Layout.{workSize}
-use Rattle.workspace.specs.declared.Header.{Header}
+use Rattle.spec.specs.declared.Header.{Header}
 use Rattle.reading.specs.Answers.{SheetsAnswered}
 use Rattle.reading.specs.declared.Reading.{Reading}
 use Rattle.reading.specs.declared.Reading.the-variants as reading
 use Rattle.reading.proofs.Found.{refused-by, held-by}
 use Rattle.conditions.specs.Outcome.{outcome}
-use Rattle.conditions.specs.declared.Ruling.{Ruling}
-use Rattle.conditions.specs.declared.Ruling.the-variants.{Met, Refused}
+use Rattle.spec.specs.declared.Ruling.{Ruling}
+use Rattle.spec.specs.declared.Ruling.the-variants.{Met, Refused}
 use Rattle.checker.specs.Stages.{RulesAnswered}
 
 -- ------------------------------------------------------------------ the rules

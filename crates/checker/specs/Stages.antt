@@ -9,7 +9,7 @@ use Rattle.spec.specs.Split.{Split}
 use Rattle.spec.specs.Verdict.{locksTakeEnough, startAtMostOne, ruled, answer}
 use Rattle.spec.specs.declared.Answer.{Answer}
 use Rattle.workspace.specs.Layout.{workSize}
-use Rattle.workspace.specs.declared.Header.{Header}
+use Rattle.spec.specs.declared.Header.{Header}
 use Rattle.workspace.specs.Sheets.{Small}
 use Rattle.reading.specs.Answers.{HoldsBoth}
 

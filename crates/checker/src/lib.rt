@@ -1,10 +1,10 @@
 // The offered call: two texts and a lent work space in, one answer out.
-use conditions::Ruling;
 use reading::Reading;
 use spec::Answer;
+use spec::Header;
 use spec::Purpose;
 use spec::Refusal;
-use workspace::Header;
+use spec::Ruling;
 ghost use mathlib.Core.Path.{_≡_};
 ghost use mathlib.Core.Bool.{true};
 ghost use mathlib.Core.Logic.{_↔_};

@@ -1,8 +1,8 @@
 // Words with a part that hands a load over, from its type to the step or from the step back.
-use conditions::Ruling;
 use conditions::type_false;
 use rules::sum;
 use spec::MapNumber;
+use spec::Ruling;
 use spec::TypeLine;
 use views::View;
 ghost use mathlib.Core.Path.{_≡_};

@@ -1,13 +1,13 @@
 // The conditions of a step that makes a thread identifier, a thread, a lock, a semaphore or a read-write lock: the rules of
 // Figure 5, in the printed order, and behind them those of section 3.1.4 and of document 02, request (xi).
 use conditions::Relation;
-use conditions::Ruling;
 use conditions::also;
 use conditions::flow;
 use conditions::type_false;
 use rules::at_least;
 use rules::equal;
 use rules::sum;
+use spec::Ruling;
 use spec::TypeLine;
 use views::View;
 ghost use mathlib.Core.Path.{_≡_};

@@ -8,8 +8,8 @@ use Rattle.spec.specs.Conditions.{Condition, T}
 use Rattle.spec.specs.Sites.{judge, numbered, firstFalse}
 use Rattle.spec.specs.declared.Refusal.{Refusal}
 use Rattle.conditions.specs.Outcome.{outcome, both, firstFalseFrom}
-use Rattle.conditions.specs.declared.Ruling.{Ruling}
-use Rattle.conditions.specs.declared.Ruling.the-variants.{Met, Refused}
+use Rattle.spec.specs.declared.Ruling.{Ruling}
+use Rattle.spec.specs.declared.Ruling.the-variants.{Met, Refused}
 
 pub both-met : (a : Out (Unit {0})) → both a (on tt) ≡ a
 unfolding both _>>=_

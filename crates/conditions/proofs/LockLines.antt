@@ -26,8 +26,8 @@ use Rattle.conditions.specs.Relation.{everywhere}
 use Rattle.conditions.specs.Agreement.{takesEnoughIn}
 use Rattle.conditions.specs.SheetOutcomes.{lockOutcome, locksOutcome}
 use Rattle.conditions.specs.declared.Relation.the-variants.{AtLeast}
-use Rattle.conditions.specs.declared.Ruling.{Ruling}
-use Rattle.conditions.specs.declared.Ruling.the-variants.{Met, Refused}
+use Rattle.spec.specs.declared.Ruling.{Ruling}
+use Rattle.spec.specs.declared.Ruling.the-variants.{Met, Refused}
 use Rattle.conditions.proofs.FirstFalse.{refused-stops, met-goes-on}
 use Rattle.conditions.proofs.Agreement.{takes-enough-shown}
 

@@ -4,8 +4,8 @@ use Prim.Native.Nat.{ℕ}
 use Rattle.spec.specs.Reading.{Out, stop, on, _>>=_}
 use Rattle.spec.specs.Conditions.{Condition}
 use Rattle.spec.specs.Sites.{numbered, firstFalse}
-use Rattle.conditions.specs.declared.Ruling.{Ruling}
-use Rattle.conditions.specs.declared.Ruling.the-variants.{Met, Refused}
+use Rattle.spec.specs.declared.Ruling.{Ruling}
+use Rattle.spec.specs.declared.Ruling.the-variants.{Met, Refused}
 
 unfoldable pub outcome : Ruling → Out (Unit {0})
 outcome Met = on tt

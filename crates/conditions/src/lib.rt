@@ -7,6 +7,7 @@ pub use locks::check_locks;
 use spec::Location;
 use spec::MapNumber;
 use spec::Refusal;
+use spec::Ruling;
 pub use types::agrees;
 pub use types::may_show;
 use workspace::MAPS;
@@ -22,12 +23,6 @@ ghost use Rattle.workspace.specs.Layout.{mapCell};
 ghost use Rattle.conditions.specs.Outcome.{outcome, both};
 ghost use Rattle.conditions.specs.SheetOutcomes.{startOutcome};
 ghost use Rattle.conditions.specs.Relation.{HasCell, HasCells, holdsAt, held, asked, ofItself, fails, below, everywhere, hasAtLeast};
-
-// Every condition is met, or the first that is not refuses.
-pub enum Ruling {
-    Met,
-    Refused(Refusal),
-}
 
 // What is asked of maps, number by number: a = b, a ≥ b, a ≥ n × b, a + b = c, a ≤ n.
 pub enum Relation {

@@ -1,8 +1,8 @@
 // 44: a lock takes at least what it gives, used or not.
 use super::Relation;
-use super::Ruling;
 use super::everywhere;
 use spec::Refusal;
+use spec::Ruling;
 use spec::TypeLine;
 use spec::TypeNumber;
 use workspace::type_at;

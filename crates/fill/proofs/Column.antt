@@ -12,7 +12,7 @@ use Rattle.spec.specs.Split.{Split}
 use Rattle.spec.specs.declared.Location.{Location}
 use Rattle.spec.specs.declared.MapNumber.{MapNumber}
 use Rattle.workspace.specs.Sheets.{HoldsSheets}
-use Rattle.workspace.specs.declared.Header.{Header}
+use Rattle.spec.specs.declared.Header.{Header}
 use Rattle.workspace.proofs.Region.{region-part, changed-nothing}
 use Rattle.reading.specs.Answers.{HoldsBoth}
 use Rattle.fill_theory.specs.GreatestMaps.{postsAt}

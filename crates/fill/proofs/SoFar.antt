@@ -11,8 +11,7 @@ use Rattle.spec.specs.Program.{Program}
 use Rattle.spec.specs.Split.{Split}
 use Rattle.workspace.specs.Layout.{mapsAt, stride, emptyMap}
 use Rattle.workspace.specs.Region.{ChangedWithin}
-use Rattle.workspace.specs.Sheets.{headerTold}
-use Rattle.workspace.specs.declared.Header.{Header}
+use Rattle.spec.specs.declared.Header.{Header}
 use Rattle.workspace.proofs.Region.{changed-nothing, changed-then}
 use Rattle.workspace.proofs.Sheets.{sheets-kept}
 use Rattle.reading.specs.Answers.{HoldsBoth}
@@ -41,8 +40,7 @@ stored-still : {w w′ ps : List ℕ} {maps l j : ℕ} → OneColumn maps l w w�
 stored-still {maps = maps} O h n C = record { at = λ i k. O .others (maps + i) _ h n ∙ C .at i k }
 
 -- the maps that a header counts
-pub maps-told : (S : Split) (h : Header) → S .header ≡ headerTold h → h .maps ≡ S .header .maps
-unfolding headerTold
+pub maps-told : (S : Split) (h : Header) → S .header ≡ h → h .maps ≡ S .header .maps
 maps-told S h e = sym (ap (λ H. H .maps) e)
 
 module _ {w₀ w : List ℕ} {header : Header} {steps procedures : ℕ} where

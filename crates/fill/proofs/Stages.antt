@@ -19,8 +19,8 @@ use Rattle.spec.specs.declared.Refusal.{Refusal}
 use Rattle.spec.specs.declared.Refusal.the-variants.{ShortWorkspace, NoAfterMaps, TooLarge, TooManyMaps}
 use Rattle.spec.proofs.Outcomes.{bind-bind, goes-on-bind}
 use Rattle.workspace.specs.Layout.{workSize}
-use Rattle.workspace.specs.Sheets.{headerTold, HoldsSheets}
-use Rattle.workspace.specs.declared.Header.{Header}
+use Rattle.workspace.specs.Sheets.{HoldsSheets}
+use Rattle.spec.specs.declared.Header.{Header}
 use Rattle.split.proofs.Found.{types-told}
 use Rattle.reading.specs.Answers.{HoldsBoth, SheetsAnswered}
 use Rattle.reading.specs.declared.Reading.{Reading}
@@ -28,8 +28,8 @@ use Rattle.reading.specs.declared.Reading.the-variants as reading
 use Rattle.reading.proofs.Found.{refused-by, held-by}
 use Rattle.conditions.specs.Outcome.{outcome}
 use Rattle.walk.specs.Contract.{ruledFor, Ruled}
-use Rattle.conditions.specs.declared.Ruling.{Ruling}
-use Rattle.conditions.specs.declared.Ruling.the-variants as ruling
+use Rattle.spec.specs.declared.Ruling.{Ruling}
+use Rattle.spec.specs.declared.Ruling.the-variants as ruling
 use Rattle.walk.proofs.Procedures.{sheets-stay}
 use Rattle.written.specs.Sheet.{written}
 use Rattle.split_writer.specs.Contract.{HoldsSheet, HoldsSome as HoldsSheetOfSome}
@@ -64,8 +64,8 @@ module _ {w w′ : List ℕ} {header : Header} {steps procedures : ℕ} {P : Pro
       let G = found-exactly-greatest P S (B .sheets .wellFormed) (B .sheets .inRange) γ .0 found in
       G .afterMaps .counted ∙ sym (B .sheets .stepsCounted)
 
-  grown-header : filled S γ .header ≡ headerTold (grownBy steps header)
-  unfolding filled headerTold grownBy
+  grown-header : filled S γ .header ≡ (grownBy steps header)
+  unfolding filled grownBy
   grown-header = rw (B .headed, step-maps)
 
   filled-held : HoldsSheet w′ (grownBy steps header) procedures steps (filled S γ)

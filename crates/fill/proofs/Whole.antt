@@ -15,7 +15,7 @@ use Rattle.workspace.specs.Layout.{postsAt as postsColumn, mapsAt, stride, mapC
 use Rattle.workspace.specs.Region.{Region}
 use Rattle.workspace.specs.Holds.{startNumber, HoldsSplit}
 use Rattle.workspace.specs.Sheets.{HoldsSheets}
-use Rattle.workspace.specs.declared.Header.{Header}
+use Rattle.spec.specs.declared.Header.{Header}
 use Rattle.workspace.proofs.Region.{region-kept, changed-wider}
 use Rattle.workspace.proofs.Held.{program-kept}
 use Rattle.reading.specs.Answers.{HoldsBoth}

@@ -9,7 +9,7 @@ use Rattle.spec.specs.Program.{Program}
 use Rattle.spec.specs.Split.{Split}
 use Rattle.workspace.specs.Layout.{postsAt, mapsAt, stride, emptyMap, mapCell, workSize}
 use Rattle.workspace.specs.Region.{ChangedWithin}
-use Rattle.workspace.specs.declared.Header.{Header}
+use Rattle.spec.specs.declared.Header.{Header}
 use Rattle.reading.specs.Answers.{HoldsBoth}
 use Rattle.fill_theory.specs.GreatestMaps as greatest
 use Rattle.fill_theory.specs.Answer.{numberLimit, mapAtMost}

@@ -7,7 +7,7 @@ use Prim.Native.Nat.{ℕ}
 use Rattle.spec.specs.Program.{Program}
 use Rattle.spec.specs.Split.{Map, Split}
 use Rattle.workspace.specs.Sheets.{HoldsSheets}
-use Rattle.workspace.specs.declared.Header.{Header}
+use Rattle.spec.specs.declared.Header.{Header}
 use Rattle.reading.specs.Answers.{HoldsBoth}
 use Rattle.fill_theory.specs.Filled.{filled}
 use Rattle.fill_theory.specs.GreatestMaps.{greatestMaps}

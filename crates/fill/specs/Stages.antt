@@ -10,7 +10,7 @@ use Rattle.spec.specs.Split.{Split, splitLimit}
 use Rattle.spec.specs.Verdict.{locksTakeEnough, startAtMostOne, typed}
 use Rattle.spec.specs.declared.Refusal.the-variants.{TooLarge, TooManyMaps}
 use Rattle.workspace.specs.Layout.{workSize}
-use Rattle.workspace.specs.declared.Header.{Header}
+use Rattle.spec.specs.declared.Header.{Header}
 use Rattle.workspace.specs.Sheets.{Small}
 use Rattle.reading.specs.Answers.{HoldsBoth}
 use Rattle.written.specs.Sheet.{written}

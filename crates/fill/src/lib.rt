@@ -1,14 +1,14 @@
 // The offered call of filling, request (viii): a program and a split whose step lines leave their maps out in, the whole sheet out.
 mod maps;
 
-use conditions::Ruling;
 use maps::Found;
 use maps::fill_maps;
 use reading::Reading;
+use spec::Header;
 use spec::Purpose;
 use spec::Refusal;
+use spec::Ruling;
 use split_writer::write_sheet;
-use workspace::Header;
 ghost use mathlib.Core.Path.{_≡_};
 ghost use mathlib.Core.List.{List};
 ghost use mathlib.Core.Logic.{_↔_};

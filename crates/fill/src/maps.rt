@@ -1,9 +1,9 @@
 // The greatest after-maps, one location after the other, stored as maps behind the given ones.
 use pass::Given;
 use pass::fill_location;
+use spec::Header;
 use spec::Location;
 use ways::Column;
-use workspace::Header;
 use workspace::MAPS;
 use workspace::POSTS;
 use workspace::STRIDE;

@@ -45,7 +45,7 @@ module _ (S : Split) (γ : List Map) (few : S .header .maps + length γ ≤ 512)
   unfolding filled
   filled-writable {P} counted W = record {
     inRange = filled-in-range (record { inRange = W .inRange; counted = counted; wide = wide }) few;
-    rootStart = W .rootStart;
+    start = W .start;
     lockShows = W .lockShows;
     numbersSmall = maps-small (W .numbersSmall);
     rowStarts = λ i s r h.

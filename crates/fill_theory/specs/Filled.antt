@@ -19,7 +19,7 @@ filled S σ = let H = S .header in record {
     locations = H .locations;
     types = H .types;
     maps = H .maps + length σ;
-    rootStart = H .rootStart;
+    start = H .start;
   };
   types = S .types;
   maps = S .maps ++ σ;

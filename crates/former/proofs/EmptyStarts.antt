@@ -14,7 +14,8 @@ use Rattle.spec.specs.Reading.{Out, stop, on, _>>=_, Seen, right, wrong, badRan
 use Rattle.spec.specs.Words.{takesStart, keepsBack}
 use Rattle.spec.specs.Expression.{Step}
 use Rattle.spec.specs.Program.{Program, program}
-use Rattle.spec.specs.Split.{splitLimit, Header, headerLine, typeLines, mapLine, signatureLine, rowOf, startGiven, startRange, postRange, postField, rowLine, split}
+use Rattle.spec.specs.Split.{splitLimit, headerLine, typeLines, mapLine, signatureLine, rowOf, startGiven, startRange, postRange, postField, rowLine, split}
+use Rattle.spec.specs.declared.Header.{Header}
 use Rattle.spec.specs.Verdict.{sheets, ruled, checked, verdict}
 use Rattle.spec.specs.declared.Purpose.the-variants.{Check}
 use Rattle.spec.proofs.Outcomes.{bind-alike}

@@ -15,7 +15,8 @@ use Rattle.spec.specs.Text.{bytes, same, Line, closed, lines, Field, lookUp, nu
 use Rattle.spec.specs.Reading.{on, _>>=_, right, wrong, badRange, seen, _to_, below, inRange, allInRange, withNumeral, numerals, ranged, numbers}
 use Rattle.spec.specs.Expression.{Step}
 use Rattle.spec.specs.Program.{Program}
-use Rattle.spec.specs.Split.{Header, headings, headerRanges, startOf, headerOf, headed, headerLine, lockOf, outRange, typeLine, typeLines, mapLine, signatureLine, startRange, mayBeEmpty, postRange, rowLine, Split, split, splitLimit}
+use Rattle.spec.specs.Split.{headings, headerRanges, startOf, headerOf, headed, headerLine, lockOf, outRange, typeLine, typeLines, mapLine, signatureLine, startRange, mayBeEmpty, postRange, rowLine, Split, split, splitLimit}
+use Rattle.spec.specs.declared.Header.{Header}
 use Rattle.spec.specs.Verdict.{checked, answer, verdict}
 use Rattle.spec.specs.WellFormed.{Shows, nothing, line, WellFormedSplit}
 use Rattle.spec.specs.declared.Heading.the-variants.{C2, C3}

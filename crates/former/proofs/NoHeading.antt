@@ -10,7 +10,9 @@ use Rattle.spec.specs.Reading.{Out, _>>=_, demand}
 use Rattle.spec.specs.Words.{role, binding, preOfPart, preOfSecond}
 use Rattle.spec.specs.Expression.{Expr, leaf, unary, binary, Procedure}
 use Rattle.spec.specs.Program.{Program}
-use Rattle.spec.specs.Split.{Map, Header, Signature, Split}
+use Rattle.spec.specs.Split.{Map, Split}
+use Rattle.spec.specs.declared.Signature.{Signature}
+use Rattle.spec.specs.declared.Header.{Header}
 use Rattle.spec.specs.Kinds.{int, lock, is, content}
 use Rattle.spec.specs.Agreement.{Tree, plain, sameTree, treeOf, trees, tree, agree}
 use Rattle.spec.specs.Table as entry
@@ -33,7 +35,7 @@ headedAs h H = record {
   locations = H .locations;
   types = H .types;
   maps = H .maps;
-  rootStart = H .rootStart;
+  start = H .start;
 }
 
 unfoldable pub under : Heading → Split → Split

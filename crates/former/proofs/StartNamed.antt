@@ -16,7 +16,9 @@ use Rattle.spec.specs.Reading.{splitSheet, Out, stop, on, _>>=_, demand, noStar
 use Rattle.spec.specs.Expression.{Step}
 use Rattle.spec.specs.Words.{keepsBack}
 use Rattle.spec.specs.Program.{Program, programLimit, program}
-use Rattle.spec.specs.Split.{Map, Header, headings, headerRanges, mapsOf, mapsIn, startOf, headerOf, headed, headerLine, lockOf, outRange, typeLine, typeLines, mapLine, Signature, signatureLine, Row, startRange, mayBeEmpty, emptyFault, postRange, rowLine, Split, splitLimit, split}
+use Rattle.spec.specs.Split.{Map, headings, headerRanges, mapsOf, mapsIn, startOf, headerOf, headed, headerLine, lockOf, outRange, typeLine, typeLines, mapLine, signatureLine, Row, startRange, mayBeEmpty, emptyFault, postRange, rowLine, Split, splitLimit, split}
+use Rattle.spec.specs.declared.Signature.{Signature}
+use Rattle.spec.specs.declared.Header.{Header}
 use Rattle.spec.specs.Workspace.{workspaceSize}
 use Rattle.spec.specs.Verdict.{checked, answer, verdict}
 use Rattle.spec.specs.declared.Heading.the-variants.{C, C2}

@@ -7,7 +7,8 @@ use borrow.Author.Tests.{eqb-true}
 use Rattle.spec.specs.Reading.{Out, on, _>>=_}
 use Rattle.spec.specs.Expression.{Expr, Procedure}
 use Rattle.spec.specs.Program.{Program, program}
-use Rattle.spec.specs.Split.{Map, Signature, Split, split}
+use Rattle.spec.specs.Split.{Map, Split, split}
+use Rattle.spec.specs.declared.Signature.{Signature}
 use Rattle.spec.specs.Agreement.{agree}
 use Rattle.spec.specs.Kinds.{ref, is, content}
 use Rattle.spec.specs.Table as entry

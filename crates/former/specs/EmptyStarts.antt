@@ -11,7 +11,8 @@ use Rattle.spec.specs.Reading.{on, Seen, right, wrong, seen, below, numbers}
 use Rattle.spec.specs.Words.{takesStart, keepsBack}
 use Rattle.spec.specs.Expression.{Step}
 use Rattle.spec.specs.Program.{Program, program}
-use Rattle.spec.specs.Split.{splitLimit, Header, headerLine, typeLines, mapLine, signatureLine, Row, rowOf, rowLine}
+use Rattle.spec.specs.Split.{splitLimit, headerLine, typeLines, mapLine, signatureLine, Row, rowOf, rowLine}
+use Rattle.spec.specs.declared.Header.{Header}
 use Rattle.spec.specs.Verdict.{ruled, verdict}
 use Rattle.spec.specs.declared.Answer.{Answer}
 use Rattle.spec.specs.declared.Purpose.the-variants.{Check}

@@ -7,7 +7,9 @@ use Rattle.spec.specs.Text.{lines, Field}
 use Rattle.spec.specs.Reading.{programSheet, splitSheet, Out, _>>=_, on, demand, Seen, readLine, readLines, begin, end}
 use Rattle.spec.specs.Expression.{Step, Item, stepsAmong, structure, scopes}
 use Rattle.spec.specs.Program.{Counts, Program, programLimit}
-use Rattle.spec.specs.Split.{Map, Header, headerLine, typeLines, mapLine, Signature, signatureLine, Row, rowLine, Split, splitLimit}
+use Rattle.spec.specs.Split.{Map, headerLine, typeLines, mapLine, signatureLine, Row, rowLine, Split, splitLimit}
+use Rattle.spec.specs.declared.Signature.{Signature}
+use Rattle.spec.specs.declared.Header.{Header}
 use Rattle.spec.specs.Workspace.{workspaceSize}
 use Rattle.spec.specs.Verdict.{locksTakeEnough, startAtMostOne, answer}
 use Rattle.spec.specs.declared.Answer.{Answer}

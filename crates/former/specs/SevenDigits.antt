@@ -9,7 +9,8 @@ use Rattle.spec.specs.Choice.{if_then_else_}
 use Rattle.spec.specs.Text.{Field, digits}
 use Rattle.spec.specs.Reading.{Out, Seen, right, wrong, badForm, badRange}
 use Rattle.spec.specs.Program.{countLine, itemLines, Program}
-use Rattle.spec.specs.Split.{Map, Header, headerLine, typeLines, mapLine, signatureLine, rowLine}
+use Rattle.spec.specs.Split.{Map, headerLine, typeLines, mapLine, signatureLine, rowLine}
+use Rattle.spec.specs.declared.Header.{Header}
 use Rattle.spec.specs.Verdict.{ruled, verdict}
 use Rattle.spec.specs.declared.Answer.{Answer}
 use Rattle.spec.specs.declared.Answer.the-variants.{Refuse}

@@ -7,7 +7,8 @@ use lib.Dec.{eqb}
 use Rattle.spec.specs.Reading.{Out}
 use Rattle.spec.specs.Expression.{Expr, lineOf, Procedure}
 use Rattle.spec.specs.Program.{Program, program}
-use Rattle.spec.specs.Split.{Map, Signature, Split, split, mapAt}
+use Rattle.spec.specs.Split.{Map, Split, split, mapAt}
+use Rattle.spec.specs.declared.Signature.{Signature}
 use Rattle.spec.specs.Maps.{_≥ᵐ_}
 use Rattle.spec.specs.Conditions.{Condition, T, F, Env, type, post, startMap, signature, conditionsBy}
 use Rattle.spec.specs.Sites.{Site, sites, Claim, numbered, bodySites, firstFalse}

@@ -39,7 +39,6 @@ module _ (R : Replay) (i : ℕ) where
   found o = o >>= getElem? (live ts)
 
   status-of-live : (b : Control) → (if isDone b then Finished else Running) ≡ statusOf false b
-  unfolding statusOf
   status-of-live (done v) = refl
   status-of-live (at σ w K) = refl
 
@@ -56,7 +55,7 @@ module _ (R : Replay) (i : ℕ) where
       ∙ ap some (status-of-live (t .control))
 
   pub record-alike : recordOf (runOf R) i ≡ Option·map (λ t. statusOf (t .joined) (t .control)) (getElem? ts i)
-  unfolding recordFor statusOf
+  unfolding recordFor
   record-alike = by-cases (getElem? ts i) refl
     where
       by-joined : (t : MachineThread) (b : Bool) → getElem? ts i ≡ some t → t .joined ≡ b → recordOf (runOf R) i ≡ some (statusOf b (t .control))

@@ -35,7 +35,7 @@ unfoldable pub startReplay : Program → Replay
 startReplay P = record { machine = startMachine P; things = λ k. 0 }
 
 -- The record of a thread.
-unfoldable pub statusOf : (joined : Bool) → Control → Status
+abbrev pub statusOf : (joined : Bool) → Control → Status
 statusOf true b = Joined
 statusOf false (done v) = Finished
 statusOf false (at σ w K) = Running

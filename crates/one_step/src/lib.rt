@@ -1,7 +1,7 @@
 // The conditions of one step: its rule, by its word, judged over what the work space shows of the step.
 mod table;
 
-use conditions::Ruling;
+use spec::Ruling;
 use table::check_rule;
 use views::cell;
 use workspace::WORDS;

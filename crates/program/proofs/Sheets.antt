@@ -26,8 +26,8 @@ use Rattle.program.specs.Lines.{itemsAt, StepsShown}
 use Rattle.tree.specs.Outcomes.{Answers}
 use Rattle.structure.specs.Arranged.{arrangedOf, HoldsTree, Arranged}
 use Rattle.program.specs.Sheet.{Answered, behindCount, LinesRead, ProgramIs}
-use Rattle.tree.specs.declared.Outcome.{Outcome}
-use Rattle.tree.specs.declared.Outcome.the-variants as outcome
+use Rattle.spec.specs.declared.Ruling.{Ruling}
+use Rattle.spec.specs.declared.Ruling.the-variants as outcome
 use Rattle.program_lines.specs.declared.counts.CountLine.the-variants as count
 use Rattle.program.specs.declared.lines.StepLines.the-variants as step-lines
 use Rattle.program.specs.declared.ProgramRead.{ProgramRead}
@@ -71,8 +71,8 @@ arranged-lists last count items t p =
     (λ bound goes is. subst (λ (u : List Procedure × Expr). Listed count 0 items (u .0) (u .1)) (on-injective is) (structure-lists last count 0 items q)))
 
 -- the answer to the lines is that to what they list
-abbrev answerOf : (n count : ℕ) → Outcome → ProgramRead
-answerOf n count outcome.Passed = Read n count
+abbrev answerOf : (n count : ℕ) → Ruling → ProgramRead
+answerOf n count outcome.Met = Read n count
 answerOf n count (outcome.Refused x) = Refused x
 
 module _ (text : List ℕ) (h : ProgramHeading) (n count : ℕ) (c : Cursor) (w w₁ : List ℕ) where
@@ -106,7 +106,7 @@ module _ (text : List ℕ) (h : ProgramHeading) (n count : ℕ) (c : Cursor) (w 
         let o : Out (List Item × Place) = on (s .found .stored .items, placeAt text d) in
         behind-items o (s .found .shown) ∙ rw (end-at-none programSheet text d (left-none (rest text d) e)) (from-arranged (s .found .stored .items) (d .line) count)
 
-    module _ (few : n ≤ 256) (fewProcedures : count ≤ 16) (e : textEnded (rest text d) ≡ true) (w₂ : List ℕ) (o : Outcome)
+    module _ (few : n ≤ 256) (fewProcedures : count ≤ 16) (e : textEnded (rest text d) ≡ true) (w₂ : List ℕ) (o : Ruling)
         (a : Arranged i j count (d .line) w₁ w₂ o) where
       abbrev items : List Item
       items = s .found .stored .items
@@ -149,7 +149,7 @@ module _ (text : List ℕ) (h : ProgramHeading) (n count : ℕ) (c : Cursor) (w 
           subst (Answered w₂ (answerOf n count o)) (sym (lines-listed e))
           (answers (arrangedOf (d .line) count items) refl (a .found (s .found .stored)))
 
-      pub lines-read : o ≡ outcome.Passed → LinesRead text h n count c w₂ (Read n count)
+      pub lines-read : o ≡ outcome.Met → LinesRead text h n count c w₂ (Read n count)
       lines-read p = subst (λ r. LinesRead text h n count c w₂ (answerOf n count r)) p all-lines
 
       pub lines-unarranged : (x : Refusal) → o ≡ outcome.Refused x → LinesRead text h n count c w₂ (Refused x)

@@ -6,7 +6,7 @@ use lines::StepLines;
 use program_lines::CountLine;
 use spec::ProgramHeading;
 use spec::Refusal;
-use tree::Outcome;
+use spec::Ruling;
 ghost use mathlib.Core.Path.{_≡_};
 ghost use Prim.Native.Nat.{_≤_};
 ghost use lib.ListN.{length};
@@ -39,8 +39,8 @@ fn read_lines(
                 return ProgramRead::Refused(Refusal::ProgramLines(spare));
             }
             match structure::arrange(work, steps, procs, count, behind.line) {
-                Outcome::Passed => ProgramRead::Read(n, count),
-                Outcome::Refused(refusal) => ProgramRead::Refused(refusal),
+                Ruling::Met => ProgramRead::Read(n, count),
+                Ruling::Refused(refusal) => ProgramRead::Refused(refusal),
             }
         }
     }

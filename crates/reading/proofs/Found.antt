@@ -19,9 +19,8 @@ use Rattle.spec.proofs.Ranges.{well-formed-in-range}
 use Rattle.workspace.specs.Layout.{rowTypesAt, workSize}
 use Rattle.workspace.specs.Region.{ChangedWithin}
 use Rattle.workspace.specs.Holds.{HoldsProgram, HoldsSplit}
-use Rattle.workspace.specs.Sheets.{headerTold}
 use Rattle.workspace.proofs.Held.{program-kept}
-use Rattle.workspace.specs.declared.Header.{Header}
+use Rattle.spec.specs.declared.Header.{Header}
 use Rattle.workspace.specs.Sheets.{Small}
 use Rattle.split.proofs.Found.{denominator-told, locations-told, start-told}
 use Rattle.reading.specs.Answers.{SheetsHeld, SheetsAnswered}
@@ -43,7 +42,7 @@ module _ (purpose : Purpose) (p s : List ℕ) {P : Program} (F : WellFormedProgr
     pub both-held : {w w′ : List ℕ} {n k : ℕ} (header : Header) {S : Split} → split purpose P s ≡ on S
         → ChangedWithin rowTypesAt workSize w w′ → HoldsProgram w P → HoldsSplit w′ S → n ≡ length (P .steps) → n ≤ 256
         → k ≡ length (P .procedures) → k ≤ 16
-        → S .header ≡ headerTold header → Small header → SheetsHeld purpose p s w′ n k header
+        → S .header ≡ header → Small header → SheetsHeld purpose p s w′ n k header
     unfolding programLimit splitLimit
     both-held header {S} e changed holds holds′ counted few procs fewProcs headed small = record {
       P = P;

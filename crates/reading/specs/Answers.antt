@@ -11,8 +11,8 @@ use Rattle.spec.specs.Verdict.{sheets}
 use Rattle.spec.specs.declared.Purpose.{Purpose}
 use Rattle.workspace.specs.Layout.{workSize}
 use Rattle.workspace.specs.Holds.{HoldsProgram}
-use Rattle.workspace.specs.Sheets.{headerTold, HoldsSheets}
-use Rattle.workspace.specs.declared.Header.{Header}
+use Rattle.workspace.specs.Sheets.{HoldsSheets}
+use Rattle.spec.specs.declared.Header.{Header}
 use Rattle.workspace.specs.Sheets.{Small}
 use Rattle.reading.specs.declared.Reading.{Reading}
 use Rattle.reading.specs.declared.Reading.the-variants.{Held, Refused}
@@ -20,7 +20,7 @@ use Rattle.reading.specs.declared.Reading.the-variants.{Held, Refused}
 -- the work space holds both sheets, and the split has this header
 pub record HoldsBoth (w : List ℕ) (header : Header) (steps procedures : ℕ) (P : Program) (S : Split) : Type 0 where
   pub sheets : HoldsSheets w steps procedures (header .denominator) (header .locations) (header .start .0) P S
-  pub headed : S .header ≡ headerTold header
+  pub headed : S .header ≡ header
 
 -- both sheets are read, and the work space w holds them
 pub record SheetsHeld (purpose : Purpose) (programText splitText w : List ℕ) (steps procedures : ℕ) (header : Header) : Type 0 where

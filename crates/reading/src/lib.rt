@@ -1,9 +1,9 @@
 // Both sheets, read in turn into the work space: what a check and a filling begin with.
 use program::ProgramRead;
+use spec::Header;
 use spec::Purpose;
 use spec::Refusal;
 use split::Sheet;
-use workspace::Header;
 ghost use mathlib.Core.Path.{_≡_};
 ghost use lib.ListN.{length};
 ghost use Rattle.workspace.specs.Layout.{workSize};

@@ -9,7 +9,8 @@ use lib.ListN.{length}
 use borrow.Author.Tests.{le-leb, lt-ltb}
 use Rattle.spec.specs.Expression.{Expr, leaf, unary, binary, Position, Procedure}
 use Rattle.spec.specs.Program.{Program}
-use Rattle.spec.specs.Split.{Map, Signature, Split}
+use Rattle.spec.specs.Split.{Map, Split}
+use Rattle.spec.specs.declared.Signature.{Signature}
 use Rattle.spec.specs.Maps.{share}
 use Rattle.spec.specs.Kinds.{refLocation, firstMap, secondMap}
 use Rattle.spec.specs.Conditions.{Env, mapAt, mayShow, contains, type, kind, post, bodyStart, keptBack, signature, conditionsBy, conditionsOf, procedureConditions}
@@ -29,7 +30,6 @@ use Rattle.workspace.specs.Layout.{mapCell, printed, ruleOf, wordBy, leafCode, 
 use Rattle.workspace.specs.Holds.{HoldsSplit}
 use Rattle.workspace.proofs.Shown.{Stands, type-shown, first-stands, second-stands, has-shown}
 use Rattle.conditions.specs.Agreement.{agreeIn, mayShowIn}
-use Rattle.views.specs.declared.Signature.{Signature as SignatureRead}
 use Rattle.views.specs.declared.View.{View}
 use Rattle.views.proofs.Views.{Part, Signed, Bound}
 use Rattle.rules.specs.Table.{ruleRow, procedureRow}
@@ -179,7 +179,7 @@ module _ (w : List ℕ) (S : Split) (P : Program) (H : HoldsSplit w S) (R : InRa
 
 -- the conditions at a `proc` line
 pub procedure-shown : (w : List ℕ) (S : Split) (P : Program) → HoldsSplit w S → InRange P S → (n : ℕ) → n ≡ S .header .locations
-    → (r : SignatureRead) (g : Signature) → Signed w S r g → (p : Procedure) (t : TypeNumber) (m : MapNumber) → Part w S t m (p .body)
+    → (r : Signature) (g : Signature) → Signed w S r g → (p : Procedure) (t : TypeNumber) (m : MapNumber) → Part w S t m (p .body)
     → procedureRow w n r t m ≡ procedureConditions S g p
 unfolding procedureConditions type
 procedure-shown w S P H R n located r g s p t m o =

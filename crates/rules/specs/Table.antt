@@ -19,7 +19,7 @@ use Rattle.conditions.specs.Relation.{fails, hasAtLeast}
 use Rattle.conditions.specs.Agreement.{agreeIn, mayShowIn}
 use Rattle.conditions.specs.declared.Relation.{Relation}
 use Rattle.conditions.specs.declared.Relation.the-variants.{Equal, AtLeast, Covers, Sum}
-use Rattle.views.specs.declared.Signature.{Signature}
+use Rattle.spec.specs.declared.Signature.{Signature}
 use Rattle.views.specs.declared.View.{View}
 
 -- a relation at every location of the sheet

@@ -1,9 +1,9 @@
 // What the rules of Figure 5 ask, a row of conditions each over a view of the step, as definitions; and as code what the rows
 // share: a relation between maps at every location of the sheet.
 use conditions::Relation;
-use conditions::Ruling;
 use conditions::flow;
 use spec::MapNumber;
+use spec::Ruling;
 use views::View;
 ghost use mathlib.Core.Path.{_≡_};
 ghost use Rattle.spec.specs.Sites.{judge};

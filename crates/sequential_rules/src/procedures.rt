@@ -1,12 +1,12 @@
 // The conditions at a `proc` line, document 02, request (xiv).
 use conditions::Relation;
-use conditions::Ruling;
 use conditions::agrees;
 use conditions::flow;
 use conditions::type_false;
 use spec::MapNumber;
+use spec::Ruling;
+use spec::Signature;
 use spec::TypeNumber;
-use views::Signature;
 ghost use mathlib.Core.Path.{_≡_};
 ghost use Rattle.conditions.specs.Outcome.{outcome, firstFalseFrom};
 ghost use Rattle.rules.specs.Table.{procedureRow};

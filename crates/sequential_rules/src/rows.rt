@@ -1,6 +1,5 @@
 // The conditions of a step that its thread does alone: the rules of Figure 5, in the printed order, and behind them that of
 // calls, document 02, request (xiv).
-use conditions::Ruling;
 use conditions::agrees;
 use conditions::also;
 use conditions::has;
@@ -9,6 +8,7 @@ use conditions::type_false;
 use rules::at_least;
 use rules::equal;
 use rules::sum;
+use spec::Ruling;
 use spec::TypeLine;
 use views::View;
 ghost use mathlib.Core.Path.{_≡_};

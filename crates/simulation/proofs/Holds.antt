@@ -8,8 +8,6 @@ use native.Mathlib.Omega.{arith}
 use lib.ListN.{length, getD, getElem?}
 use Rattle.calculus.specs.State as calculus
 use Rattle.calculus.specs.State.{opened, closed, readers, writer, unused, identifier, cell, aLock, semaphore, rwlock}
-use Rattle.threads.specs.declared.State.{State}
-use Rattle.threads.specs.declared.State.the-variants.{Running, Finished, Joined}
 use Rattle.threads.specs.declared.Record.{Record}
 use Rattle.threads.specs.declared.Threads.{Threads}
 use Rattle.threads.specs.Records.{noRecord}
@@ -22,7 +20,8 @@ use Rattle.machine.specs.Control.{Control, done, at, openCalls}
 use Rattle.machine.specs.State.{MachineThread}
 use Rattle.machine.specs.Step.{isDone}
 use Rattle.machine.specs.Kept.{UnusedFrom}
-use Rattle.machine.specs.Replay.{Replay}
+use Rattle.replay_theory.specs.declared.Status.the-variants.{Running}
+use Rattle.machine.specs.Replay.{Replay, statusOf}
 use Rattle.simulation.proofs.Held.{codeValue, BodiesStand, ControlAt}
 
 -- ------------------------------------------------------------------ names
@@ -68,14 +67,8 @@ pub record NamesHeld (s : List ℕ) (names : ℕ → calculus.Slot) (next : ℕ)
 
 -- ------------------------------------------------------------------ threads
 
--- the record of a thread
-abbrev pub stateOf : (joined : Bool) → Control → State
-stateOf true d = Joined
-stateOf false (done v) = Finished
-stateOf false (at σ w K) = Running
-
 abbrev pub recordOf : MachineThread → Record
-recordOf th = record { state = stateOf (th .joined) (th .control); tid = suc (th .tid) }
+recordOf th = record { state = statusOf (th .joined) (th .control); tid = suc (th .tid) }
 
 pub record ThreadHeld (p s : List ℕ) (T : Threads) (i : ℕ) (th : MachineThread) : Type 0 where
   pub recorded : getD (T .records) i noRecord ≡ recordOf th

@@ -12,8 +12,8 @@ use lib.Dec.{eqb}
 use lib.ListN.{length, getD, set, getElem?, length-set}
 use lib.Seq.{getD-set-same, getD-set-other}
 use Rattle.spec.specs.Choice.{if_then_else_}
-use Rattle.threads.specs.declared.State.{State}
-use Rattle.threads.specs.declared.State.the-variants.{Running, Joined}
+use Rattle.replay_theory.specs.declared.Status.{Status}
+use Rattle.replay_theory.specs.declared.Status.the-variants.{Running, Joined}
 use Rattle.threads.specs.declared.Record.{Record}
 use Rattle.threads.specs.declared.Found.{Found}
 use Rattle.threads.specs.declared.Found.the-variants.{At, Nothing}
@@ -34,12 +34,12 @@ use Rattle.machine.specs.Environment.{Env}
 use Rattle.machine.specs.Control.{Frame, unaryWord, Control, done, at, return}
 use Rattle.machine.specs.State.{MachineThread, Machine, running}
 use Rattle.machine.specs.Step.{isDone, joinable, firstOr, lowest, zeroValue, asJoined, markJoined, gives}
-use Rattle.machine.specs.Replay.{Replay, within}
+use Rattle.machine.specs.Replay.{Replay, statusOf, within}
 use Rattle.machine.proofs.Joining.{JoinableAt, lowest-found, joiner-is-another}
 use Rattle.simulation.proofs.Held.{Values, Frames}
 use Rattle.simulation.proofs.Turning.{same-all, RowIn}
 use Rattle.simulation.proofs.Finding.{returns-word}
-use Rattle.simulation.proofs.Holds.{recordOf, stateOf, ThreadHeld, Sized, Holds}
+use Rattle.simulation.proofs.Holds.{recordOf, ThreadHeld, Sized, Holds}
 use Rattle.simulation.proofs.Proceeding.{place-below, set-here, Paused}
 use Rattle.simulation.proofs.Moving.{Answered, moves}
 
@@ -65,7 +65,7 @@ record-joinable : (n : ℕ) (th : MachineThread) → matching (recordOf th) (suc
 unfolding matching ifFinished
 record-joinable n th = go (th .joined) (th .control)
   where
-    go : (j : Bool) (d : Control) → ifFinished (stateOf j d) (eqb (suc (th .tid)) (suc n)) ≡ (not j && (eqb (th .tid) n && isDone d))
+    go : (j : Bool) (d : Control) → ifFinished (statusOf j d) (eqb (suc (th .tid)) (suc n)) ≡ (not j && (eqb (th .tid) n && isDone d))
     go true d = refl
     go false (done v) = eqb-suc (th .tid) n ∙ and-true (eqb (th .tid) n)
     go false (at σ w K) = and-false (eqb (th .tid) n)
@@ -88,7 +88,7 @@ unfolding lowestFrom lowest matching ifFinished
 lowest-alike n [] [] i A = refl
 lowest-alike n [] (th ∷ ts) i A = let l = A .fits in absurd (omega arith)
 lowest-alike n (r ∷ rs) [] i A =
-    ap (λ (st : State). if ifFinished st (eqb (r .tid) (suc n)) then At i else lowestFrom (suc i) rs (suc n)) (A .behind 0 (omega arith) (omega arith))
+    ap (λ (st : Status). if ifFinished st (eqb (r .tid) (suc n)) then At i else lowestFrom (suc i) rs (suc n)) (A .behind 0 (omega arith) (omega arith))
     ∙ lowest-alike n rs [] (suc i) (record { same = λ m th h. none-is-not-some h; behind = λ m l h. A .behind (suc m) (omega arith) (omega (arith, h)); fits = omega arith })
 lowest-alike n (r ∷ rs) (th ∷ ts) i A =
     ap (λ (b : Bool). if b then At i else lowestFrom (suc i) rs (suc n)) (ap (λ (x : Record). matching x (suc n)) (A .same 0 th refl) ∙ record-joinable n th)

@@ -12,7 +12,7 @@ use lib.Dec.{leb}
 use lib.ListN.{length, getD, set, getElem?}
 use Rattle.calculus.specs.State as state
 use Rattle.calculus.proofs.Laws.Maps.{none-is-not-some, some-injective}
-use Rattle.threads.specs.declared.State.the-variants.{Running}
+use Rattle.replay_theory.specs.declared.Status.the-variants.{Running}
 use Rattle.threads.specs.declared.Threads.{Threads}
 use Rattle.engine.specs.declared.Outcome.the-variants.{Moved, Stuck, Past}
 use Rattle.engine.specs.declared.Stepped.{Stepped}

@@ -15,7 +15,7 @@ use Rattle.spec.specs.Choice.{if_then_else_}
 use Rattle.calculus.specs.State as calculus
 use Rattle.calculus.proofs.Laws.Maps.{some-injective, none-is-not-some}
 use Rattle.calculus.proofs.Laws.Places.{set-elsewhere}
-use Rattle.threads.specs.declared.State.the-variants.{Running, Finished}
+use Rattle.replay_theory.specs.declared.Status.the-variants.{Running, Finished}
 use Rattle.threads.specs.declared.Record.{Record}
 use Rattle.threads.specs.declared.Threads.{Threads}
 use Rattle.threads.specs.Records.{noRecord}

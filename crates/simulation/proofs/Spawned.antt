@@ -17,7 +17,7 @@ use Rattle.spec.specs.declared.BinaryWord.the-variants.{Spawn}
 use Rattle.calculus.specs.Expression.{int, name}
 use Rattle.calculus.proofs.Laws.Maps.{none-is-not-some}
 use Rattle.calculus.proofs.Laws.Places.{set-elsewhere}
-use Rattle.threads.specs.declared.State.the-variants.{Running}
+use Rattle.replay_theory.specs.declared.Status.the-variants.{Running}
 use Rattle.threads.specs.declared.Record.{Record}
 use Rattle.threads.specs.declared.Threads.{Threads}
 use Rattle.threads.specs.Records.{noRecord}

@@ -14,7 +14,7 @@ use Rattle.calculus.specs.Expression.{int, choose}
 use Rattle.calculus.specs.State as state
 use Rattle.calculus.specs.State.{unused, identifier, update}
 use Rattle.calculus.proofs.Laws.Maps.{none-is-not-some, update-other}
-use Rattle.threads.specs.declared.State.the-variants.{Running}
+use Rattle.replay_theory.specs.declared.Status.the-variants.{Running}
 use Rattle.threads.specs.declared.Record.{Record}
 use Rattle.threads.specs.Records.{noRecord}
 use Rattle.threads.specs.Threads.{started}

@@ -44,9 +44,9 @@ use Rattle.machine.specs.Control as machine
 use Rattle.machine.specs.Control.{Frame, letWord, ifWord, whileWord, spawnWord, writeWord, unaryWord, makeWord, unrolledWord, againWord, Control, done, at, redex, marks, openCalls}
 use Rattle.machine.specs.State.{MachineThread, Machine, running}
 use Rattle.machine.specs.Step.{step, stepUnary, stepWord}
-use Rattle.machine.specs.Replay.{Replay, wordOf, within, stepped as steppedOn}
+use Rattle.machine.specs.Replay.{Replay, statusOf, wordOf, within, stepped as steppedOn}
 use Rattle.simulation.proofs.Held.{codeValue, partWord, makerWord, RowOf, Stands, Values, Frames, WordAt, placeOf}
-use Rattle.simulation.proofs.Holds.{SlotIs, stateOf, Holds}
+use Rattle.simulation.proofs.Holds.{SlotIs, Holds}
 use Rattle.simulation.proofs.Proceeding.{place-below}
 use Rattle.simulation.proofs.Using.{Using, using-read, using-lock, using-unlock, using-post, using-wait, using-rdlock, using-rdunlock, using-wrlock, using-wrunlock, slotOf, Roomy}
 use Rattle.simulation.proofs.Naming.{slot-told}
@@ -303,7 +303,7 @@ module _ (p s : List ℕ) (T : Threads) (R : Replay) (H : Holds p s T R) (roomy 
   line = record { thread = t; choice = c }
 
   -- a thread runs if its record says so
-  runs-told : (th : MachineThread) → getElem? ts t ≡ some th → runs T t ≡ isRunning (stateOf (th .joined) (th .control))
+  runs-told : (th : MachineThread) → getElem? ts t ≡ some th → runs T t ≡ isRunning (statusOf (th .joined) (th .control))
   unfolding runs
   runs-told th there =
       let l = place-below ts t th there in

@@ -5,7 +5,7 @@ use mathlib.Core.List.{List, [], _∷_, map}
 use Prim.Native.Nat.{ℕ, zero, suc, _<_}
 use native.Mathlib.Omega.{arith}
 use lib.ListN.{length, getD, getElem?}
-use Rattle.spec.specs.Split as sheet
+use Rattle.spec.specs.declared.Signature as sheet
 use Rattle.spec.specs.Split.{noSignature, Split, mapAt}
 use Rattle.spec.specs.Conditions.{signature}
 use Rattle.calculus.specs.Figure5.{Signature, Signatures}

@@ -9,7 +9,8 @@ use Rattle.spec.specs.Reading.{on}
 use Rattle.spec.specs.Words.{role, binding, preOfPart, preOfSecond}
 use Rattle.spec.specs.Expression.{Position, Expr, leaf, unary, binary, Procedure}
 use Rattle.spec.specs.Program.{Program}
-use Rattle.spec.specs.Split.{Map, Signature, Split}
+use Rattle.spec.specs.Split.{Map, Split}
+use Rattle.spec.specs.declared.Signature.{Signature}
 use Rattle.spec.specs.Kinds.{int, lock, tid, sem, rwlock}
 use Rattle.spec.specs.Conditions.{Env, startMap, type, post, bodyStart, keptBack, signature, conditionsBy, conditionsOf, procedureConditions}
 use Rattle.spec.specs.Sites.{Site, sites, numbered, claimsAt, claims, bodySites, claimsOfProcedure, claimsOfProcedures, claimsOf, firstFalse}

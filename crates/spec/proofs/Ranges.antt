@@ -13,7 +13,9 @@ use Rattle.spec.specs.Reading.{right, seen, _to_, below, inRange, numera
 use Rattle.spec.specs.Words.{takesStart}
 use Rattle.spec.specs.Expression.{Step}
 use Rattle.spec.specs.Program.{Program}
-use Rattle.spec.specs.Split.{Map, Header, headings, headerRanges, mapsOf, mapsIn, startOf, headerOf, headed, headerLine, refOf, lockOf, outRange, tidOf, semOf, rwlockOf, typeLine, typeLines, mapLine, Signature, signatureOf, signatureLine, Row, rowOf, startGiven, startRange, postRange, postField, emptyFault, rowLine, Split}
+use Rattle.spec.specs.Split.{Map, headings, headerRanges, mapsOf, mapsIn, startOf, headerOf, headed, headerLine, refOf, lockOf, outRange, tidOf, semOf, rwlockOf, typeLine, typeLines, mapLine, signatureOf, signatureLine, Row, rowOf, startGiven, startRange, postRange, postField, emptyFault, rowLine, Split}
+use Rattle.spec.specs.declared.Signature.{Signature}
+use Rattle.spec.specs.declared.Header.{Header}
 use Rattle.spec.specs.Kinds.{ref, sameKind, is, refLocation, content, maps}
 use Rattle.spec.specs.WellFormed.{Shows, nothing, line, WellFormedSplit}
 use Rattle.spec.specs.declared.Purpose.{Purpose}
@@ -37,7 +39,7 @@ record HeaderFits (H : Header) : Type 0 where
   locations : (1 ≤ H .locations) × (H .locations ≤ 16)
   types : (1 ≤ H .types) × (H .types ≤ 64)
   maps : (1 ≤ H .maps) × (H .maps ≤ 512)
-  rootStart : H .rootStart .0 < H .maps
+  start : H .start .0 < H .maps
 
 -- the numbers of a header that names its start
 named-fits : (h : Heading) (fs : List Field) (ns : List ℕ) → numbers (headerRanges C2 (mapsIn (numerals fs))) fs ≡ right ns
@@ -47,7 +49,7 @@ named-fits : (h : Heading) (fs : List Field) (ns : List ℕ) → numbers (header
       locations = getD ns 1 0;
       types = getD ns 2 0;
       maps = mapsOf ns;
-      rootStart = record { 0 = getD ns 4 0 };
+      start = record { 0 = getD ns 4 0 };
     })
 unfolding headerRanges mapsIn mapsOf
 named-fits h fs ns n =
@@ -58,7 +60,7 @@ named-fits h fs ns n =
       locations = in-to _ _ _ (at 1 (omega arith));
       types = in-to _ _ _ (at 2 (omega arith));
       maps = in-to _ _ _ (at 3 (omega arith));
-      rootStart = omega (arith, in-below _ _ (at 4 (omega arith)), named);
+      start = omega (arith, in-below _ _ (at 4 (omega arith)), named);
     }
 
 -- the ranges of a `C` header, and of the same numbers of the others
@@ -74,7 +76,7 @@ headed-fits (some C) fs H h =
       locations = in-to _ _ _ (at 1 (omega arith));
       types = in-to _ _ _ (at 2 (omega arith));
       maps = maps;
-      rootStart = maps .0;
+      start = maps .0;
     })
 headed-fits (some C2) fs H h = let (ns, n, e) = seen-right _ h in along HeaderFits e (named-fits C2 fs ns n)
 headed-fits (some C3) fs H h = let (ns, n, e) = seen-right _ h in along HeaderFits e (named-fits C3 fs ns n)
@@ -285,7 +287,7 @@ well-formed-in-range {purpose} {P} {text} {S} F =
       typesFew = head .types;
       mapsCounted = mapsCounted;
       mapsFew = head .maps;
-      start = omega (arith, mapsCounted, head .rootStart);
+      start = omega (arith, mapsCounted, head .start);
       signaturesCounted = signaturesCounted;
       rowsCounted = rowsCounted;
       mapWide = wide;

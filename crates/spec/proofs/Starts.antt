@@ -11,7 +11,8 @@ use Rattle.spec.specs.Reading.{right}
 use Rattle.spec.specs.Words.{takesStart, keepsBack}
 use Rattle.spec.specs.Expression.{Step}
 use Rattle.spec.specs.Program.{Program}
-use Rattle.spec.specs.Split.{Header, Row, rowOf, startGiven, mayBeEmpty, emptyFault, rowLine, Split}
+use Rattle.spec.specs.Split.{Row, rowOf, startGiven, mayBeEmpty, emptyFault, rowLine, Split}
+use Rattle.spec.specs.declared.Header.{Header}
 use Rattle.spec.specs.WellFormed.{Shows, nothing, line, WellFormedSplit}
 use Rattle.spec.specs.declared.Purpose.{Purpose}
 use Rattle.spec.specs.declared.Heading.{Heading}

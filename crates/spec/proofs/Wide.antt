@@ -8,7 +8,8 @@ use native.Mathlib.Decide.{decLt}
 use lib.ListN.{length, length-replicate, List·getD-eq-default}
 use Rattle.spec.specs.Expression.{Expr, indexOf}
 use Rattle.spec.specs.Program.{Program}
-use Rattle.spec.specs.Split.{Row, noRow, Signature, noSignature, Split, mapAt}
+use Rattle.spec.specs.Split.{Row, noRow, noSignature, Split, mapAt}
+use Rattle.spec.specs.declared.Signature.{Signature}
 use Rattle.spec.specs.Conditions.{row, post, startOr, bodyStart, keptBack, signature}
 use Rattle.spec.specs.Ranges.{InRange}
 use Rattle.spec.specs.declared.MapNumber.{MapNumber}

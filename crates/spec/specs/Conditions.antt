@@ -7,7 +7,8 @@ use lib.Dec.{eqb, leb, ltb}
 use lib.ListN.{getD, replicate}
 use Rattle.spec.specs.Choice.{if_then_else_}
 use Rattle.spec.specs.Expression.{Expr, leaf, unary, binary, indexOf, Procedure}
-use Rattle.spec.specs.Split.{Map, Row, noRow, Signature, noSignature, Split}
+use Rattle.spec.specs.Split.{Map, Row, noRow, noSignature, Split}
+use Rattle.spec.specs.declared.Signature.{Signature}
 unfoldable pub use Rattle.spec.specs.Split.{typeAt, mapAt}
 use Rattle.spec.specs.Kinds.{ref, lock, is as is-of, refLocation, content, firstMap, secondMap}
 use Rattle.spec.specs.Agreement.{agree}
@@ -64,7 +65,7 @@ nodeOf (binary w k v e₁ e₂) e2 = e₂
 module _ (S : Split) where
   -- the start, which a program's first step has for its pre
   unfoldable pub startMap : Map
-  startMap = mapAt S (S .header .rootStart)
+  startMap = mapAt S (S .header .start)
 
   -- of two lock types: the in of the first is nowhere above that of the second, its out nowhere below
   unfoldable pub looserLock : (shown own : TypeLine) → Bool

@@ -6,7 +6,8 @@ use mathlib.Core.List.{List, [], _∷_}
 use mathlib.Core.Bool.{true}
 use Prim.Native.Nat.{ℕ, _+_, _≤_, _<_}
 use Rattle.spec.specs.Expression.{Position, Expr, leaf, unary, binary, Procedure}
-use Rattle.spec.specs.Split.{Map, Signature, Split}
+use Rattle.spec.specs.Split.{Map, Split}
+use Rattle.spec.specs.declared.Signature.{Signature}
 use Rattle.spec.specs.Maps.{_+ᵐ_, _×ᵐ_, share}
 use Rattle.spec.specs.Agreement.{agree}
 use Rattle.spec.specs.Conditions.{Env, typeIn, mayShow, type, kind, post, bodyStart, keptBack, signature, mapAt}

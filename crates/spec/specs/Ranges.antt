@@ -9,7 +9,8 @@ use mathlib.Core.Option.{some}
 use Prim.Native.Nat.{ℕ, _≤_, _<_}
 use lib.ListN.{length, getD}
 use Rattle.spec.specs.Program.{Program}
-use Rattle.spec.specs.Split.{Row, Signature, Split}
+use Rattle.spec.specs.Split.{Row, Split}
+use Rattle.spec.specs.declared.Signature.{Signature}
 use Rattle.spec.specs.Kinds.{maps}
 use Rattle.spec.specs.declared.TypeNumber.{TypeNumber}
 use Rattle.spec.specs.declared.MapNumber.{MapNumber}
@@ -28,7 +29,7 @@ pub record InRange (P : Program) (S : Split) : Type 0 where
   pub typesFew : (1 ≤ S .header .types) × (S .header .types ≤ 64)
   pub mapsCounted : length (S .maps) ≡ S .header .maps
   pub mapsFew : (1 ≤ S .header .maps) × (S .header .maps ≤ 512)
-  pub start : S .header .rootStart .0 < length (S .maps)
+  pub start : S .header .start .0 < length (S .maps)
   pub signaturesCounted : length (S .signatures) ≡ length (P .procedures)
   pub rowsCounted : length (S .rows) ≡ length (P .steps)
   -- a map has a number for each location

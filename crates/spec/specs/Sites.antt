@@ -8,7 +8,8 @@ use Rattle.spec.specs.Reading.{Out, stop, on, _>>=_}
 use Rattle.spec.specs.Words.{role, binding, preOfPart, preOfSecond}
 use Rattle.spec.specs.Expression.{Expr, leaf, unary, binary, lineOf, Procedure}
 use Rattle.spec.specs.Program.{Program}
-use Rattle.spec.specs.Split.{Map, Signature, Split}
+use Rattle.spec.specs.Split.{Map, Split}
+use Rattle.spec.specs.declared.Signature.{Signature}
 use Rattle.spec.specs.Conditions.{Condition, T, F, A, Env, type, post, bodyStart, mapAt, startMap, signature, conditionsOf, procedureConditions}
 use Rattle.spec.specs.declared.Word.the-variants.{Binary}
 use Rattle.spec.specs.declared.Refusal.the-variants.{TypeFalse, FlowFalse, AccessFalse}

@@ -10,6 +10,8 @@ use Rattle.spec.specs.Reading.{splitSheet, Out, _>>=_, on, wrong, Fault,
 use Rattle.spec.specs.Words.{takesStart, keepsBack}
 use Rattle.spec.specs.Expression.{Step}
 use Rattle.spec.specs.Program.{Program}
+use Rattle.spec.specs.declared.Header.{Header}
+use Rattle.spec.specs.declared.Signature.{Signature}
 use Rattle.spec.specs.declared.Heading.{Heading}
 use Rattle.spec.specs.declared.Heading.the-variants.{C, C2, C3}
 use Rattle.spec.specs.declared.Purpose.{Purpose}
@@ -27,15 +29,6 @@ splitLimit = 65536
 -- a capability mapping, document 01's "map": its numerals, one for each location, in parts of the denominator
 abbrev pub Map : Type 0
 Map = List ℕ
-
--- `C,D,L,T,M`, `C2,D,L,T,M,r` and `C3,D,L,T,M,r`: denominator, locations, types, maps, and the start, the map before the root
-pub record Header : Type 0 where
-  pub heading : Heading
-  pub denominator : ℕ
-  pub locations : ℕ
-  pub types : ℕ
-  pub maps : ℕ
-  pub rootStart : MapNumber
 
 -- when filling, "A `C` header is 21"
 unfoldable pub headings : Purpose → List (List ℕ × Heading)
@@ -71,7 +64,7 @@ headerOf h ns = record {
   locations = getD ns 1 0;
   types = getD ns 2 0;
   maps = mapsOf ns;
-  rootStart = startOf h ns;
+  start = startOf h ns;
 }
 
 unfoldable pub headed : Option Heading → List Field → Seen Header
@@ -128,13 +121,6 @@ typeLines H own (suc n) = typeLine H own ∷ typeLines H (own + 1) n
 unfoldable pub mapLine : Header → List Field → Seen Map
 mapLine H fs = numbers (replicate (H .locations) (0 to 1000000000)) fs
 
--- `before,argument,after,result`, "map, type, map, type": what a procedure asks for and what it leaves
-pub record Signature : Type 0 where
-  pub before : MapNumber
-  pub argument : TypeNumber
-  pub after : MapNumber
-  pub result : TypeNumber
-
 -- the signature of a procedure that is not there: never seen, since 49 refuses a call to one
 abbrev pub noSignature : Signature
 noSignature = record { before = record { 0 = 0 }; argument = record { 0 = 0 }; after = record { 0 = 0 }; result = record { 0 = 0 } }
@@ -147,6 +133,7 @@ signatureOf ns = record {
   result = record { 0 = getD ns 3 0 };
 }
 
+-- `before,argument,after,result`, "map, type, map, type"
 unfoldable pub signatureLine : Header → List Field → Seen Signature
 signatureLine H fs =
     seen signatureOf (numbers (below (H .maps) ∷ below (H .types) ∷ below (H .maps) ∷ below (H .types) ∷ []) fs)

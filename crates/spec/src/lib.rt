@@ -73,6 +73,25 @@ pub enum Purpose {
     Fill,
 }
 
+// What line 1 of a split sheet says: its heading, the denominator, how many locations, types and maps there are, and the start, the
+// map before the root.
+pub struct Header {
+    pub heading: Heading,
+    pub denominator: u32,
+    pub locations: usize,
+    pub types: usize,
+    pub maps: usize,
+    pub start: MapNumber,
+}
+
+// What the line of a procedure says, `before,argument,after,result`: the map and the type that it asks for, and those that it leaves.
+pub struct Signature {
+    pub before: MapNumber,
+    pub argument: TypeNumber,
+    pub after: MapNumber,
+    pub result: TypeNumber,
+}
+
 // What a type line of a split sheet says. A content type, a map: by number. A lock has its in and its out, a
 // read-write lock what a reader and a writer take.
 pub enum TypeLine {
@@ -123,6 +142,12 @@ pub enum Refusal {
     Freelock(u32),
     NoProcedure(u32),
     NoKept(u32),
+}
+
+// What one of the stages of an answer says: nothing is to be refused, or the first thing that is.
+pub enum Ruling {
+    Met,
+    Refused(Refusal),
 }
 
 // The answer to a pair of sheets.

@@ -8,9 +8,9 @@ use Rattle.spec.specs.Reading.{Out, stop, on}
 use Rattle.spec.specs.Split.{Split}
 use Rattle.spec.specs.declared.Refusal.{Refusal}
 use Rattle.workspace.specs.Holds.{HoldsSplit}
-use Rattle.workspace.specs.Sheets.{headerTold, Small}
+use Rattle.workspace.specs.Sheets.{Small}
 use Rattle.split.specs.Sheet.{SheetAnswer}
-use Rattle.workspace.specs.declared.Header.{Header}
+use Rattle.spec.specs.declared.Header.{Header}
 use Rattle.split.specs.declared.Sheet.{Sheet}
 use Rattle.split.specs.declared.Sheet.the-variants as sheet
 
@@ -19,22 +19,18 @@ split-refused-by {x = x} w (sheet.Refused y) o a e = let same : y ≡ x = cc in 
 split-refused-by w (sheet.Read h) o a e = let clash : _≡_ {A = ℕ} 0 1 = cc in absurd (omega arith)
 
 pub split-read-by : {k : Header} (w : List ℕ) (h : Sheet) (o : Out Split) → SheetAnswer o w h → h ≡ sheet.Read k
-    → (S : Split) × (o ≡ on S) × (S .header ≡ headerTold k) × HoldsSplit w S × Small k
+    → (S : Split) × (o ≡ on S) × (S .header ≡ k) × HoldsSplit w S × Small k
 split-read-by w (sheet.Refused y) o a e = let clash : _≡_ {A = ℕ} 0 1 = cc in absurd (omega arith)
 split-read-by {k = k} w (sheet.Read h) o a e = let same : h ≡ k = cc in along (λ z. SheetAnswer o w (sheet.Read z)) same a
 
-pub denominator-told : (S : Split) (h : Header) → S .header ≡ headerTold h → h .denominator ≡ S .header .denominator
-unfolding headerTold
+pub denominator-told : (S : Split) (h : Header) → S .header ≡ h → h .denominator ≡ S .header .denominator
 denominator-told S h e = sym (ap (λ H. H .denominator) e)
 
-pub locations-told : (S : Split) (h : Header) → S .header ≡ headerTold h → h .locations ≡ S .header .locations
-unfolding headerTold
+pub locations-told : (S : Split) (h : Header) → S .header ≡ h → h .locations ≡ S .header .locations
 locations-told S h e = sym (ap (λ H. H .locations) e)
 
-pub types-told : (S : Split) (h : Header) → S .header ≡ headerTold h → h .types ≡ S .header .types
-unfolding headerTold
+pub types-told : (S : Split) (h : Header) → S .header ≡ h → h .types ≡ S .header .types
 types-told S h e = sym (ap (λ H. H .types) e)
 
-pub start-told : (S : Split) (h : Header) → S .header ≡ headerTold h → h .start .0 ≡ S .header .rootStart .0
-unfolding headerTold
-start-told S h e = sym (ap (λ H. H .rootStart .0) e)
+pub start-told : (S : Split) (h : Header) → S .header ≡ h → h .start .0 ≡ S .header .start .0
+start-told S h e = sym (ap (λ H. H .start .0) e)

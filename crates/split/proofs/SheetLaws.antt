@@ -7,7 +7,9 @@ use native.Mathlib.Omega.{arith}
 use lib.ListN.{length, replicate, length-map}
 use Rattle.spec.specs.Reading.{splitSheet, Out, _>>=_, Place, readLines, end}
 use Rattle.spec.specs.Expression.{Step}
-use Rattle.spec.specs.Split.{Map, Header, Signature, Row, Split, typeLines, mapLine, signatureLine, rowLine}
+use Rattle.spec.specs.Split.{Map, Row, Split, typeLines, mapLine, signatureLine, rowLine}
+use Rattle.spec.specs.declared.Signature.{Signature}
+use Rattle.spec.specs.declared.Header.{Header}
 use Rattle.spec.specs.declared.Purpose.{Purpose}
 use Rattle.spec.specs.declared.Refusal.{Refusal}
 use Rattle.spec.specs.declared.TypeLine.{TypeLine}
@@ -19,19 +21,17 @@ use Rattle.workspace.specs.Holds.{HoldsSplit}
 use Rattle.workspace.specs.Steps.{stepsFrom}
 use Rattle.workspace.proofs.Region.{region-kept, changed-then, changed-wider}
 use Rattle.workspace.proofs.Steps.{steps-kept}
-use Rattle.workspace.specs.declared.Header.{Header as HeaderRead}
 use Rattle.split_fields.specs.declared.LinesRead.{LinesRead}
 use Rattle.split_fields.specs.declared.LinesRead.the-variants as lines-read
-use Rattle.workspace.specs.Sheets.{headerTold}
 use Rattle.split_fields.specs.Answers.{SplitCursor}
 use Rattle.split_sections.specs.Stored.{HoldsTypes, HoldsRows, HoldsMaps, HoldsSignatures, EmptyStored, Storing, StoringRows, StoringSignatures, LinesAnswer, TypesRead, MapsRead, SignaturesRead, RowsRead}
 use Rattle.split.specs.Sheet.{StoringBody, body, EndAnswer, BodyAnswer, BodyRead}
 
-module _ (purpose : Purpose) {text : List ℕ} {c : Cursor} {h : HeaderRead} {n k : ℕ} {w : List ℕ} (pre : StoringBody text c h n k w)
+module _ (purpose : Purpose) {text : List ℕ} {c : Cursor} {h : Header} {n k : ℕ} {w : List ℕ} (pre : StoringBody text c h n k w)
     {w₁ : List ℕ} {types : LinesRead} (read-types : TypesRead text c h w w₁ types)
   where
     abbrev H : Header
-    H = headerTold h
+    H = h
 
     abbrev whole : Out Split
     whole = body purpose H k (stepsFrom w 0 n) (placeAt text c)
@@ -43,7 +43,7 @@ module _ (purpose : Purpose) {text : List ℕ} {c : Cursor} {h : HeaderRead} {n 
     changed-one = changed-wider rowTypesAt workSize (omega arith) (omega arith) (read-types .changed)
 
     pub types-stop : {r : Refusal} → types ≡ lines-read.Refused r → BodyRead purpose H n k (placeAt text c) w w₁ types
-    unfolding body headerTold _>>=_
+    unfolding body _>>=_
     types-stop e = record {
       answered = subst (BodyAnswer H whole w₁) (sym e) (rw (subst (LinesAnswer (h .types) (HoldsTypes w₁) text types-out) e (read-types .answered)));
       changed = changed-one;
@@ -71,7 +71,7 @@ module _ (purpose : Purpose) {text : List ℕ} {c : Cursor} {h : HeaderRead} {n 
         empty-ready = changed-two .long ∙ pre .storing .whole
 
         pub maps-stop : {r : Refusal} → maps ≡ lines-read.Refused r → BodyRead purpose H n k (placeAt text c) w w₂ maps
-        unfolding body headerTold _>>=_
+        unfolding body _>>=_
         maps-stop e = record {
           answered = subst (BodyAnswer H whole w₂) (sym e)
               (rw (types-got .1, subst (LinesAnswer (h .maps) (HoldsMaps (h .locations) w₂) text maps-out) e (read-maps .answered)));
@@ -103,7 +103,7 @@ module _ (purpose : Purpose) {text : List ℕ} {c : Cursor} {h : HeaderRead} {n 
             changed-signed = changed-then rowTypesAt workSize changed-empty (changed-wider rowTypesAt workSize (omega arith) (omega arith) (read-signatures .changed))
 
             pub signatures-stop : {r : Refusal} → signatures ≡ lines-read.Refused r → BodyRead purpose H n k (placeAt text c) w u signatures
-            unfolding body headerTold _>>=_
+            unfolding body _>>=_
             signatures-stop e = record {
               answered = subst (BodyAnswer H whole u) (sym e)
                   (rw (types-got .1, maps-got .1, subst (LinesAnswer k (HoldsSignatures u) text signatures-out) e (read-signatures .answered)));
@@ -137,7 +137,7 @@ module _ (purpose : Purpose) {text : List ℕ} {c : Cursor} {h : HeaderRead} {n 
                     (sym (steps-kept changed-signed (omega arith) 0 n (omega (arith, pre .fewSteps))))
 
                 pub rows-stop : {r : Refusal} → rows ≡ lines-read.Refused r → BodyRead purpose H n k (placeAt text c) w w₃ rows
-                unfolding body headerTold _>>=_
+                unfolding body _>>=_
                 rows-stop e = record {
                   answered = subst (BodyAnswer H whole w₃) (sym e)
                       (rw (types-got .1, maps-got .1, signatures-got .1, same-rows ∙ subst (LinesAnswer n (HoldsRows w₃) text rows-out) e (read-rows .answered)));
@@ -181,7 +181,7 @@ module _ (purpose : Purpose) {text : List ℕ} {c : Cursor} {h : HeaderRead} {n 
                   }
 
                   ended : (answer : LinesRead) → EndAnswer (end splitSheet (placeAt text c₅)) answer → BodyAnswer H whole w₃ answer
-                  unfolding body headerTold _>>=_
+                  unfolding body _>>=_
                   ended (lines-read.Refused r) e = rw (types-got .1, maps-got .1, signatures-got .1, same-rows ∙ rows-got .1, e)
                   ended (lines-read.Read d) e = (found, rw (types-got .1, maps-got .1, signatures-got .1, same-rows ∙ rows-got .1, e), refl, holds)
 

@@ -23,13 +23,12 @@ use Rattle.workspace.specs.Holds.{HoldsSteps}
 use Rattle.workspace.specs.Steps.{stepsFrom}
 use Rattle.workspace.proofs.Steps.{steps-held}
 use Rattle.workspace.proofs.Region.{changed-nothing}
-use Rattle.workspace.specs.declared.Header.{Header as HeaderRead}
+use Rattle.spec.specs.declared.Header.{Header}
 use Rattle.split_header.specs.declared.HeaderLine.{HeaderLine}
 use Rattle.split_header.specs.declared.HeaderLine.the-variants as header-line
 use Rattle.split_fields.specs.declared.LinesRead.{LinesRead}
 use Rattle.split_fields.specs.declared.LinesRead.the-variants as lines-read
 use Rattle.split.specs.declared.Sheet.the-variants as sheet
-use Rattle.workspace.specs.Sheets.{headerTold}
 use Rattle.split_header.specs.Header.{AtHeader, HeaderAnswer}
 use Rattle.split.specs.Sheet.{Readable, StoringBody, body, BodyAnswer, BodyRead, SplitRead}
 
@@ -63,7 +62,7 @@ module _ {text : List ℕ} {n k : ℕ} {w : List ℕ} (pre : Readable text n k w
           let h = subst (HeaderAnswer text (readLine splitSheet (headerLine purpose) (placeAt text top))) e header in
           record { answered = λ P held count procs. rw (top-place, h); changed = changed-nothing rowTypesAt workSize w }
 
-      module _ {h : HeaderRead} {c : Cursor} (told : answer ≡ header-line.Read h c) where
+      module _ {h : Header} {c : Cursor} (told : answer ≡ header-line.Read h c) where
         header-got : HeaderAnswer text (readLine splitSheet (headerLine purpose) (placeAt text top)) (header-line.Read h c)
         header-got = subst (HeaderAnswer text (readLine splitSheet (headerLine purpose) (placeAt text top))) told header
 
@@ -74,25 +73,25 @@ module _ {text : List ℕ} {n k : ℕ} {w : List ℕ} (pre : Readable text n k w
           fewProcedures = pre .fewProcedures;
         }
 
-        module _ {w′ : List ℕ} {lines′ : LinesRead} (read : BodyRead purpose (headerTold h) n k (placeAt text c) w w′ lines′) where
+        module _ {w′ : List ℕ} {lines′ : LinesRead} (read : BodyRead purpose h n k (placeAt text c) w w′ lines′) where
           abbrev out : Out Split
-          out = body purpose (headerTold h) k (stepsFrom w 0 n) (placeAt text c)
+          out = body purpose h k (stepsFrom w 0 n) (placeAt text c)
 
           of-program : (P : Program) → HoldsSteps w (P .steps) → length (P .steps) ≡ n → length (P .procedures) ≡ k → split purpose P text ≡ out
           unfolding split body _>>=_
           of-program P held count procs =
               rw (top-place, header-got .0, procs)
-              (ap (λ (l : List Step). body purpose (headerTold h) k l (placeAt text c)) (sym (steps-held w (P .steps) n held count)))
+              (ap (λ (l : List Step). body purpose h k l (placeAt text c)) (sym (steps-held w (P .steps) n held count)))
 
           pub read-body-stop : {r : Refusal} → lines′ ≡ lines-read.Refused r → SplitRead purpose text n k w w′ (sheet.Refused r)
           read-body-stop e = record {
-            answered = λ P held count procs. of-program P held count procs ∙ subst (BodyAnswer (headerTold h) out w′) e (read .answered);
+            answered = λ P held count procs. of-program P held count procs ∙ subst (BodyAnswer h out w′) e (read .answered);
             changed = read .changed;
           }
 
           pub read-whole : {d : Cursor} → lines′ ≡ lines-read.Read d → SplitRead purpose text n k w w′ (sheet.Read h)
           read-whole e =
-              let (S, is-on, head, holds) = subst (BodyAnswer (headerTold h) out w′) e (read .answered) in
+              let (S, is-on, head, holds) = subst (BodyAnswer h out w′) e (read .answered) in
               record {
                 answered = λ P held count procs. (S, of-program P held count procs ∙ is-on, head, holds, header-got .2);
                 changed = read .changed;

@@ -6,20 +6,20 @@ use lib.ListN.{length, replicate}
 use Rattle.spec.specs.Reading.{splitSheet, Out, stop, on, _>>=_, Place, readLines, end}
 use Rattle.spec.specs.Expression.{Step}
 use Rattle.spec.specs.Program.{Program}
-use Rattle.spec.specs.Split.{Header, Split, typeLines, mapLine, signatureLine, rowLine, split}
+use Rattle.spec.specs.Split.{Split, typeLines, mapLine, signatureLine, rowLine, split}
+use Rattle.spec.specs.declared.Header.{Header}
 use Rattle.spec.specs.declared.Purpose.{Purpose}
 use Rattle.workspace.specs.Layout.{rowTypesAt, workSize}
 use Rattle.workspace.specs.Region.{ChangedWithin}
 use Rattle.workspace.specs.Holds.{HoldsSteps, HoldsSplit}
 use Rattle.workspace.specs.Steps.{stepsFrom}
 use Rattle.lexer.specs.declared.Cursor.{Cursor}
-use Rattle.workspace.specs.declared.Header.{Header as HeaderRead}
 use Rattle.split_fields.specs.declared.LinesRead.{LinesRead}
 use Rattle.split_fields.specs.declared.LinesRead.the-variants as lines-read
 use Rattle.split_sections.specs.Stored.{Storing}
 use Rattle.split.specs.declared.Sheet.{Sheet}
 use Rattle.split.specs.declared.Sheet.the-variants as sheet
-use Rattle.workspace.specs.Sheets.{headerTold, Small}
+use Rattle.workspace.specs.Sheets.{Small}
 
 -- a text that the limit lets through, as many steps and procedures as a program may have, and a work space to store a sheet in
 pub record Readable (text : List ℕ) (steps procedures : ℕ) (w : List ℕ) : Type 0 where
@@ -30,7 +30,7 @@ pub record Readable (text : List ℕ) (steps procedures : ℕ) (w : List ℕ) : 
 
 -- a cursor behind a header, and a work space to store the lines behind it in, with rows of so many steps and signatures of so many
 -- procedures among them
-pub record StoringBody (text : List ℕ) (c : Cursor) (h : HeaderRead) (steps procedures : ℕ) (w : List ℕ) : Type 0 where
+pub record StoringBody (text : List ℕ) (c : Cursor) (h : Header) (steps procedures : ℕ) (w : List ℕ) : Type 0 where
   pub storing : Storing text c h w
   pub fewSteps : steps ≤ 256
   pub fewProcedures : procedures ≤ 16
@@ -60,7 +60,7 @@ pub record BodyRead (purpose : Purpose) (H : Header) (n k : ℕ) (from : Place) 
 -- a refusal is that of document 01; else the header is that of the split, which the work space holds
 abbrev pub SheetAnswer : Out Split → (w′ : List ℕ) → Sheet → Type 0
 SheetAnswer out w′ (sheet.Refused r) = out ≡ stop r
-SheetAnswer out w′ (sheet.Read h) = (S : Split) × (out ≡ on S) × (S .header ≡ headerTold h) × HoldsSplit w′ S × Small h
+SheetAnswer out w′ (sheet.Read h) = (S : Split) × (out ≡ on S) × (S .header ≡ h) × HoldsSplit w′ S × Small h
 
 -- reading a split sheet, to check or to fill, for the n steps of a program that the work space holds and its k procedures: only places
 -- from the rows on change

@@ -1,5 +1,6 @@
 // The split sheet, read into the work space line by line: its header, types, maps, signatures and rows.
 use lexer::Cursor;
+use spec::Header;
 use spec::Purpose;
 use spec::Refusal;
 use split_fields::LinesRead;
@@ -10,10 +11,8 @@ use split_sections::read_rows;
 use split_sections::read_signatures;
 use split_sections::read_types;
 use split_sections::store_empty;
-use workspace::Header;
 ghost use Rattle.spec.specs.Reading.{splitSheet, end};
 ghost use Rattle.lexer.specs.Cursors.{placeAt};
-ghost use Rattle.workspace.specs.Sheets.{headerTold};
 ghost use Rattle.split_fields.specs.Answers.{SplitCursor};
 ghost use Rattle.split.specs.Sheet.{Readable, StoringBody, EndAnswer, BodyRead, SplitRead};
 
@@ -46,7 +45,7 @@ fn read_body(
     work: &mut [u32],
 ) -> LinesRead
     requires { ⌜ StoringBody (now text) from header steps procedures (now work) ⌝ }
-    ensures { λ r. ⌜ BodyRead purpose (headerTold header) steps procedures (placeAt (now (text .entry)) from) (now (work .entry)) (now (work .exit)) r ⌝ }
+    ensures { λ r. ⌜ BodyRead purpose header steps procedures (placeAt (now (text .entry)) from) (now (work .entry)) (now (work .exit)) r ⌝ }
 {
     let types = read_types(text, from, header, work);
     let LinesRead::Read(maps_from) = types else {

@@ -12,7 +12,8 @@ use borrow.Author.Tests.{leb-true, leb-false, lt-leb}
 use Rattle.spec.specs.Choice.{if_then_else_}
 use Rattle.spec.specs.Text.{bytes, same, Field, lookUp, lines}
 use Rattle.spec.specs.Reading.{splitSheet, stop, on, Seen, right, wrong, badForm, badRange, seen, inRange, allInRange, numerals, ranged, numbers, form, passed, nextLine, readLine}
-use Rattle.spec.specs.Split.{Header, headings, headerRanges, mapsOf, mapsIn, startOf, headerOf, headed, headerLine}
+use Rattle.spec.specs.Split.{headings, headerRanges, mapsOf, mapsIn, startOf, headerOf, headed, headerLine}
+use Rattle.spec.specs.declared.Header.{Header}
 use Rattle.spec.specs.declared.Heading.{Heading}
 use Rattle.spec.specs.declared.Heading.the-variants.{C, C2, C3}
 use Rattle.spec.specs.declared.Purpose.{Purpose}
@@ -29,9 +30,8 @@ use Rattle.lexer.proofs.Stored.{kept, cut, stored-judged}
 use Rattle.lexer.proofs.Ranges.{many, many-form, many-read, numbersFrom, one-by-one}
 use Rattle.lexer.proofs.Walks.{first-wrong, first-alone}
 use Rattle.lexer.proofs.Sheets.{next-at}
-use Rattle.workspace.specs.declared.Header.{Header as HeaderRead}
 use Rattle.split_header.specs.declared.FoundHeading.the-variants as found-heading
-use Rattle.workspace.specs.Sheets.{headerTold, Small}
+use Rattle.workspace.specs.Sheets.{Small}
 use Rattle.split_header.specs.Header.{headingFound, numeralsOf, headerFits}
 use Rattle.split_fields.proofs.Tests.{range-parts}
 use Rattle.split_fields.proofs.LineLaws.{shows-range, shows-entry, comma-line, comma-kept}
@@ -116,7 +116,7 @@ inPlaces h l = record {
   locations = getD l 1 0;
   types = getD l 2 0;
   maps = getD l 3 0;
-  rootStart = record { 0 = getD l 4 0 };
+  start = record { 0 = getD l 4 0 };
 }
 
 -- a place that none is read into holds 0, the start of a `C` sheet
@@ -132,15 +132,15 @@ module _ (h : Heading) (ns : List ℕ) (n : ℕ) (l t m : ℕ) where
   after = ns ++ drop n places
 
   pub header-told : n ≡ numeralsOf h → length ns ≡ numeralsOf h → l ≡ getD after 1 0 → t ≡ getD after 2 0 → m ≡ getD after 3 0
-      → headerOf h ns ≡ headerTold (record { heading = h; denominator = getD after 0 0; locations = l; types = t; maps = m; start = record { 0 = getD after 4 0 } })
-  unfolding headerTold inPlaces
+      → headerOf h ns ≡ (record { heading = h; denominator = getD after 0 0; locations = l; types = t; maps = m; start = record { 0 = getD after 4 0 } })
+  unfolding inPlaces
   header-told all e el et em =
       filled (numbers-of h ns e) ∙ ap (λ (k : ℕ). inPlaces h (ns ++ drop k places)) (sym all) ∙ sym (rw (el, et, em))
 
 -- ------------------------------------------------------------------ the ranges
 
-pub header-small : (h : HeaderRead) → headerFits (headerTold h) ≡ true → Small h
-unfolding headerFits headerRanges headerTold
+pub header-small : (h : Header) → headerFits h ≡ true → Small h
+unfolding headerFits headerRanges
 header-small h e =
     let (denominator, e₁) = range-parts _ _ _ _ e in
     let (locations, e₂) = range-parts _ _ _ _ e₁ in
@@ -251,7 +251,7 @@ module _ (purpose : Purpose) (text : List ℕ) (c : Cursor) (some-left : 0 < len
 
       module _
           (ns : List ℕ) (e : Cursor) (found : numbersAt text d (numeralsOf h) ≡ some (ns, rest text e))
-          (H : HeaderRead) (told : headerOf h ns ≡ headerTold H)
+          (H : Header) (told : headerOf h ns ≡ H)
         where
           reads : (nextLine splitSheet (headerLine purpose) (c .line) (lines (rest text c)) ≡ passed splitSheet (c .line + 1) (lines (rest text e)) (seen (headerOf h) (judged h ns)))
               × (length ns ≡ numeralsOf h)
@@ -259,22 +259,22 @@ module _ (purpose : Purpose) (text : List ℕ) (c : Cursor) (some-left : 0 < len
               many-read splitSheet (headerLine purpose) (c .line) (numeralsOf h) (λ ns. seen (headerOf h) (judged h ns)) (wrong badForm) text c (firstField (rest text c)) d (comma-line text c d p comma is) shows
               (λ ms l. header-by-stored h ms l) ns (rest text e) found
 
-          fits : allInRange (headerRanges h (mapsOf ns)) ns ≡ headerFits (headerTold H)
+          fits : allInRange (headerRanges h (mapsOf ns)) ns ≡ headerFits H
           fits = fits-told (numbers-of h ns (reads .1)) ∙ ap headerFits told
 
-          judged-as : {x : Bool} → headerFits (headerTold H) ≡ x → judged h ns ≡ (if x then right ns else wrong badRange)
+          judged-as : {x : Bool} → headerFits H ≡ x → judged h ns ≡ (if x then right ns else wrong badRange)
           unfolding judged
           judged-as q = ap (λ (x : Bool). if x then right ns else wrong badRange) (fits ∙ q)
 
-          pub header-range : headerFits (headerTold H) ≡ false → readLine splitSheet (headerLine purpose) (placeAt text c) ≡ stop (SplitRange (c .line + 1))
+          pub header-range : headerFits H ≡ false → readLine splitSheet (headerLine purpose) (placeAt text c) ≡ stop (SplitRange (c .line + 1))
           unfolding seen
           header-range q =
               next-at splitSheet text (headerLine purpose) c ∙ reads .0
               ∙ shows-range (c .line + 1) (lines (rest text e)) (ap (seen (headerOf h)) (judged-as q))
 
-          pub header-on : headerFits (headerTold H) ≡ true → e .line ≡ d .line + 1 → readLine splitSheet (headerLine purpose) (placeAt text c) ≡ on (headerTold H, placeAt text e)
+          pub header-on : headerFits H ≡ true → e .line ≡ d .line + 1 → readLine splitSheet (headerLine purpose) (placeAt text c) ≡ on (H, placeAt text e)
           unfolding seen
           header-on q l =
               next-at splitSheet text (headerLine purpose) c ∙ reads .0
-              ∙ shows-entry text c e (headerTold H) (ap (seen (headerOf h)) (judged-as q) ∙ ap right told)
+              ∙ shows-entry text c e H (ap (seen (headerOf h)) (judged-as q) ∙ ap right told)
               (l ∙ ap (λ (k : ℕ). k + 1) (comma-kept text c d p comma is))

@@ -6,14 +6,15 @@ use mathlib.Core.Option.{Option, none, some}
 use Prim.Native.Nat.{ℕ, _+_}
 use lib.ListN.{length}
 use Rattle.spec.specs.Reading.{Out, stop, on, Place, allInRange}
-use Rattle.spec.specs.Split.{Header, headerRanges, headerOf}
+use Rattle.spec.specs.Split.{headerRanges, headerOf}
+use Rattle.spec.specs.declared.Header.{Header}
 use Rattle.spec.specs.declared.Heading.{Heading}
 use Rattle.spec.specs.declared.Heading.the-variants.{C2}
 use Rattle.lexer.specs.Views.{textEnded}
 use Rattle.lexer.specs.Cursors.{Placed, rest, placeAt}
 use Rattle.lexer.specs.Numbers.{numbersAt}
 use Rattle.lexer.specs.declared.Cursor.{Cursor}
-use Rattle.workspace.specs.Sheets.{headerTold, Small}
+use Rattle.workspace.specs.Sheets.{Small}
 use Rattle.split_fields.specs.Answers.{SplitCursor}
 use Rattle.split_header.specs.declared.FoundHeading.{FoundHeading}
 use Rattle.split_header.specs.declared.FoundHeading.the-variants as found-heading
@@ -37,14 +38,14 @@ numeralsOf h = length (headerRanges h 0)
 
 -- whether the numbers of a header are in their ranges: map 0, the start that a `C` header does not name, is in its range too
 unfoldable pub headerFits : Header → Bool
-headerFits H = allInRange (headerRanges C2 (H .maps)) (H .denominator ∷ H .locations ∷ H .types ∷ H .maps ∷ H .rootStart .0 ∷ [])
+headerFits H = allInRange (headerRanges C2 (H .maps)) (H .denominator ∷ H .locations ∷ H .types ∷ H .maps ∷ H .start .0 ∷ [])
 
 -- the numerals behind a heading, as they are stored: the header that they make, in range or not
 abbrev pub NumbersAnswer : List ℕ → Cursor → Heading → FoundHeader → Type 0
 NumbersAnswer text c h found-header.Malformed = numbersAt text c (numeralsOf h) ≡ none
 NumbersAnswer text c h (found-header.Read H d) =
-    (ns : List ℕ) × (numbersAt text c (numeralsOf h) ≡ some (ns, rest text d)) × (headerOf h ns ≡ headerTold H) × Placed text d × (d .line ≡ c .line + 1)
+    (ns : List ℕ) × (numbersAt text c (numeralsOf h) ≡ some (ns, rest text d)) × (headerOf h ns ≡ H) × Placed text d × (d .line ≡ c .line + 1)
 
 abbrev pub HeaderAnswer : List ℕ → Out (Header × Place) → HeaderLine → Type 0
 HeaderAnswer text out (header-line.Refused r) = out ≡ stop r
-HeaderAnswer text out (header-line.Read h c) = (out ≡ on (headerTold h, placeAt text c)) × Placed text c × Small h
+HeaderAnswer text out (header-line.Read h c) = (out ≡ on (h, placeAt text c)) × Placed text c × Small h

@@ -1,6 +1,7 @@
 // Line 1 of the split sheet, its header: `C,D,L,T,M`, `C2,D,L,T,M,r` or `C3,D,L,T,M,r`, with its ranges.
 use lexer::Cursor;
 use lexer::Numbers;
+use spec::Header;
 use spec::Heading;
 use spec::MapNumber;
 use spec::Purpose;
@@ -8,13 +9,11 @@ use spec::Refusal;
 use split_fields::Head;
 use split_fields::LARGEST;
 use split_fields::first_field;
-use workspace::Header;
 ghost use mathlib.Core.Path.{_≡_};
 ghost use Rattle.spec.specs.Text.{lookUp};
 ghost use Rattle.spec.specs.Reading.{splitSheet, _to_, inRange, readLine};
 ghost use Rattle.spec.specs.Split.{headings, headerLine};
 ghost use Rattle.lexer.specs.Cursors.{placeAt};
-ghost use Rattle.workspace.specs.Sheets.{headerTold};
 ghost use Rattle.split_fields.specs.Answers.{SplitCursor};
 ghost use Rattle.split_header.specs.Header.{headingFound, numeralsOf, headerFits, AtHeader, NumbersAnswer, HeaderAnswer};
 
@@ -107,7 +106,7 @@ fn within(n: usize, first: usize, last: usize) -> bool
 
 // Whether each number of a header is in its range; the start is one of its maps.
 fn header_fits(header: Header) -> bool
-    ensures { λ r. ⌜ r ≡ headerFits (headerTold header) ⌝ }
+    ensures { λ r. ⌜ r ≡ headerFits header ⌝ }
 {
     let start = header.start;
     if !within(

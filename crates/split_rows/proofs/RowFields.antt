@@ -11,7 +11,8 @@ use borrow.Author.Tests.{eq-eqb}
 use Rattle.spec.specs.Choice.{if_then_else_}
 use Rattle.spec.specs.Text.{bytes, Field, digitLimit, digits, leadingZero, value, numeral}
 use Rattle.spec.specs.Reading.{Seen, right, wrong, badForm, badRange, seen, insist, Range, below, inRange, allInRange, withNumeral, numerals, ranged, numbers}
-use Rattle.spec.specs.Split.{Header, Row, rowOf, startGiven, startRange, mayBeEmpty, emptyFault, postRange, postField, rowLine}
+use Rattle.spec.specs.Split.{Row, rowOf, startGiven, startRange, mayBeEmpty, emptyFault, postRange, postField, rowLine}
+use Rattle.spec.specs.declared.Header.{Header}
 use Rattle.spec.specs.Words.{takesStart}
 use Rattle.spec.specs.declared.Purpose.{Purpose}
 use Rattle.spec.specs.declared.Purpose.the-variants.{Check, Fill}

@@ -8,7 +8,8 @@ use lib.ListN.{length}
 use Rattle.spec.specs.Choice.{if_then_else_}
 use Rattle.spec.specs.Text.{lines, Field}
 use Rattle.spec.specs.Reading.{splitSheet, Out, stop, Place, Seen, right, wrong, badRange, insist, below, inRange, allInRange, passed, readLine}
-use Rattle.spec.specs.Split.{Header, Row, rowOf, startRange, mayBeEmpty, emptyFault}
+use Rattle.spec.specs.Split.{Row, rowOf, startRange, mayBeEmpty, emptyFault}
+use Rattle.spec.specs.declared.Header.{Header}
 use Rattle.spec.specs.declared.Purpose.{Purpose}
 use Rattle.spec.specs.declared.Refusal.the-variants.{SplitForm, SplitRange}
 use Rattle.spec.specs.declared.Word.{Word}

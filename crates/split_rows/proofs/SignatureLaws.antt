@@ -9,7 +9,8 @@ use lib.ListN.{length, getD}
 use Rattle.spec.specs.Choice.{if_then_else_}
 use Rattle.spec.specs.Text.{Field, lines}
 use Rattle.spec.specs.Reading.{splitSheet, stop, on, right, wrong, badRange, seen, Range, below, inRange, allInRange, numbers, form, passed, readLine}
-use Rattle.spec.specs.Split.{Header, signatureOf, signatureLine}
+use Rattle.spec.specs.Split.{signatureOf, signatureLine}
+use Rattle.spec.specs.declared.Header.{Header}
 use Rattle.spec.specs.declared.Refusal.the-variants.{SplitForm, SplitRange}
 use Rattle.lexer.specs.Cursors.{rest, placeAt}
 use Rattle.lexer.specs.Numbers.{numbersAt}

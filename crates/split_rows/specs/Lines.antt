@@ -4,7 +4,9 @@ use Prim.Native.Nat.{ℕ}
 use Rattle.spec.specs.Choice.{if_then_else_}
 use Rattle.spec.specs.Text.{Field}
 use Rattle.spec.specs.Reading.{Seen, below, inRange, allInRange}
-use Rattle.spec.specs.Split.{Header, Signature, Row, startRange, mayBeEmpty, rowLine}
+use Rattle.spec.specs.Split.{Row, startRange, mayBeEmpty, rowLine}
+use Rattle.spec.specs.declared.Signature.{Signature}
+use Rattle.spec.specs.declared.Header.{Header}
 use Rattle.spec.specs.declared.Purpose.{Purpose}
 use Rattle.spec.specs.declared.Refusal.the-variants.{SplitRange}
 use Rattle.spec.specs.declared.Word.{Word}
@@ -15,15 +17,11 @@ use Rattle.split_starts.specs.Starts.{startTold, emptyRefusal}
 use Rattle.split_rows.specs.declared.rows.Row.{Row as RowNumbers}
 use Rattle.split_rows.specs.declared.rows.RowRead.{RowRead}
 use Rattle.split_rows.specs.declared.rows.RowRead.the-variants as row-read
-use Rattle.split_rows.specs.declared.signatures.Signature.{Signature as SignatureNumbers}
 
 -- ------------------------------------------------------------------ what the code reads, as document 01 has it
 
 unfoldable pub rowTold : RowNumbers → Row
 rowTold r = record { type = r .typed; post = r .post; start = startTold (r .start) }
-
-unfoldable pub signatureTold : SignatureNumbers → Signature
-signatureTold g = record { before = g .before; argument = g .argument; after = g .after; result = g .result }
 
 -- ------------------------------------------------------------------ rows
 

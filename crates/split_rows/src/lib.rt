@@ -6,6 +6,5 @@ mod signatures;
 pub use rows::Row;
 pub use rows::RowRead;
 pub use rows::row_line;
-pub use signatures::Signature;
 pub use signatures::SignatureRead;
 pub use signatures::signature_line;

@@ -1,5 +1,6 @@
 // The line of a step in a split sheet, its row: `t,m,s`.
 use lexer::Cursor;
+use spec::Header;
 use spec::MapNumber;
 use spec::Purpose;
 use spec::Refusal;
@@ -15,11 +16,9 @@ use split_starts::RowStart;
 use split_starts::empty_refusal;
 use split_starts::may_be_empty;
 use split_starts::start_limit;
-use workspace::Header;
 ghost use mathlib.Core.Path.{_≡_};
 ghost use Rattle.spec.specs.Reading.{splitSheet, readLine};
 ghost use Rattle.lexer.specs.Cursors.{placeAt};
-ghost use Rattle.workspace.specs.Sheets.{headerTold};
 ghost use Rattle.split_rows.specs.Lines.{wordLine, rowMade, rowRanged};
 ghost use Rattle.split_rows.specs.Answers.{AtRow, RowAnswer};
 
@@ -49,7 +48,7 @@ fn row_with(typed: u32, post: u32, start: RowStart) -> Row
 
 // A row whose numbers are in their ranges, and which has a start where the sheet wants one.
 fn row_of(line: u32, row: Row, word: Word, header: Header, next: Cursor) -> RowRead
-    ensures { λ r. ⌜ r ≡ rowRanged line row word (headerTold header) next ⌝ }
+    ensures { λ r. ⌜ r ≡ rowRanged line row word header next ⌝ }
 {
     let typed = row.typed;
     let post = row.post;
@@ -83,7 +82,7 @@ pub fn row_line(
     header: Header,
 ) -> RowRead
     requires { ⌜ AtRow (now text) cursor header ⌝ }
-    ensures { λ r. ⌜ RowAnswer (now (text .entry)) (readLine splitSheet (wordLine purpose (headerTold header) word) (placeAt (now (text .entry)) cursor)) r ⌝ }
+    ensures { λ r. ⌜ RowAnswer (now (text .entry)) (readLine splitSheet (wordLine purpose header word) (placeAt (now (text .entry)) cursor)) r ⌝ }
 {
     if cursor.at_end(text) {
         return RowRead::Refused(Refusal::SplitLines(cursor.line));

@@ -1,24 +1,16 @@
 // The line of a procedure in a split sheet, its signature: `before,argument,after,result`.
 use lexer::Cursor;
 use lexer::Numbers;
+use spec::Header;
 use spec::MapNumber;
 use spec::Refusal;
+use spec::Signature;
 use spec::TypeNumber;
 use split_fields::both_below;
-use workspace::Header;
 ghost use Rattle.spec.specs.Reading.{splitSheet, readLine};
 ghost use Rattle.spec.specs.Split.{signatureLine};
 ghost use Rattle.lexer.specs.Cursors.{placeAt};
-ghost use Rattle.workspace.specs.Sheets.{headerTold};
 ghost use Rattle.split_rows.specs.Answers.{AtRow, SignatureAnswer};
-
-// The map and the type that a procedure asks for, and those that it leaves.
-pub struct Signature {
-    pub before: MapNumber,
-    pub argument: TypeNumber,
-    pub after: MapNumber,
-    pub result: TypeNumber,
-}
 
 // A signature and the cursor behind its line, or the reason to stop.
 pub enum SignatureRead {
@@ -29,7 +21,7 @@ pub enum SignatureRead {
 // The line of a procedure, at a cursor.
 pub fn signature_line(text: &[u8], cursor: Cursor, header: Header) -> SignatureRead
     requires { ⌜ AtRow (now text) cursor header ⌝ }
-    ensures { λ r. ⌜ SignatureAnswer (now (text .entry)) (readLine splitSheet (signatureLine (headerTold header)) (placeAt (now (text .entry)) cursor)) r ⌝ }
+    ensures { λ r. ⌜ SignatureAnswer (now (text .entry)) (readLine splitSheet (signatureLine header) (placeAt (now (text .entry)) cursor)) r ⌝ }
 {
     if cursor.at_end(text) {
         return SignatureRead::Refused(Refusal::SplitLines(cursor.line));

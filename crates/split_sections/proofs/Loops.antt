@@ -8,7 +8,9 @@ use lib.ListN.{length, getD, set, take, drop, length-drop}
 use lib.Seq.{length-take-le}
 use Rattle.spec.specs.Text.{Field}
 use Rattle.spec.specs.Reading.{splitSheet, stop, on, Seen, Place, readLine, readLines}
-use Rattle.spec.specs.Split.{Map, Header, Signature}
+use Rattle.spec.specs.Split.{Map}
+use Rattle.spec.specs.declared.Signature.{Signature}
+use Rattle.spec.specs.declared.Header.{Header}
 use Rattle.spec.specs.declared.Purpose.{Purpose}
 use Rattle.spec.specs.declared.Refusal.{Refusal}
 use Rattle.spec.specs.declared.Word.{Word}

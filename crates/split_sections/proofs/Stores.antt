@@ -7,7 +7,8 @@ use native.Mathlib.Omega.{arith}
 use native.Mathlib.Nat.{eq-or-lt-of-le}
 use lib.ListN.{length, getD, take, drop, replicate, set, length-set, length-map, length-append, length-drop, List·getD-append}
 use lib.Seq.{getD-take, getD-drop, length-take-le, getD-append-add, getD-append-seam}
-use Rattle.spec.specs.Split.{Map, Signature}
+use Rattle.spec.specs.Split.{Map}
+use Rattle.spec.specs.declared.Signature.{Signature}
 use Rattle.workspace.specs.Layout.{sigBeforesAt, sigArgumentsAt, sigAftersAt, sigResultsAt, mapsAt, stride, emptyRowAt, workSize}
 use Rattle.workspace.specs.Region.{Region, ChangedWithin}
 use Rattle.workspace.proofs.Region.{region-empty, region-apart, column-push, region-kept, changed-store, changed-then}

@@ -6,7 +6,8 @@ use lib.ListN.{replicate}
 use Rattle.spec.specs.Text.{Field}
 use Rattle.spec.specs.Reading.{splitSheet, stop, on, Seen, Place, readLine, readLines}
 use Rattle.spec.specs.Expression.{Step}
-use Rattle.spec.specs.Split.{Header, typeLine, typeLines, mapLine, signatureLine, rowLine}
+use Rattle.spec.specs.Split.{typeLine, typeLines, mapLine, signatureLine, rowLine}
+use Rattle.spec.specs.declared.Header.{Header}
 use Rattle.spec.specs.declared.Purpose.{Purpose}
 use Rattle.spec.specs.declared.Refusal.{Refusal}
 use Rattle.lexer.specs.Cursors.{Placed, placeAt}

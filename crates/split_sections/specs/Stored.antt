@@ -4,7 +4,8 @@ use mathlib.Core.List.{List, [], map}
 use Prim.Native.Nat.{ℕ, _+_, _*_, _<_, _≤_}
 use lib.ListN.{length, getD, set, replicate}
 use Rattle.spec.specs.Reading.{splitSheet, Out, stop, on, Place, readLines}
-use Rattle.spec.specs.Split.{Map, Signature, Row, typeLines, mapLine, signatureLine, rowLine}
+use Rattle.spec.specs.Split.{Map, Row, typeLines, mapLine, signatureLine, rowLine}
+use Rattle.spec.specs.declared.Signature.{Signature}
 use Rattle.spec.specs.declared.Purpose.{Purpose}
 use Rattle.spec.specs.declared.TypeLine.{TypeLine}
 use Rattle.lexer.specs.Cursors.{Placed, placeAt}
@@ -13,10 +14,10 @@ use Rattle.workspace.specs.Layout.{rowTypesAt, presAt, kindsAt, lineAt, sigBefo
 use Rattle.workspace.specs.Region.{Region, ChangedWithin}
 use Rattle.workspace.specs.Holds.{startNumber}
 use Rattle.workspace.specs.Steps.{stepsFrom}
-use Rattle.workspace.specs.declared.Header.{Header}
+use Rattle.spec.specs.declared.Header.{Header}
 use Rattle.split_fields.specs.declared.LinesRead.{LinesRead}
 use Rattle.split_fields.specs.declared.LinesRead.the-variants as lines-read
-use Rattle.workspace.specs.Sheets.{headerTold, Small}
+use Rattle.workspace.specs.Sheets.{Small}
 use Rattle.split_fields.specs.Answers.{SplitCursor}
 
 -- three numbers of each entry, in three columns with room for so many rows, one behind the other
@@ -84,19 +85,19 @@ pub record LinesStored {A : Type 0} (a b n : ℕ) (Stored : List ℕ → List A 
 -- the type lines from a cursor on
 abbrev pub TypesRead : List ℕ → Cursor → Header → (w w′ : List ℕ) → LinesRead → Type 0
 TypesRead text c h w w′ answer =
-    LinesStored kindsAt lineAt (h .types) HoldsTypes text (readLines splitSheet (typeLines (headerTold h) 0 (h .types)) (placeAt text c)) w w′ answer
+    LinesStored kindsAt lineAt (h .types) HoldsTypes text (readLines splitSheet (typeLines h 0 (h .types)) (placeAt text c)) w w′ answer
 
 -- the map lines
 abbrev pub MapsRead : List ℕ → Cursor → Header → (w w′ : List ℕ) → LinesRead → Type 0
 MapsRead text c h w w′ answer =
-    LinesStored mapsAt workSize (h .maps) (HoldsMaps (h .locations)) text (readLines splitSheet (replicate (h .maps) (mapLine (headerTold h))) (placeAt text c)) w w′ answer
+    LinesStored mapsAt workSize (h .maps) (HoldsMaps (h .locations)) text (readLines splitSheet (replicate (h .maps) (mapLine h)) (placeAt text c)) w w′ answer
 
 -- the signature lines of k procedures
 abbrev pub SignaturesRead : List ℕ → Cursor → Header → (k : ℕ) → (w w′ : List ℕ) → LinesRead → Type 0
 SignaturesRead text c h k w w′ answer =
-    LinesStored sigBeforesAt (sigResultsAt + 16) k HoldsSignatures text (readLines splitSheet (replicate k (signatureLine (headerTold h))) (placeAt text c)) w w′ answer
+    LinesStored sigBeforesAt (sigResultsAt + 16) k HoldsSignatures text (readLines splitSheet (replicate k (signatureLine h)) (placeAt text c)) w w′ answer
 
 -- the rows of the first n steps in the work space
 abbrev pub RowsRead : Purpose → List ℕ → Cursor → Header → (n : ℕ) → (w w′ : List ℕ) → LinesRead → Type 0
 RowsRead purpose text c h n w w′ answer =
-    LinesStored rowTypesAt presAt n HoldsRows text (readLines splitSheet (map (rowLine purpose (headerTold h)) (stepsFrom w 0 n)) (placeAt text c)) w w′ answer
+    LinesStored rowTypesAt presAt n HoldsRows text (readLines splitSheet (map (rowLine purpose h) (stepsFrom w 0 n)) (placeAt text c)) w w′ answer

@@ -1,9 +1,9 @@
 // The map lines of the split sheet, into the work space, and the empty map behind them.
 use lexer::Cursor;
+use spec::Header;
 use split_fields::LinesRead;
 use split_types::map_line;
 use workspace::EMPTY_ROW;
-use workspace::Header;
 use workspace::MAPS;
 use workspace::STRIDE;
 ghost use mathlib.Core.Path.{_≡_};

@@ -1,12 +1,12 @@
 // The step lines of the split sheet, into the work space.
 use lexer::Cursor;
+use spec::Header;
 use spec::Purpose;
 use split_fields::LinesRead;
 use split_rows::Row;
 use split_rows::RowRead;
 use split_rows::row_line;
 use split_starts::start_number;
-use workspace::Header;
 use workspace::POSTS;
 use workspace::ROW_TYPES;
 use workspace::STARTS;

@@ -1,10 +1,10 @@
 // The signature lines of the split sheet, into the work space.
 use lexer::Cursor;
+use spec::Header;
+use spec::Signature;
 use split_fields::LinesRead;
-use split_rows::Signature;
 use split_rows::SignatureRead;
 use split_rows::signature_line;
-use workspace::Header;
 use workspace::SIG_AFTERS;
 use workspace::SIG_ARGUMENTS;
 use workspace::SIG_BEFORES;
@@ -13,13 +13,12 @@ ghost use mathlib.Core.Path.{_≡_};
 ghost use Prim.Native.Nat.{_<_};
 ghost use lib.ListN.{length};
 ghost use Rattle.workspace.specs.Layout.{workSize};
-ghost use Rattle.split_rows.specs.Lines.{signatureTold};
 ghost use Rattle.split_sections.specs.Stored.{StoringSignatures, signed, SignaturesRead};
 
 // Stores a signature in the four columns of signatures.
 fn store_signature(work: &mut [u32], f: usize, signature: Signature)
     requires { ⌜ (length (now work) ≡ workSize) × (f < 16) ⌝ }
-    ensures { λ _. ⌜ now (work .exit) ≡ signed (now (work .entry)) f (signatureTold signature) ⌝ }
+    ensures { λ _. ⌜ now (work .exit) ≡ signed (now (work .entry)) f signature ⌝ }
 {
     let before = signature.before;
     let argument = signature.argument;

@@ -1,11 +1,11 @@
 // The type lines of the split sheet, into the work space.
 use lexer::Cursor;
+use spec::Header;
 use spec::TypeLine;
 use split_fields::LinesRead;
 use split_types::TypeRead;
 use split_types::type_line;
 use workspace::FIRSTS;
-use workspace::Header;
 use workspace::KINDS;
 use workspace::SECONDS;
 ghost use mathlib.Core.Path.{_≡_};

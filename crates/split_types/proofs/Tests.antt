@@ -6,7 +6,8 @@ use Prim.Native.Nat.{ℕ, zero, suc}
 use native.Mathlib.Omega.{arith}
 use borrow.Author.Tests.{le-leb, lt-leb, le-ltb}
 use Rattle.spec.specs.Reading.{Range, _to_, below, inRange, allInRange}
-use Rattle.spec.specs.Split.{Header, refOf, lockOf, outRange, tidOf, semOf, rwlockOf}
+use Rattle.spec.specs.Split.{refOf, lockOf, outRange, tidOf, semOf, rwlockOf}
+use Rattle.spec.specs.declared.Header.{Header}
 use Rattle.spec.specs.declared.Heading.{Heading}
 use Rattle.spec.specs.declared.Heading.the-variants.{C, C2, C3}
 use Rattle.spec.specs.declared.TypeLine.{TypeLine}

@@ -9,7 +9,8 @@ use lib.ListN.{length, getD}
 use Rattle.spec.specs.Choice.{if_then_else_}
 use Rattle.spec.specs.Text.{Field, lines}
 use Rattle.spec.specs.Reading.{splitSheet, stop, right, wrong, badForm, badRange, seen, Range, _to_, below, allInRange, numerals, ranged, numbers, form, faulty, passed, nextLine, readLine}
-use Rattle.spec.specs.Split.{Header, refOf, lockOf, outRange, tidOf, semOf, rwlockOf, typeLine}
+use Rattle.spec.specs.Split.{refOf, lockOf, outRange, tidOf, semOf, rwlockOf, typeLine}
+use Rattle.spec.specs.declared.Header.{Header}
 use Rattle.spec.specs.declared.Heading.{Heading}
 use Rattle.spec.specs.declared.Heading.the-variants.{C, C2, C3}
 use Rattle.spec.specs.declared.Refusal.the-variants.{SplitForm, SplitRange}

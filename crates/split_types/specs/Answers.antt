@@ -8,7 +8,7 @@ use Rattle.spec.specs.Split.{Map}
 use Rattle.spec.specs.declared.TypeLine.{TypeLine}
 use Rattle.lexer.specs.Cursors.{Placed, placeAt}
 use Rattle.lexer.specs.declared.Cursor.{Cursor}
-use Rattle.workspace.specs.declared.Header.{Header as HeaderRead}
+use Rattle.spec.specs.declared.Header.{Header}
 use Rattle.workspace.specs.Sheets.{Small}
 use Rattle.split_fields.specs.Answers.{SplitCursor}
 use Rattle.split_fields.specs.declared.LinesRead.{LinesRead}
@@ -17,7 +17,7 @@ use Rattle.split_types.specs.declared.types.TypeRead.{TypeRead}
 use Rattle.split_types.specs.declared.types.TypeRead.the-variants as type-read
 
 -- a cursor where the line of the type with the number own may stand, in a sheet with this header
-pub record AtType (text : List ℕ) (c : Cursor) (h : HeaderRead) (own : ℕ) : Type 0 where
+pub record AtType (text : List ℕ) (c : Cursor) (h : Header) (own : ℕ) : Type 0 where
   pub reading : SplitCursor text c
   pub small : Small h
   pub numbered : own < 64

@@ -5,7 +5,8 @@ use lib.ListN.{replicate}
 use Rattle.spec.specs.Choice.{if_then_else_}
 use Rattle.spec.specs.Text.{Field}
 use Rattle.spec.specs.Reading.{Seen, right, wrong, badForm, badRange, Range, _to_, below, allInRange, numbers}
-use Rattle.spec.specs.Split.{Map, Header, refOf, lockOf, outRange, tidOf, semOf, rwlockOf}
+use Rattle.spec.specs.Split.{Map, refOf, lockOf, outRange, tidOf, semOf, rwlockOf}
+use Rattle.spec.specs.declared.Header.{Header}
 use Rattle.spec.specs.declared.Heading.{Heading}
 use Rattle.spec.specs.declared.TypeLine.{TypeLine}
 use Rattle.spec.specs.declared.TypeLine.the-variants as type-line

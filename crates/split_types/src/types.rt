@@ -1,6 +1,7 @@
 // The type line of a split sheet.
 use lexer::Cursor;
 use lexer::Numbers;
+use spec::Header;
 use spec::Heading;
 use spec::Location;
 use spec::MapNumber;
@@ -11,14 +12,12 @@ use split_fields::Head;
 use split_fields::both_below;
 use split_fields::first_field;
 use vocabulary::TypeWord;
-use workspace::Header;
 ghost use mathlib.Core.Path.{_≡_};
 ghost use mathlib.Core.List.{[], _∷_};
 ghost use Rattle.spec.specs.Reading.{splitSheet, below, readLine};
 ghost use Rattle.spec.specs.Split.{typeLine};
 ghost use Rattle.spec.specs.declared.Heading.the-variants.{C2};
 ghost use Rattle.lexer.specs.Cursors.{placeAt};
-ghost use Rattle.workspace.specs.Sheets.{headerTold};
 ghost use Rattle.split_types.specs.Lines.{rangedType, lockSeen, typeSeen};
 ghost use Rattle.split_types.specs.Answers.{AtType, TypeAnswer};
 
@@ -69,7 +68,7 @@ fn lock_of(first: u32, second: u32, heading: Heading, maps: usize) -> TypeSeen
 
 // The type that a word and two numbers make, each number in its range. Where a line shows 0, 0 is the one number.
 fn type_of(kind: TypeWord, first: u32, second: u32, own: usize, header: Header) -> TypeSeen
-    ensures { λ r. ⌜ r ≡ typeSeen kind (headerTold header) own (first ∷ second ∷ []) ⌝ }
+    ensures { λ r. ⌜ r ≡ typeSeen kind header own (first ∷ second ∷ []) ⌝ }
 {
     let locations = header.locations;
     let maps = header.maps;
@@ -96,7 +95,7 @@ fn type_of(kind: TypeWord, first: u32, second: u32, own: usize, header: Header) 
 // The line of the type with the number `own`, at a cursor.
 pub fn type_line(text: &[u8], cursor: Cursor, own: usize, header: Header) -> TypeRead
     requires { ⌜ AtType (now text) cursor header own ⌝ }
-    ensures { λ r. ⌜ TypeAnswer (now (text .entry)) (readLine splitSheet (typeLine (headerTold header) own) (placeAt (now (text .entry)) cursor)) r ⌝ }
+    ensures { λ r. ⌜ TypeAnswer (now (text .entry)) (readLine splitSheet (typeLine header own) (placeAt (now (text .entry)) cursor)) r ⌝ }
 {
     if cursor.at_end(text) {
         return TypeRead::Refused(Refusal::SplitLines(cursor.line));

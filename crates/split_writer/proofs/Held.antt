@@ -6,7 +6,9 @@ use Prim.Native.Nat.{ℕ, zero, suc, _+_, _*_, _≤_, _<_}
 use native.Mathlib.Omega.{arith}
 use lib.ListN.{length, getD, take, drop, length-map}
 use borrow.Author.Tests.{ne-eqb}
-use Rattle.spec.specs.Split.{Header, Signature, noSignature, Row, Split, noRow}
+use Rattle.spec.specs.Split.{noSignature, Row, Split, noRow}
+use Rattle.spec.specs.declared.Signature.{Signature}
+use Rattle.spec.specs.declared.Header.{Header}
 use Rattle.spec.specs.Conditions.{typeAt}
 use Rattle.spec.specs.declared.MapNumber.{MapNumber}
 use Rattle.spec.specs.declared.TypeLine.the-variants.{Int}
@@ -14,8 +16,6 @@ use Rattle.workspace.specs.Layout.{rowTypesAt, postsAt, startsAt, sigBeforesAt,
 use Rattle.workspace.specs.Holds.{startNumber}
 use Rattle.workspace.proofs.Region.{column, region-part}
 use Rattle.workspace.proofs.Shown.{type-shown}
-use Rattle.workspace.specs.Sheets.{headerTold}
-use Rattle.workspace.specs.declared.Header.{Header as HeaderRead}
 use Rattle.split_writer.specs.Stored.{inOrder, typeStored, mapIn, signatureIn, startStored, rowIn, splitIn}
 use Rattle.split_writer.specs.Contract.{HoldsSheet}
 
@@ -37,7 +37,7 @@ unfolding startStored startNumber
 start-told none few = refl
 start-told (some m) few = rw (ne-eqb (m .0) emptyMap (λ e. omega (arith, few m refl)))
 
-module _ {w : List ℕ} {header : HeaderRead} {procedures steps : ℕ} {S : Split} (K : HoldsSheet w header procedures steps S) where
+module _ {w : List ℕ} {header : Header} {procedures steps : ℕ} {S : Split} (K : HoldsSheet w header procedures steps S) where
   type-held : (t : ℕ) → t < length (S .types) → typeStored w t ≡ getD (S .types) t Int
   unfolding typeStored typeAt
   type-held t h = type-shown w S (K .program) (K .split) (K .inRange) (record { 0 = t }) h
@@ -74,7 +74,7 @@ module _ {w : List ℕ} {header : HeaderRead} {procedures steps : ℕ} {S : Spli
       let start = ap startStored number ∙ start-told (r .start) few in
       λ k. record { type = record { 0 = typed k }; post = record { 0 = left k }; start = start k }
 
-  pub split-held : splitIn (headerTold header) procedures steps w ≡ S
+  pub split-held : splitIn header procedures steps w ≡ S
   unfolding splitIn
   split-held =
       let R = K .inRange in
@@ -88,11 +88,10 @@ module _ {w : List ℕ} {header : HeaderRead} {procedures steps : ℕ} {S : Spli
 
   -- ---------------------------------------------------------------- numbers that the work space has room for
 
-  head : (f : Header → ℕ) → f (S .header) ≡ f (headerTold header)
+  head : (f : Header → ℕ) → f (S .header) ≡ f header
   head f = ap f (K .headed)
 
   pub header-small : (header .locations < 4294967296) × (header .types < 4294967296) × (header .maps < 4294967296)
-  unfolding headerTold
   header-small = (
     omega (arith, head (λ H. H .locations), K .inRange .locations),
     omega (arith, head (λ H. H .types), K .inRange .typesFew),
@@ -100,7 +99,6 @@ module _ {w : List ℕ} {header : HeaderRead} {procedures steps : ℕ} {S : Spli
   )
 
   pub maps-stand : (1 ≤ header .locations) × (header .locations ≤ 16) × (mapsAt + stride * header .maps ≤ length w)
-  unfolding headerTold
   maps-stand = (
     omega (arith, head (λ H. H .locations), K .inRange .locations),
     omega (arith, head (λ H. H .locations), K .inRange .locations),

@@ -8,7 +8,7 @@ use lib.ListN.{length, getD, take, drop, length-drop}
 use lib.Seq.{length-take-le}
 use borrow.Author.Tests.{eq-eqb, ne-eqb}
 use Rattle.spec.specs.Text.{bytes, Field}
-use Rattle.spec.specs.Split.{Header}
+use Rattle.spec.specs.declared.Header.{Header}
 use Rattle.spec.specs.declared.Heading.{Heading}
 use Rattle.spec.specs.declared.Heading.the-variants.{C, C2, C3}
 use Rattle.spec.specs.declared.Purpose.the-variants.{Check}
@@ -18,8 +18,6 @@ use Rattle.spec.specs.declared.Location.{Location}
 use Rattle.spec.specs.declared.TypeLine.{TypeLine}
 use Rattle.spec.specs.declared.TypeLine.the-variants.{Int, Ref, Lock, Tid, Sem, Rwlock}
 use Rattle.workspace.specs.Layout.{rowTypesAt, postsAt, startsAt, sigBeforesAt, sigArgumentsAt, sigAftersAt, sigResultsAt, mapsAt, stride, emptyMap}
-use Rattle.workspace.specs.Sheets.{headerTold}
-use Rattle.workspace.specs.declared.Header.{Header as HeaderRead}
 use Rattle.written.specs.Text.{decimal, line, text}
 use Rattle.written.specs.Sheet.{headingName, headerNumbers, headerFields, outNumber, typeFields, mapFields, signatureFields, postShown, startShown, rowFields, splitLines, written}
 use Rattle.written.proofs.Lines.{text-append}
@@ -57,20 +55,20 @@ module _ (locations : ℕ) (w : List ℕ) where
 
 -- ------------------------------------------------------------------ the header
 
-module _ (h : HeaderRead) where
-  pub plain-header-parts : h .heading ≡ C → text (headerFields (headerTold h) ∷ [])
+module _ (h : Header) where
+  pub plain-header-parts : h .heading ≡ C → text (headerFields h ∷ [])
       ≡ bytes "C," ++ line (map decimal (h .denominator ∷ h .locations ∷ h .types ∷ h .maps ∷ [])) []
-  unfolding bytes line text headerTold headingName headerNumbers headerFields
+  unfolding bytes line text headingName headerNumbers headerFields
   plain-header-parts e = rw e
 
-  pub started-header-parts : h .heading ≡ C2 → text (headerFields (headerTold h) ∷ [])
+  pub started-header-parts : h .heading ≡ C2 → text (headerFields h ∷ [])
       ≡ bytes "C2," ++ line (map decimal (h .denominator ∷ h .locations ∷ h .types ∷ h .maps ∷ h .start .0 ∷ [])) []
-  unfolding bytes line text headerTold headingName headerNumbers headerFields
+  unfolding bytes line text headingName headerNumbers headerFields
   started-header-parts e = rw e
 
-  pub in-out-header-parts : h .heading ≡ C3 → text (headerFields (headerTold h) ∷ [])
+  pub in-out-header-parts : h .heading ≡ C3 → text (headerFields h ∷ [])
       ≡ bytes "C3," ++ line (map decimal (h .denominator ∷ h .locations ∷ h .types ∷ h .maps ∷ h .start .0 ∷ [])) []
-  unfolding bytes line text headerTold headingName headerNumbers headerFields
+  unfolding bytes line text headingName headerNumbers headerFields
   in-out-header-parts e = rw e
 
 -- ------------------------------------------------------------------ type lines

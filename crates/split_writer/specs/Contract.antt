@@ -7,8 +7,7 @@ use Rattle.spec.specs.Program.{Program}
 use Rattle.spec.specs.Split.{Split}
 use Rattle.spec.specs.Ranges.{InRange}
 use Rattle.workspace.specs.Holds.{HoldsSplit}
-use Rattle.workspace.specs.Sheets.{headerTold}
-use Rattle.workspace.specs.declared.Header.{Header}
+use Rattle.spec.specs.declared.Header.{Header}
 use Rattle.writer.specs.Buffer.{Written}
 use Rattle.written.specs.Sheet.{written}
 
@@ -18,7 +17,7 @@ pub record HoldsSheet (w : List ℕ) (header : Header) (procedures steps : ℕ) 
   pub program : Program
   pub inRange : InRange program S
   pub split : HoldsSplit w S
-  pub headed : S .header ≡ headerTold header
+  pub headed : S .header ≡ header
   pub proceduresCounted : length (program .procedures) ≡ procedures
   pub counted : length (program .steps) ≡ steps
   pub few : procedures ≤ 16

@@ -5,7 +5,9 @@ use Prim.Native.Nat.{ℕ, zero, suc, _+_, _*_}
 use lib.Dec.{eqb}
 use lib.ListN.{getD, take, drop}
 use Rattle.spec.specs.Choice.{if_then_else_}
-use Rattle.spec.specs.Split.{Map, Header, Signature, Row, Split}
+use Rattle.spec.specs.Split.{Map, Row, Split}
+use Rattle.spec.specs.declared.Signature.{Signature}
+use Rattle.spec.specs.declared.Header.{Header}
 use Rattle.spec.specs.declared.MapNumber.{MapNumber}
 use Rattle.spec.specs.declared.TypeLine.{TypeLine}
 use Rattle.workspace.specs.Layout.{rowTypesAt, postsAt, startsAt, sigBeforesAt, sigArgumentsAt, sigAftersAt, sigResultsAt, mapsAt, stride, emptyMap, typeAt}

@@ -1,10 +1,10 @@
 // Writing a whole split sheet: the split that the work space holds, line by line, into a lent buffer.
+use spec::Header;
 use spec::Heading;
 use spec::MapNumber;
 use spec::TypeLine;
 use spec::TypeNumber;
 use workspace::EMPTY_MAP;
-use workspace::Header;
 use workspace::MAPS;
 use workspace::POSTS;
 use workspace::ROW_TYPES;
@@ -24,7 +24,6 @@ ghost use mathlib.Core.List.{[], _∷_, _++_, map};
 ghost use Prim.Native.Nat.{_*_, _+_, _≤_, _<_};
 ghost use lib.ListN.{length};
 ghost use Rattle.workspace.specs.Layout.{startsAt, mapsAt, stride};
-ghost use Rattle.workspace.specs.Sheets.{headerTold};
 ghost use Rattle.written.specs.Text.{decimal, line, text};
 ghost use Rattle.writer.specs.Buffer.{Written};
 ghost use Rattle.written.specs.Sheet.{headerFields, outNumber, typeFields, mapFields, signatureFields, rowFields};
@@ -35,7 +34,7 @@ ghost use Rattle.split_writer.specs.Contract.{HoldsSome, SheetWritten};
 // Writes the header.
 fn write_header(buffer: &mut [u8], header: Header) -> usize
     requires { ⌜ (header .locations < 4294967296) × (header .types < 4294967296) × (header .maps < 4294967296) ⌝ }
-    ensures { λ r. ⌜ Written (now (buffer .entry)) (now (buffer .exit)) 0 (text (headerFields (headerTold header) ∷ [])) r ⌝ }
+    ensures { λ r. ⌜ Written (now (buffer .entry)) (now (buffer .exit)) 0 (text (headerFields header ∷ [])) r ⌝ }
 {
     let locations = header.locations as u32;
     let types = header.types as u32;

@@ -7,7 +7,8 @@ use mathlib.Core.Option.{none, some}
 use Prim.Native.Nat.{ℕ, _+_}
 use Rattle.spec.specs.Reading.{on, _>>=_}
 use Rattle.spec.specs.Expression.{Expr, leaf, unary, binary, Procedure}
-use Rattle.spec.specs.Split.{Map, Signature, Split}
+use Rattle.spec.specs.Split.{Map, Split}
+use Rattle.spec.specs.declared.Signature.{Signature}
 use Rattle.spec.specs.Conditions.{Condition, T, F, A, Env, conditionsBy, conditionsOf, procedureConditions}
 use Rattle.spec.specs.Sites.{Claim, numbered, judge, firstFalse, isType, only}
 use Rattle.spec.specs.Verdict.{four, returned}

@@ -1,10 +1,10 @@
 // The steps in line order. Each is judged once the map before it is known, and hands down the maps before its parts.
-use conditions::Ruling;
 use one_step::check_step;
 use spec::BinaryWord;
 use spec::MapNumber;
 use spec::Purpose;
 use spec::Refusal;
+use spec::Ruling;
 use spec::UnaryWord;
 use spec::Word;
 use views::cell;

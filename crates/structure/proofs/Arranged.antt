@@ -20,8 +20,8 @@ use Rattle.tree.specs.Items.{ProcRow, procRows, Variables, moreVariables, Holds
 use Rattle.tree.specs.Trees.{rootFirst, TreeAnswer, Structured}
 use Rattle.tree.specs.Outcomes.{Answers}
 use Rattle.structure.specs.Arranged.{arrangedOf, HoldsTree, Arrangeable, Arranged}
-use Rattle.tree.specs.declared.Outcome.{Outcome}
-use Rattle.tree.specs.declared.Outcome.the-variants as outcome
+use Rattle.spec.specs.declared.Ruling.{Ruling}
+use Rattle.spec.specs.declared.Ruling.the-variants as outcome
 use Rattle.tree.specs.declared.Found.the-variants as tree
 use Rattle.spec.specs.declared.Refusal.{Refusal}
 use Rattle.structure.specs.Scopes.{firstAt, unbound, Scopable, Scoped}
@@ -232,7 +232,7 @@ module _ (steps procs count last r : ℕ) (w w₁ : List ℕ) (D : Arrangeable s
       (all-sized ps top ∙ steps-counted)
       (stands 0 0 ps top columns)
 
-  module _ (w₃ : List ℕ) (o : Outcome) (q : Scoped steps count (set w₁ (procFirstsAt + count) r) w₃ o) where
+  module _ (w₃ : List ℕ) (o : Ruling) (q : Scoped steps count (set w₁ (procFirstsAt + count) r) w₃ o) where
     steps-kept : HoldsSteps w₃ (stepsAmong (st .items))
     steps-kept =
         subst (λ l. HoldsSteps w₃ (stepsAmong l)) (sym (lists .all))
@@ -261,7 +261,7 @@ module _ (steps procs count last r : ℕ) (w w₁ : List ℕ) (D : Arrangeable s
         scoped-by (scopes count ps top []) refl
         (judged steps count (set w₁ (procFirstsAt + count) r) ps top few-steps (D .few) (lists .counted) (all-sized ps top ∙ steps-counted) (stands 0 0 ps top columns))
 
-pub arranged : (steps procs count last r : ℕ) (w w₁ w₃ : List ℕ) (o : Outcome) → Arrangeable steps procs count w
+pub arranged : (steps procs count last r : ℕ) (w w₁ w₃ : List ℕ) (o : Ruling) → Arrangeable steps procs count w
     → Structured steps procs count last w w₁ (tree.At r) → Scoped steps count (set w₁ (procFirstsAt + count) r) w₃ o
     → Arranged steps procs count last w w₃ o
 arranged steps procs count last r w w₁ w₃ o D s q = record {

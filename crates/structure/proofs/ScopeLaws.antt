@@ -12,7 +12,7 @@ use Rattle.workspace.specs.Layout.{valuesAt, letsAt, workSize}
 use Rattle.workspace.specs.Region.{Region, ChangedWithin}
 use Rattle.workspace.proofs.Region.{region-empty, region-push, changed-nothing, changed-store, changed-then}
 use Rattle.workspace.specs.Steps.{valueAt}
-use Rattle.tree.specs.declared.Outcome.the-variants as outcome
+use Rattle.spec.specs.declared.Ruling.the-variants as outcome
 use Rattle.binders.specs.Judging.{noMark, judgeOf}
 use Rattle.binders.specs.declared.Judged.{Judged}
 use Rattle.binders.specs.declared.Judged.the-variants.{Bind, Store, Refused}
@@ -81,7 +81,7 @@ start count from to w t h l m = record {
 }
 
 module _ (count from to : ℕ) (w₀ w t₀ t : List ℕ) (k : ℕ) (s : ScopesSoFar count from to w₀ w t₀ t k) where
-  pub finish : to ≤ k → PartScoped count from to w₀ w t₀ t outcome.Passed
+  pub finish : to ≤ k → PartScoped count from to w₀ w t₀ t outcome.Met
   unfolding scopesFrom
   finish h =
       let e : to - k ≡ 0 = omega arith in

@@ -20,8 +20,8 @@ use Rattle.workspace.specs.Steps.{valueAt}
 use Rattle.tree.specs.Outcomes.{Answers}
 use Rattle.binders.specs.Judging.{noMark, judgeOf}
 use Rattle.structure.specs.Scopes.{unbound, Passing, storing, continued, scopesFrom, PartScoped, firstAt, withFront, followed, bodyScopes, BodyScopable, BodyScoped, scopesBehind, Scopable, Scoped}
-use Rattle.tree.specs.declared.Outcome.{Outcome}
-use Rattle.tree.specs.declared.Outcome.the-variants as outcome
+use Rattle.spec.specs.declared.Ruling.{Ruling}
+use Rattle.spec.specs.declared.Ruling.the-variants as outcome
 use Rattle.binders.specs.declared.Judged.{Judged}
 use Rattle.binders.specs.declared.Judged.the-variants.{Bind, Store, Refused}
 use Rattle.binders.proofs.JudgingLaws.{judge-kept}
@@ -37,7 +37,7 @@ module _ (count f : ℕ) (w t : List ℕ) (v b : ℕ) (hv : v ≡ getD w (procVa
     tableLong = refl;
   }
 
-  pub body-scoped : noMark ≤ b → (from to : ℕ) → from ≡ firstAt w f → to ≡ firstAt w (f + 1) → (w′ t₁ t′ : List ℕ) (r : Outcome) → t₁ ≡ set t v (procMark + f)
+  pub body-scoped : noMark ≤ b → (from to : ℕ) → from ≡ firstAt w f → to ≡ firstAt w (f + 1) → (w′ t₁ t′ : List ℕ) (r : Ruling) → t₁ ≡ set t v (procMark + f)
       → PartScoped count from to w w′ t₁ t′ r → BodyScoped count f w w′ t t′ r
   unfolding bodyScopes
   body-scoped l from to ef et w′ t₁ t′ r e x = record {
@@ -158,10 +158,10 @@ bodies-start n count w s = record {
   rest = ap (λ m. scopesBehind w n count m 0 unbound) (sym (sub-zero count)) ∙ sym (front-none (scopesBehind w n count (count - 0) 0 unbound));
 }
 
-no-refusal : {x : Refusal} {o : Outcome} → o ≡ outcome.Refused x → o ≡ outcome.Passed → ⊥
+no-refusal : {x : Refusal} {o : Ruling} → o ≡ outcome.Refused x → o ≡ outcome.Met → ⊥
 no-refusal p q = let z : _≡_ {A = ℕ} 0 1 = cc in omega arith
 
-same-refusal : {x y : Refusal} {o : Outcome} → o ≡ outcome.Refused x → o ≡ outcome.Refused y → x ≡ y
+same-refusal : {x y : Refusal} {o : Ruling} → o ≡ outcome.Refused x → o ≡ outcome.Refused y → x ≡ y
 same-refusal p q = cc
 
 module _ (n count : ℕ) (w₀ w t : List ℕ) (f : ℕ) (d : Scopable n count w₀) (s : BodiesSoFar n count w₀ w t f) where
@@ -189,7 +189,7 @@ module _ (n count : ℕ) (w₀ w t : List ℕ) (f : ℕ) (d : Scopable n count w
     unfolding scopesBehind
     one-more = let e : count - f ≡ suc (count - (f + 1)) = omega arith in rw e refl
 
-    module _ (w′ t′ : List ℕ) (r : Outcome) (x : BodyScoped count f w w′ t t′ r) where
+    module _ (w′ t′ : List ℕ) (r : Ruling) (x : BodyScoped count f w w′ t t′ r) where
       further : ChangedWithin (letsAt + 0) (letsAt + 256) w₀ w′
       further = changed-then (letsAt + 0) (letsAt + 256) (s .changed)
           (changed-wider (letsAt + 0) (letsAt + 256) (omega arith) (omega (arith, kept (f + 1), near)) (x .changed))
@@ -212,7 +212,7 @@ module _ (n count : ℕ) (w₀ w t : List ℕ) (f : ℕ) (d : Scopable n count w
         changed = further;
       }
 
-      passed-by : r ≡ outcome.Passed → (o : Out Passing) → bodyScopes w₀ count f t ≡ o → Found o → Sized (firstAt w₀ (f + 1) - firstAt w₀ f) o
+      passed-by : r ≡ outcome.Met → (o : Out Passing) → bodyScopes w₀ count f t ≡ o → Found o → Sized (firstAt w₀ (f + 1) - firstAt w₀ f) o
           → BodiesSoFar n count w₀ w′ t′ (f + 1)
       unfolding followed
       passed-by p (stop z) q a m = absurd (no-refusal a p)
@@ -232,7 +232,7 @@ module _ (n count : ℕ) (w₀ w t : List ℕ) (f : ℕ) (d : Scopable n count w
             ∙ ap (λ u. withFront (s .stored ++ (z .0)) (scopesBehind w₀ n count (count - (f + 1)) (f + 1) u)) (sym (a .1 .1));
       }
 
-      pub body-passes : r ≡ outcome.Passed → BodiesSoFar n count w₀ w′ t′ (f + 1)
+      pub body-passes : r ≡ outcome.Met → BodiesSoFar n count w₀ w′ t′ (f + 1)
       body-passes p = passed-by p (bodyScopes w₀ count f t) refl found-first (body-sized w₀ count f t)
 
   module _ (l : count ≤ f) (root : ℕ) (e : root ≡ firstAt w count) where
@@ -249,7 +249,7 @@ module _ (n count : ℕ) (w₀ w t : List ℕ) (f : ℕ) (d : Scopable n count w
     unfolding scopesBehind
     root-rest = let z : count - f ≡ 0 = omega arith in rw (z, all, root-at) refl
 
-    module _ (w′ t′ : List ℕ) (r : Outcome) (x : PartScoped count root n w w′ t t′ r) where
+    module _ (w′ t′ : List ℕ) (r : Ruling) (x : PartScoped count root n w w′ t t′ r) where
       abbrev RootFound : Out Passing → Type 0
       RootFound o = Answers (λ (p : Passing). Region w′ (letsAt + root) (p .0) × (t′ ≡ p .1)) r o
 

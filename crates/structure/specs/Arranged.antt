@@ -10,7 +10,7 @@ use Rattle.workspace.specs.Holds.{allEnds, allLets, firstSteps, HoldsSteps}
 use Rattle.workspace.specs.Region.{Region, ChangedWithin}
 use Rattle.tree.specs.Items.{ItemsStored}
 use Rattle.tree.specs.Outcomes.{Answers}
-use Rattle.tree.specs.declared.Outcome.{Outcome}
+use Rattle.spec.specs.declared.Ruling.{Ruling}
 
 -- the procedures and the root that lines list, with their variables in scope; `last` is the last line read
 unfoldable pub arrangedOf : (last count : ℕ) → List Item → Out (List Procedure × Expr)
@@ -32,7 +32,7 @@ pub record HoldsTree (w : List ℕ) (ps : List Procedure) (root : Expr) : Type 0
   pub procVars : Region w procVarsAt (map (λ (p : Procedure). p .parameter) ps)
   pub procFirsts : Region w procFirstsAt (firstSteps 0 ps)
 
-pub record Arranged (steps procs count last : ℕ) (w w′ : List ℕ) (r : Outcome) : Type 0 where
+pub record Arranged (steps procs count last : ℕ) (w w′ : List ℕ) (r : Ruling) : Type 0 where
   pub found : (st : ItemsStored steps procs w)
       → Answers (λ (t : List Procedure × Expr). HoldsTree w′ (t .0) (t .1) × HoldsSteps w′ (stepsAmong (st .items))) r (arrangedOf last count (st .items))
   pub changed : ChangedWithin endsAt rowTypesAt w w′

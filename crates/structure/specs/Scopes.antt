@@ -11,7 +11,7 @@ use Rattle.workspace.specs.Layout.{letsAt, procLinesAt, procVarsAt, procFirstsA
 use Rattle.workspace.specs.Region.{Region, ChangedWithin}
 use Rattle.workspace.specs.Steps.{valueAt}
 use Rattle.tree.specs.Outcomes.{Answers}
-use Rattle.tree.specs.declared.Outcome.{Outcome}
+use Rattle.spec.specs.declared.Ruling.{Ruling}
 use Rattle.binders.specs.Judging.{noMark, judgeOf}
 use Rattle.binders.specs.declared.Judged.{Judged}
 use Rattle.binders.specs.declared.Judged.the-variants.{Bind, Store, Refused}
@@ -42,7 +42,7 @@ scopesFrom w count (suc m) k t =
     continued (λ u. scopesFrom w count m (k + 1) u) k t (valueAt w k) (judgeOf w count k (getD t (valueAt w k) noMark))
 
 -- what judging the steps of one body or the root answers, and what it leaves in the work space and in the table
-pub record PartScoped (count from to : ℕ) (w w′ t t′ : List ℕ) (r : Outcome) : Type 0 where
+pub record PartScoped (count from to : ℕ) (w w′ t t′ : List ℕ) (r : Ruling) : Type 0 where
   pub found : Answers (λ (p : Passing). Region w′ (letsAt + from) (p .0) × (t′ ≡ p .1)) r (scopesFrom w count (to - from) from t)
   pub changed : ChangedWithin (letsAt + from) (letsAt + to) w w′
   pub tableLong : length t′ ≡ length t
@@ -78,7 +78,7 @@ pub record BodyScopable (count f : ℕ) (w t : List ℕ) : Type 0 where
   pub inTurn : firstAt w f ≤ firstAt w (f + 1)
   pub within : firstAt w (f + 1) ≤ 256
 
-pub record BodyScoped (count f : ℕ) (w w′ t t′ : List ℕ) (r : Outcome) : Type 0 where
+pub record BodyScoped (count f : ℕ) (w w′ t t′ : List ℕ) (r : Ruling) : Type 0 where
   pub found : Answers (λ (p : Passing). Region w′ (letsAt + firstAt w f) (p .0) × (t′ ≡ p .1)) r (bodyScopes w count f t)
   pub changed : ChangedWithin (letsAt + firstAt w f) (letsAt + firstAt w (f + 1)) w w′
   pub tableLong : length t′ ≡ length t
@@ -98,6 +98,6 @@ pub record Scopable (n count : ℕ) (w : List ℕ) : Type 0 where
   pub last : firstAt w count ≤ n
 
 -- what judging all of them answers, and what it leaves in the work space
-pub record Scoped (n count : ℕ) (w w′ : List ℕ) (r : Outcome) : Type 0 where
+pub record Scoped (n count : ℕ) (w w′ : List ℕ) (r : Ruling) : Type 0 where
   pub found : Answers (Region w′ letsAt) r (scopesBehind w n count count 0 unbound)
   pub changed : ChangedWithin letsAt (letsAt + 256) w w′

@@ -4,8 +4,8 @@ use binders::Judged;
 use binders::UNBOUND;
 use binders::judge;
 use spec::Refusal;
+use spec::Ruling;
 use tree::Found;
-use tree::Outcome;
 use workspace::LETS;
 use workspace::PROC_FIRSTS;
 use workspace::PROC_LINES;
@@ -36,7 +36,7 @@ fn bind(table: &mut [u32], v: usize, k: u32)
 }
 
 // The steps from index `from` to index `to`, judged in line order with a table; stores what each `var` means.
-fn scope_steps(work: &mut [u32], table: &mut [u32], count: usize, from: usize, to: usize) -> Outcome
+fn scope_steps(work: &mut [u32], table: &mut [u32], count: usize, from: usize, to: usize) -> Ruling
     requires { ⌜ (length (now work) ≡ workSize) × (length (now table) ≡ 256) × (from ≤ to) × (to ≤ 256) ⌝ }
     ensures { λ r. ⌜ PartScoped count from to (now (work .entry)) (now (work .exit)) (now (table .entry)) (now (table .exit)) r ⌝ }
 {
@@ -47,7 +47,7 @@ fn scope_steps(work: &mut [u32], table: &mut [u32], count: usize, from: usize, t
         let mut stored: u32 = 0;
         match judge(work, count, k, b) {
             Judged::Refused(refusal) => {
-                return Outcome::Refused(refusal);
+                return Ruling::Refused(refusal);
             }
             Judged::Bind => {
                 bind(table, v, k as u32);
@@ -59,18 +59,18 @@ fn scope_steps(work: &mut [u32], table: &mut [u32], count: usize, from: usize, t
         work[LETS + k] = stored;
         k += 1;
     }
-    Outcome::Passed
+    Ruling::Met
 }
 
 // The procedure f binds its variable in a table, and its body is judged.
-fn scope_body(work: &mut [u32], table: &mut [u32], count: usize, f: usize) -> Outcome
+fn scope_body(work: &mut [u32], table: &mut [u32], count: usize, f: usize) -> Ruling
     requires { ⌜ BodyScopable count f (now work) (now table) ⌝ }
     ensures { λ r. ⌜ BodyScoped count f (now (work .entry)) (now (work .exit)) (now (table .entry)) (now (table .exit)) r ⌝ }
 {
     let v = workspace::index(work[PROC_VARS + f]);
     if binder(table, v) < UNBOUND {
         let line = work[PROC_LINES + f];
-        return Outcome::Refused(Refusal::Rebound(line));
+        return Ruling::Refused(Refusal::Rebound(line));
     }
     let mark = PROC_MARK + f as u32;
     bind(table, v, mark);
@@ -81,7 +81,7 @@ fn scope_body(work: &mut [u32], table: &mut [u32], count: usize, f: usize) -> Ou
 
 // Whether each variable is bound once, by a let or a procedure, and used only in its scope, and each call names a procedure, judged
 // in line order; stores which let or procedure each `var` means.
-fn scopes(work: &mut [u32], n: usize, count: usize) -> Outcome
+fn scopes(work: &mut [u32], n: usize, count: usize) -> Ruling
     requires { ⌜ Scopable n count (now work) ⌝ }
     ensures { λ r. ⌜ Scoped n count (now (work .entry)) (now (work .exit)) r ⌝ }
 {
@@ -89,10 +89,10 @@ fn scopes(work: &mut [u32], n: usize, count: usize) -> Outcome
     let mut f: usize = 0;
     while f < count {
         match scope_body(work, &mut table, count, f) {
-            Outcome::Refused(refusal) => {
-                return Outcome::Refused(refusal);
+            Ruling::Refused(refusal) => {
+                return Ruling::Refused(refusal);
             }
-            Outcome::Passed => {}
+            Ruling::Met => {}
         }
         f += 1;
     }
@@ -102,12 +102,12 @@ fn scopes(work: &mut [u32], n: usize, count: usize) -> Outcome
 
 // Whether the lines stored list `count` procedures and a root, with their variables in scope; stores where steps end, where the root
 // begins, and which let or procedure each `var` means. `last` is the last line read.
-pub fn arrange(work: &mut [u32], steps: usize, procs: usize, count: usize, last: u32) -> Outcome
+pub fn arrange(work: &mut [u32], steps: usize, procs: usize, count: usize, last: u32) -> Ruling
     requires { ⌜ Arrangeable steps procs count (now work) ⌝ }
     ensures { λ r. ⌜ Arranged steps procs count last (now (work .entry)) (now (work .exit)) r ⌝ }
 {
     match tree::structure(work, steps, procs, count, last) {
-        Found::Refused(refusal) => Outcome::Refused(refusal),
+        Found::Refused(refusal) => Ruling::Refused(refusal),
         Found::At(root) => {
             work[PROC_FIRSTS + count] = root as u32;
             scopes(work, steps, count)

@@ -4,8 +4,8 @@ use mathlib.Core.Bool.{Bool, false}
 use mathlib.Core.List.{List, [], _∷_}
 use lib.Dec.{eqb}
 use Rattle.spec.specs.Choice.{if_then_else_}
-use Rattle.threads.specs.declared.State.{State}
-use Rattle.threads.specs.declared.State.the-variants.{Running, Finished, Joined}
+use Rattle.replay_theory.specs.declared.Status.{Status}
+use Rattle.replay_theory.specs.declared.Status.the-variants.{Running, Finished, Joined}
 use Rattle.threads.specs.declared.Record.{Record}
 use Rattle.threads.specs.declared.Found.{Found}
 use Rattle.threads.specs.declared.Found.the-variants.{At, Nothing}
@@ -13,7 +13,7 @@ use Rattle.threads.specs.declared.Found.the-variants.{At, Nothing}
 unfoldable pub noRecord : Record
 noRecord = record { state = Running; tid = 0 }
 
-unfoldable pub ifFinished : State → Bool → Bool
+unfoldable pub ifFinished : Status → Bool → Bool
 ifFinished Running b = false
 ifFinished Finished b = b
 ifFinished Joined b = false

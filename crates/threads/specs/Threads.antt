@@ -4,8 +4,8 @@ use mathlib.Core.Bool.{Bool, true, false}
 use lib.Dec.{leb, ltb}
 use lib.ListN.{getD, set, replicate}
 use Rattle.spec.specs.Choice.{if_then_else_}
-use Rattle.threads.specs.declared.State.{State}
-use Rattle.threads.specs.declared.State.the-variants.{Running, Finished, Joined}
+use Rattle.replay_theory.specs.declared.Status.{Status}
+use Rattle.replay_theory.specs.declared.Status.the-variants.{Running, Finished, Joined}
 use Rattle.threads.specs.declared.Threads.{Threads}
 use Rattle.threads.specs.Records.{noRecord}
 
@@ -20,7 +20,7 @@ spawned T tid =
     else T
 
 -- thread t keeps its identifier
-unfoldable pub turned : State → Threads → (t : ℕ) → Threads
+unfoldable pub turned : Status → Threads → (t : ℕ) → Threads
 turned s T t =
     if ltb t 16
     then record { records = set (T .records) t (record { state = s; tid = getD (T .records) t noRecord .tid }); count = T .count }
@@ -32,7 +32,7 @@ finished = turned Finished
 unfoldable pub joined : Threads → (t : ℕ) → Threads
 joined = turned Joined
 
-unfoldable pub isRunning : State → Bool
+unfoldable pub isRunning : Status → Bool
 isRunning Running = true
 isRunning Finished = false
 isRunning Joined = false

@@ -1,4 +1,5 @@
 // Thread records: each thread of a run is running, finished or joined, with the identifier that a join asks for.
+use replay_theory::Status;
 ghost use mathlib.Core.Path.{_≡_};
 ghost use Prim.Native.Nat.{_<_};
 ghost use Rattle.threads.specs.Records.{matching, lowest};
@@ -7,14 +8,8 @@ ghost use Rattle.threads.specs.Threads.{started, spawned as spawnedOf, t
 // The most threads of a run.
 pub const LIMIT: usize = 16;
 
-pub enum State {
-    Running,
-    Finished,
-    Joined,
-}
-
 pub struct Record {
-    pub state: State,
+    pub state: Status,
     pub tid: u32,
 }
 
@@ -24,13 +19,13 @@ pub enum Found {
     Nothing,
 }
 
-fn is_running(s: State) -> bool
+fn is_running(s: Status) -> bool
     ensures { λ b. ⌜ b ≡ isRunning s ⌝ }
 {
     match s {
-        State::Running => true,
-        State::Finished => false,
-        State::Joined => false,
+        Status::Running => true,
+        Status::Finished => false,
+        Status::Joined => false,
     }
 }
 
@@ -40,9 +35,9 @@ fn matching(r: Record, tid: u32) -> bool
 {
     let s = r.state;
     match s {
-        State::Running => false,
-        State::Finished => r.tid == tid,
-        State::Joined => false,
+        Status::Running => false,
+        Status::Finished => r.tid == tid,
+        Status::Joined => false,
     }
 }
 
@@ -80,7 +75,7 @@ impl Threads {
     {
         Threads {
             records: [Record {
-                state: State::Running,
+                state: Status::Running,
                 tid,
             }; 16],
             count: 1,
@@ -95,7 +90,7 @@ impl Threads {
         let mut next = self;
         if at < LIMIT {
             next.records[at] = Record {
-                state: State::Running,
+                state: Status::Running,
                 tid,
             };
             next.count = at + 1;
@@ -104,7 +99,7 @@ impl Threads {
     }
 
     // The record of thread t says so from now on; the thread keeps its identifier.
-    fn turned(self, t: usize, state: State) -> Threads
+    fn turned(self, t: usize, state: Status) -> Threads
         ensures { λ r. ⌜ r ≡ turned state self t ⌝ }
     {
         let mut next = self;
@@ -119,14 +114,14 @@ impl Threads {
     pub fn finished(self, t: usize) -> Threads
         ensures { λ r. ⌜ r ≡ finishedOf self t ⌝ }
     {
-        self.turned(t, State::Finished)
+        self.turned(t, Status::Finished)
     }
 
     // Thread t has been joined.
     pub fn joined(self, t: usize) -> Threads
         ensures { λ r. ⌜ r ≡ joinedOf self t ⌝ }
     {
-        self.turned(t, State::Joined)
+        self.turned(t, Status::Joined)
     }
 
     // Whether t is a thread that is running.

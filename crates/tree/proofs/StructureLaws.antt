@@ -22,7 +22,7 @@ use borrow.Author.Tests.{le-leb, lt-leb}
 use Rattle.spec.specs.Choice.{if_then_else_}
 use Rattle.spec.specs.declared.Refusal.the-variants.{ProgramLines}
 use Rattle.tree.specs.Trees.{nextOf, limitAt, breakLine, leftAt, ExpressionAnswer, ExpressionFound}
-use Rattle.tree.specs.declared.Outcome.the-variants as outcome
+use Rattle.spec.specs.declared.Ruling.the-variants as outcome
 use Rattle.tree.specs.declared.Next.the-variants.{Proc, Step, End}
 use Rattle.tree.specs.declared.Found.{Found}
 use Rattle.tree.specs.declared.Found.the-variants.{At, Refused}
@@ -297,6 +297,6 @@ module _ (w : List ℕ) (steps procs e j : ℕ) where
   unfolding leftAt
   left-step h q = sym (rw h (ap (λ k. outcome.Refused (ProgramLines k)) (sym q)))
 
-  pub left-none : nextOf w steps procs e j ≡ End → outcome.Passed ≡ leftAt w steps procs e j
+  pub left-none : nextOf w steps procs e j ≡ End → outcome.Met ≡ leftAt w steps procs e j
   unfolding leftAt
   left-none h = sym (rw h)

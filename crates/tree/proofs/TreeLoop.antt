@@ -18,8 +18,8 @@ use Rattle.workspace.proofs.Held.{ends-length}
 use Rattle.tree.specs.Items.{ItemsStored}
 use Rattle.tree.specs.Structure.{RoomFor}
 use Rattle.tree.specs.Trees.{leftAt, ExpressionDue, ExpressionFound, StoredFrom, LinesLeft, bodyDue, BodyAnswer, BodyFound, rootFirst, TreeAnswer, Structured}
-use Rattle.tree.specs.declared.Outcome.{Outcome}
-use Rattle.tree.specs.declared.Outcome.the-variants as outcome
+use Rattle.spec.specs.declared.Ruling.{Ruling}
+use Rattle.spec.specs.declared.Ruling.the-variants as outcome
 use Rattle.tree.specs.declared.Found.{Found}
 use Rattle.tree.specs.declared.Found.the-variants.{At, Refused}
 use Rattle.tree.proofs.StructureLaws.{left-proc, left-step, left-none}
@@ -196,9 +196,9 @@ module _ (steps procs count last : ℕ) (w₀ w : List ℕ) (i f : ℕ) (s : Wal
 -- ------------------------------------------------------------------ the root
 
 -- what is left behind it
-abbrev LeftAnswer : Outcome → Out (Unit {0}) → Type 0
+abbrev LeftAnswer : Ruling → Out (Unit {0}) → Type 0
 LeftAnswer o (stop x) = o ≡ outcome.Refused x
-LeftAnswer o (on u) = o ≡ outcome.Passed
+LeftAnswer o (on u) = o ≡ outcome.Met
 
 left-answer : (steps procs e j : ℕ) (w : List ℕ) (items : List Item) → StoredFrom w steps procs e j items → LeftAnswer (leftAt w steps procs e j) (noLineLeft items)
 unfolding StoredFrom noLineLeft lineOfItem nextBy stepLineAt
@@ -208,10 +208,10 @@ left-answer steps procs e j w (step s ∷ items) h =
 left-answer steps procs e j w (proc x k ∷ items) h =
     sym (left-proc w steps procs e j (next-by w steps procs e j (proc x k ∷ items) h) (sym (h .2)))
 
-no-pass : {x : Refusal} {o : Outcome} → o ≡ outcome.Refused x → o ≡ outcome.Passed → ⊥
+no-pass : {x : Refusal} {o : Ruling} → o ≡ outcome.Refused x → o ≡ outcome.Met → ⊥
 no-pass p q = let z : _≡_ {A = ℕ} 0 1 = cc in omega arith
 
-same-fault : {x y : Refusal} {o : Outcome} → o ≡ outcome.Refused x → o ≡ outcome.Refused y → x ≡ y
+same-fault : {x y : Refusal} {o : Ruling} → o ≡ outcome.Refused x → o ≡ outcome.Refused y → x ≡ y
 same-fault p q = cc
 
 module _ (steps procs i j last : ℕ) (w′ : List ℕ) (r : Found) (items : List Item) where
@@ -221,13 +221,13 @@ module _ (steps procs i j last : ℕ) (w′ : List ℕ) (r : Found) (items : Lis
   root-off-by x p (stop y) q a = rw q (ap Refused (same-refusal p a))
   root-off-by x p (on (b, behind)) q a = absurd (no-refusal p (a .0))
 
-  module _ (e : ℕ) (p : r ≡ At e) (t : Outcome) (is : t ≡ leftAt w′ steps procs e j) where
+  module _ (e : ℕ) (p : r ≡ At e) (t : Ruling) (is : t ≡ leftAt w′ steps procs e j) where
     left-of : (b : Expr) (behind : List Item) → BodyAnswer steps procs i j w′ r (on (b, behind)) → LeftAnswer t (noLineLeft behind)
     left-of b behind a =
         subst (λ o. LeftAnswer o (noLineLeft behind)) (sym is)
         (left-answer steps procs e j w′ behind (subst (λ n. StoredFrom w′ steps procs n j behind) (sym (same-at (a .0) p)) (a .2)))
 
-    passed-by : (b : Expr) (behind : List Item) → expression last i items ≡ on (b, behind) → Region w′ (endsAt + i) (ends i b) → t ≡ outcome.Passed
+    passed-by : (b : Expr) (behind : List Item) → expression last i items ≡ on (b, behind) → Region w′ (endsAt + i) (ends i b) → t ≡ outcome.Met
         → (u : Out (Unit {0})) → noLineLeft behind ≡ u → LeftAnswer t u → AnswerFrom w′ i (At i) (structure last 0 i items)
     unfolding structure _>>=_ rootFirst allEnds
     passed-by b behind q m g (stop x) v a = absurd (no-pass a g)
@@ -239,7 +239,7 @@ module _ (steps procs i j last : ℕ) (w′ : List ℕ) (r : Found) (items : Lis
     failed-by x b behind q g (stop y) v a = rw (q, v) (ap Refused (same-fault g a))
     failed-by x b behind q g (on d) v a = absurd (no-pass g a)
 
-    root-passed-by : t ≡ outcome.Passed → (o : Out (Expr × List Item)) → expression last i items ≡ o → BodyAnswer steps procs i j w′ r o
+    root-passed-by : t ≡ outcome.Met → (o : Out (Expr × List Item)) → expression last i items ≡ o → BodyAnswer steps procs i j w′ r o
         → AnswerFrom w′ i (At i) (structure last 0 i items)
     root-passed-by g (stop y) q a = absurd (no-refusal a p)
     root-passed-by g (on (b, behind)) q a = passed-by b behind q (a .1) g (noLineLeft behind) refl (left-of b behind a)
@@ -282,10 +282,10 @@ module _ (steps procs count last : ℕ) (w₀ w : List ℕ) (i f : ℕ) (s : Wal
       pub root-within : e ≤ steps
       root-within = ends-by (s .left .items) (expression last i (s .left .items)) refl (root-at (s .left .items) (s .left .stored))
 
-      pub root-passed : (t : Outcome) → t ≡ leftAt w₁ steps procs e count → t ≡ outcome.Passed → Structured steps procs count last w₀ w₁ (At i)
+      pub root-passed : (t : Ruling) → t ≡ leftAt w₁ steps procs e count → t ≡ outcome.Met → Structured steps procs count last w₀ w₁ (At i)
       root-passed t is g = rooted (At i)
           (λ items h. root-passed-by steps procs i count last w₁ r items e p t is g (expression last i items) refl (root-at items h))
 
-      pub root-failed : (t : Outcome) → t ≡ leftAt w₁ steps procs e count → (y : Refusal) → t ≡ outcome.Refused y → Structured steps procs count last w₀ w₁ (Refused y)
+      pub root-failed : (t : Ruling) → t ≡ leftAt w₁ steps procs e count → (y : Refusal) → t ≡ outcome.Refused y → Structured steps procs count last w₀ w₁ (Refused y)
       root-failed t is y g = rooted (Refused y)
           (λ items h. root-failed-by steps procs i count last w₁ r items e p t is y g (expression last i items) refl (root-at items h))

@@ -15,8 +15,8 @@ use Rattle.workspace.specs.Holds.{ends, allEnds}
 use Rattle.workspace.specs.Steps.{stepAt, stepsFrom}
 use Rattle.tree.specs.Items.{procRows, HoldsItems}
 use Rattle.tree.specs.Structure.{RoomFor}
-use Rattle.tree.specs.declared.Outcome.{Outcome}
-use Rattle.tree.specs.declared.Outcome.the-variants as outcome
+use Rattle.spec.specs.declared.Ruling.{Ruling}
+use Rattle.spec.specs.declared.Ruling.the-variants as outcome
 use Rattle.tree.specs.declared.Next.{Next}
 use Rattle.tree.specs.declared.Next.the-variants.{Proc, Step, End}
 use Rattle.tree.specs.declared.Found.{Found}
@@ -42,12 +42,12 @@ limitAt w steps procs j = if ltb j procs then getD w (procFirstsAt + j) 0 else s
 unfoldable pub breakLine : List ℕ → (procs j last : ℕ) → ℕ
 breakLine w procs j last = if ltb j procs then getD w (procLinesAt + j) 0 else last
 
-abbrev leftBy : List ℕ → (e j : ℕ) → Next → Outcome
+abbrev leftBy : List ℕ → (e j : ℕ) → Next → Ruling
 leftBy w e j Proc = outcome.Refused (ProgramLines (getD w (procLinesAt + j) 0))
 leftBy w e j Step = outcome.Refused (ProgramLines (getD w (linesAt + e) 0))
-leftBy w e j End = outcome.Passed
+leftBy w e j End = outcome.Met
 
-unfoldable pub leftAt : List ℕ → (steps procs e j : ℕ) → Outcome
+unfoldable pub leftAt : List ℕ → (steps procs e j : ℕ) → Ruling
 leftAt w steps procs e j = leftBy w e j (nextOf w steps procs e j)
 
 -- ------------------------------------------------------------------ one expression

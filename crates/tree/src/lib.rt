@@ -1,5 +1,6 @@
 // The procedures and the root that the stored lines list, each expression a step, then its parts, left to right.
 use spec::Refusal;
+use spec::Ruling;
 use spec::Word;
 use workspace::ENDS;
 use workspace::LINES;
@@ -47,12 +48,6 @@ fn read_parts(work: &mut [u32], n: usize, w: Word, k: usize) -> usize
             read_step(work, n, first)
         }
     }
-}
-
-// Nothing to refuse, or the refusal.
-pub enum Outcome {
-    Passed,
-    Refused(Refusal),
 }
 
 // What stands at an index, behind some of the `proc` lines: the next of these, a step, or nothing.
@@ -137,20 +132,20 @@ fn read_expression(
 }
 
 // Whether no line is left at index e, behind `count` of the `proc` lines.
-fn finish(work: &[u32], steps: usize, procs: usize, e: usize, count: usize) -> Outcome
+fn finish(work: &[u32], steps: usize, procs: usize, e: usize, count: usize) -> Ruling
     requires { ⌜ RoomFor steps (now work) × (procs ≤ stepRoom) × (e ≤ stepRoom) × (count ≤ stepRoom) ⌝ }
     ensures { λ r. ⌜ r ≡ leftAt (now (work .entry)) steps procs e count ⌝ }
 {
     match next_item(work, steps, procs, e, count) {
         Next::Proc => {
             let line = workspace::at(work, PROC_LINES + count);
-            Outcome::Refused(Refusal::ProgramLines(line))
+            Ruling::Refused(Refusal::ProgramLines(line))
         }
         Next::Step => {
             let line = workspace::at(work, LINES + e);
-            Outcome::Refused(Refusal::ProgramLines(line))
+            Ruling::Refused(Refusal::ProgramLines(line))
         }
-        Next::End => Outcome::Passed,
+        Next::End => Ruling::Met,
     }
 }
 
@@ -198,8 +193,8 @@ pub fn structure(work: &mut [u32], steps: usize, procs: usize, count: usize, las
     match read_expression(work, steps, procs, i, count, last) {
         Found::Refused(refusal) => Found::Refused(refusal),
         Found::At(e) => match finish(work, steps, procs, e, count) {
-            Outcome::Passed => Found::At(i),
-            Outcome::Refused(refusal) => Found::Refused(refusal),
+            Ruling::Met => Found::At(i),
+            Ruling::Refused(refusal) => Found::Refused(refusal),
         },
     }
 }

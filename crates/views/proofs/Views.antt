@@ -8,7 +8,8 @@ use lib.ListN.{length, getD}
 use borrow.Author.Tests.{lt-ltb, le-ltb}
 use Rattle.spec.specs.Expression.{Position, Expr, leaf, indexOf}
 use Rattle.spec.specs.Program.{Program}
-use Rattle.spec.specs.Split.{Row, Signature, Split, noRow}
+use Rattle.spec.specs.Split.{Row, Split, noRow}
+use Rattle.spec.specs.declared.Signature.{Signature}
 use Rattle.spec.specs.Conditions.{Env, mapAt, typeIn, row, post, bodyStart, signature}
 use Rattle.spec.specs.Words.{role}
 use Rattle.spec.specs.WellFormed.{StepInside, UsedInside}
@@ -23,7 +24,6 @@ use Rattle.workspace.proofs.Region.{column}
 use Rattle.workspace.proofs.Shown.{type-number, Stands, row-at, row-type, post-at, start-at, argument-shown, argument-in, result-shown, result-in, before-at, after-at}
 use Rattle.workspace.proofs.Expression.{Here, leaf-number, here-let}
 use Rattle.views.specs.StepView.{cell, signatureOf, boundOf, viewOf}
-use Rattle.views.specs.declared.Signature.{Signature as SignatureRead}
 use Rattle.views.specs.declared.View.{View}
 use Rattle.views.proofs.Scopes.{BoundBy, by-let, by-procedure, Scoped}
 
@@ -34,7 +34,7 @@ pub record Part (w : List ℕ) (S : Split) (t : TypeNumber) (m : MapNumber) (e :
   pub posted : Stands w S m (post S e)
 
 -- a signature that the work space shows is one of the split
-pub record Signed (w : List ℕ) (S : Split) (r : SignatureRead) (g : Signature) : Type 0 where
+pub record Signed (w : List ℕ) (S : Split) (r : Signature) (g : Signature) : Type 0 where
   pub before-stands : Stands w S (r .before) (mapAt S (g .before))
   pub argument-is : r .argument ≡ g .argument
   pub argument-in : g .argument .0 < length (S .types)

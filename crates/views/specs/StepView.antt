@@ -6,7 +6,7 @@ use lib.ListN.{getD}
 use Rattle.spec.specs.Choice.{if_then_else_}
 use Rattle.spec.specs.declared.TypeNumber.{TypeNumber}
 use Rattle.workspace.specs.Layout.{valuesAt, endsAt, letsAt, linesAt, procMark, rowTypesAt, postsAt, startsAt, presAt, sigBeforesAt, sigArgumentsAt, sigAftersAt, sigResultsAt}
-use Rattle.views.specs.declared.Signature.{Signature}
+use Rattle.spec.specs.declared.Signature.{Signature}
 use Rattle.views.specs.declared.View.{View}
 
 -- entry i of the column that begins at b

@@ -1,7 +1,7 @@
 // What the columns of the work space say of a step: what its conditions look at, by the number of its parts.
-use super::Signature;
 use super::View;
 use spec::MapNumber;
+use spec::Signature;
 use spec::TypeNumber;
 use workspace::ENDS;
 use workspace::LETS;

@@ -7,15 +7,8 @@ pub use columns::leaf_view;
 pub use columns::signature_of;
 pub use columns::unary_view;
 use spec::MapNumber;
+use spec::Signature;
 use spec::TypeNumber;
-
-// What the split says of a procedure: the map before its body, the argument's type, the map after, the result's type.
-pub struct Signature {
-    pub before: MapNumber,
-    pub argument: TypeNumber,
-    pub after: MapNumber,
-    pub result: TypeNumber,
-}
 
 // What the conditions of a step look at: the sheet's locations and denominator, the step's line and number, the types and
 // maps of the step and of its parts, for a `var` the type of its let's e1 or of its procedure's argument, and for a `call`

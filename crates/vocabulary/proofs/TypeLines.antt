@@ -6,7 +6,8 @@ use Prim.Native.Nat.{ℕ}
 use Rattle.spec.specs.Choice.{if_then_else_}
 use Rattle.spec.specs.Text.{bytes, same, Field}
 use Rattle.spec.specs.Reading.{Seen, wrong, badForm, seen, _to_, below, numbers}
-use Rattle.spec.specs.Split.{Header, refOf, lockOf, outRange, tidOf, semOf, rwlockOf, typeLine}
+use Rattle.spec.specs.Split.{refOf, lockOf, outRange, tidOf, semOf, rwlockOf, typeLine}
+use Rattle.spec.specs.declared.Header.{Header}
 use Rattle.spec.specs.declared.TypeLine.{TypeLine}
 use Rattle.spec.specs.declared.TypeLine.the-variants as line
 use Rattle.vocabulary.specs.Words.{typeWordOf}

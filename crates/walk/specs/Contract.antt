@@ -12,9 +12,9 @@ use Rattle.spec.specs.declared.Purpose.the-variants.{Check, Fill}
 use Rattle.workspace.specs.Layout.{presAt}
 use Rattle.workspace.specs.Region.{ChangedWithin}
 use Rattle.workspace.specs.Sheets.{HoldsSheets}
-use Rattle.workspace.specs.declared.Header.{Header}
+use Rattle.spec.specs.declared.Header.{Header}
 use Rattle.conditions.specs.Outcome.{outcome}
-use Rattle.conditions.specs.declared.Ruling.{Ruling}
+use Rattle.spec.specs.declared.Ruling.{Ruling}
 use Rattle.step_walk.specs.Asked.{asked}
 
 -- the conditions by purpose: all of them, 31 to 33, or those on types, 31

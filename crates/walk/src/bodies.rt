@@ -1,8 +1,8 @@
 // The bodies of the procedures, called or not, then the root.
-use conditions::Ruling;
 use sequential_rules::check_procedure;
 use spec::MapNumber;
 use spec::Purpose;
+use spec::Ruling;
 use spec::TypeNumber;
 use step_walk::check_steps;
 use step_walk::refuses;

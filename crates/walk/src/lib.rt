@@ -3,12 +3,12 @@
 mod bodies;
 
 use bodies::check_program;
-use conditions::Ruling;
 use conditions::check_locks;
 use conditions::check_start;
+use spec::Header;
 use spec::Purpose;
+use spec::Ruling;
 use views::cell;
-use workspace::Header;
 use workspace::LINES;
 use workspace::PROC_FIRSTS;
 ghost use mathlib.Core.Path.{_≡_};

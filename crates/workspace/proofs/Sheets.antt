@@ -8,7 +8,8 @@ use native.Mathlib.Omega.{arith}
 use lib.ListN.{length, getD, length-map}
 use Rattle.spec.specs.Expression.{size, stepsAmong}
 use Rattle.spec.specs.Program.{Program}
-use Rattle.spec.specs.Split.{Signature, Row, Split}
+use Rattle.spec.specs.Split.{Row, Split}
+use Rattle.spec.specs.declared.Signature.{Signature}
 use Rattle.spec.specs.Conditions.{startMap}
 use Rattle.spec.specs.Ranges.{InRange}
 use Rattle.spec.specs.WellFormed.{listing}
@@ -63,7 +64,7 @@ module _ {w : List ℕ} {steps procedures denominator locations start : ℕ} {P 
   pub header-start-stands : Stands w S (record { 0 = start }) (startMap S)
   unfolding startMap
   header-start-stands =
-      rw (map-number (H .startGiven)) (map-stands w S P (H .split) (H .inRange) (S .header .rootStart) (H .inRange .start))
+      rw (map-number (H .startGiven)) (map-stands w S P (H .split) (H .inRange) (S .header .start) (H .inRange .start))
 
 -- ------------------------------------------------------------------ the sheets stay
 

@@ -8,7 +8,8 @@ use native.Mathlib.Omega.{arith}
 use lib.ListN.{length, getD, replicate, length-replicate, getD-replicate}
 use Rattle.spec.specs.Expression.{Expr, indexOf}
 use Rattle.spec.specs.Program.{Program}
-use Rattle.spec.specs.Split.{Map, Signature, noSignature, Row, noRow, Split}
+use Rattle.spec.specs.Split.{Map, noSignature, Row, noRow, Split}
+use Rattle.spec.specs.declared.Signature.{Signature}
 use Rattle.spec.specs.Maps.{share}
 use Rattle.spec.specs.Kinds.{firstMap, secondMap}
 use Rattle.spec.specs.Conditions.{typeAt, mapAt, row, post, bodyStart, startOr, signature}

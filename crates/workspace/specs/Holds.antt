@@ -8,7 +8,8 @@ use Rattle.spec.specs.Choice.{if_then_else_}
 use Rattle.spec.specs.Expression.{Step, Expr, leaf, unary, binary, size, Procedure}
 use Rattle.spec.specs.Words.{role, binding}
 use Rattle.spec.specs.Program.{Program}
-use Rattle.spec.specs.Split.{Signature, Row, Split}
+use Rattle.spec.specs.Split.{Row, Split}
+use Rattle.spec.specs.declared.Signature.{Signature}
 use Rattle.spec.specs.declared.MapNumber.{MapNumber}
 use Rattle.spec.specs.declared.Role.{Role}
 use Rattle.spec.specs.declared.Role.the-variants.{Binds, Uses, Calls, Neither}

@@ -4,25 +4,14 @@ use mathlib.Core.List.{List}
 use Prim.Native.Nat.{ℕ, _≤_}
 use lib.ListN.{length}
 use Rattle.spec.specs.Program.{Program}
-use Rattle.spec.specs.Split.{Header, Split}
+use Rattle.spec.specs.Split.{Split}
+use Rattle.spec.specs.declared.Header.{Header}
 use Rattle.spec.specs.WellFormed.{WellFormedProgram}
 use Rattle.spec.specs.Ranges.{InRange}
 use Rattle.workspace.specs.Holds.{HoldsProgram, HoldsSplit}
-use Rattle.workspace.specs.declared.Header.{Header as HeaderRead}
-
--- the header that the code reads, as document 01 has it
-unfoldable pub headerTold : HeaderRead → Header
-headerTold h = record {
-  heading = h .heading;
-  denominator = h .denominator;
-  locations = h .locations;
-  types = h .types;
-  maps = h .maps;
-  rootStart = h .start;
-}
 
 -- the numbers of a header that the work space has room for
-pub record Small (h : HeaderRead) : Type 0 where
+pub record Small (h : Header) : Type 0 where
   pub locations : h .locations ≤ 16
   pub types : h .types ≤ 64
   pub maps : h .maps ≤ 512
@@ -39,4 +28,4 @@ pub record HoldsSheets (w : List ℕ) (steps procedures denominator locations st
   pub proceduresCounted : procedures ≡ length (P .procedures)
   pub denominatorGiven : denominator ≡ S .header .denominator
   pub locationsGiven : locations ≡ S .header .locations
-  pub startGiven : start ≡ S .header .rootStart .0
+  pub startGiven : start ≡ S .header .start .0

@@ -1,7 +1,6 @@
 // What stands where in the lent work space, once the sheets are read: the one table of offsets, the numbers that stand for
 // words and types, and reading them back.
 use spec::BinaryWord;
-use spec::Heading;
 use spec::LeafWord;
 use spec::Location;
 use spec::MapNumber;
@@ -78,17 +77,6 @@ pub const STRIDE: usize = 16;
 pub const EMPTY_MAP: u32 = 512;
 
 pub const EMPTY_ROW: usize = 12288;
-
-// What the header of a split sheet says: its heading, the denominator, how many locations, types and maps there are, and the
-// map before the root.
-pub struct Header {
-    pub heading: Heading,
-    pub denominator: u32,
-    pub locations: usize,
-    pub types: usize,
-    pub maps: usize,
-    pub start: MapNumber,
-}
 
 // The number at a place of the work space; 0 past its end.
 pub fn at(work: &[u32], i: usize) -> u32

@@ -15,7 +15,8 @@ use Rattle.spec.specs.Reading.{right, _to_, below, inRange, allInRange}
 use Rattle.spec.specs.Words.{takesStart}
 use Rattle.spec.specs.Expression.{Step}
 use Rattle.spec.specs.Program.{Program}
-use Rattle.spec.specs.Split.{Map, Header, headings, startOf, headerOf, headed, headerLine, refOf, lockOf, tidOf, semOf, rwlockOf, typeLine, typeLines, mapLine, Row, rowOf, startGiven, startRange, mayBeEmpty, emptyFault, postRange, postField, rowLine, Split}
+use Rattle.spec.specs.Split.{Map, headings, startOf, headerOf, headed, headerLine, refOf, lockOf, tidOf, semOf, rwlockOf, typeLine, typeLines, mapLine, Row, rowOf, startGiven, startRange, mayBeEmpty, emptyFault, postRange, postField, rowLine, Split}
+use Rattle.spec.specs.declared.Header.{Header}
 use Rattle.spec.specs.WellFormed.{Shows, nothing, line, WellFormedSplit}
 use Rattle.spec.specs.Accepted.{AtMost}
 use Rattle.spec.specs.Accepted as accepted
@@ -34,14 +35,14 @@ use Rattle.written.proofs.Spelling.{choice-right}
 
 -- ------------------------------------------------------------------ the header
 
-headed-starts : (o : Option Heading) (fs : List Field) (H : Header) → headed o fs ≡ right H → RootStarts (H .heading) (H .rootStart)
+headed-starts : (o : Option Heading) (fs : List Field) (H : Header) → headed o fs ≡ right H → RootStarts (H .heading) (H .start)
 unfolding headed headerOf startOf RootStarts
 headed-starts none fs H h = wrong-is-not-right h
-headed-starts (some C) fs H h = let (ns, n, e) = seen-right _ h in along (λ G. RootStarts (G .heading) (G .rootStart)) e refl
-headed-starts (some C2) fs H h = let (ns, n, e) = seen-right _ h in along (λ G. RootStarts (G .heading) (G .rootStart)) e tt
-headed-starts (some C3) fs H h = let (ns, n, e) = seen-right _ h in along (λ G. RootStarts (G .heading) (G .rootStart)) e tt
+headed-starts (some C) fs H h = let (ns, n, e) = seen-right _ h in along (λ G. RootStarts (G .heading) (G .start)) e refl
+headed-starts (some C2) fs H h = let (ns, n, e) = seen-right _ h in along (λ G. RootStarts (G .heading) (G .start)) e tt
+headed-starts (some C3) fs H h = let (ns, n, e) = seen-right _ h in along (λ G. RootStarts (G .heading) (G .start)) e tt
 
-header-starts : (purpose : Purpose) (fs : List Field) (H : Header) → headerLine purpose fs ≡ right H → RootStarts (H .heading) (H .rootStart)
+header-starts : (purpose : Purpose) (fs : List Field) (H : Header) → headerLine purpose fs ≡ right H → RootStarts (H .heading) (H .start)
 unfolding headerLine
 header-starts purpose [] H h = wrong-is-not-right h
 header-starts purpose (f ∷ fs) H h = headed-starts (lookUp (headings purpose) f) fs H h
@@ -139,7 +140,7 @@ module _ (purpose : Purpose) (H : Header) where
 pub read-is-writable : {purpose : Purpose} {P : Program} {text : List ℕ} {S : Split} → WellFormedSplit purpose P text S → Writable P S
 read-is-writable {purpose} {P} {text} {S} F = record {
   inRange = well-formed-in-range F;
-  rootStart = header-starts purpose _ (S .header) (F .headed);
+  start = header-starts purpose _ (S .header) (F .headed);
   lockShows = locks-show (S .header) 0 (S .header .types) (F .typed);
   numbersSmall = maps-small (S .header) (S .header .maps) (F .mapped);
   rowStarts = rows-start purpose (S .header) (P .steps) (F .rowed);

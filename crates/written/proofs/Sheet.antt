@@ -12,7 +12,9 @@ use Rattle.spec.specs.Text.{bytes, same, lookUp, lines, Field}
 use Rattle.spec.specs.Reading.{splitSheet, on, Seen, right, seen, insist, Range, _to_, below, numbers, begin, noneLeft, end}
 use Rattle.spec.specs.Expression.{Step}
 use Rattle.spec.specs.Program.{Program}
-use Rattle.spec.specs.Split.{Map, Header, headings, headerRanges, mapsIn, mapsOf, startOf, headerOf, headed, headerLine, refOf, lockOf, outRange, tidOf, semOf, rwlockOf, typeLine, typeLines, mapLine, Signature, noSignature, signatureOf, signatureLine, Row, noRow, rowOf, startGiven, startRange, postRange, postField, rowLine, Split, split}
+use Rattle.spec.specs.Split.{Map, headings, headerRanges, mapsIn, mapsOf, startOf, headerOf, headed, headerLine, refOf, lockOf, outRange, tidOf, semOf, rwlockOf, typeLine, typeLines, mapLine, noSignature, signatureOf, signatureLine, Row, noRow, rowOf, startGiven, startRange, postRange, postField, rowLine, Split, split}
+use Rattle.spec.specs.declared.Signature.{Signature}
+use Rattle.spec.specs.declared.Header.{Header}
 use Rattle.spec.specs.Kinds.{maps}
 use Rattle.spec.specs.Ranges.{AllBelow, InRange}
 use Rattle.spec.specs.Accepted.{AtMost}
@@ -46,8 +48,8 @@ header-plain H = by-heading (H .heading)
   where
     by-heading : (h : Heading) → PlainLine (headingName h ∷ map decimal (headerNumbers h H))
     by-heading C = plain-word (H .denominator) (H .locations ∷ H .types ∷ H .maps ∷ []) (plain.more refl refl plain.none)
-    by-heading C2 = plain-word (H .denominator) (H .locations ∷ H .types ∷ H .maps ∷ H .rootStart .0 ∷ []) (plain.more refl refl (plain.more refl refl plain.none))
-    by-heading C3 = plain-word (H .denominator) (H .locations ∷ H .types ∷ H .maps ∷ H .rootStart .0 ∷ []) (plain.more refl refl (plain.more refl refl plain.none))
+    by-heading C2 = plain-word (H .denominator) (H .locations ∷ H .types ∷ H .maps ∷ H .start .0 ∷ []) (plain.more refl refl (plain.more refl refl plain.none))
+    by-heading C3 = plain-word (H .denominator) (H .locations ∷ H .types ∷ H .maps ∷ H .start .0 ∷ []) (plain.more refl refl (plain.more refl refl plain.none))
 
 word-3 : {a b c : ℕ} → eqb a 44 ≡ false → eqb a 10 ≡ false → eqb b 44 ≡ false → eqb b 10 ≡ false → eqb c 44 ≡ false → eqb c 10 ≡ false
     → Plain (a ∷ b ∷ c ∷ [])
@@ -132,7 +134,7 @@ module _ {P : Program} {S : Split} (W : Writable P S) where
 
   header-back : headerLine Check (headerFields H) ≡ right H
   unfolding headerLine headings lookUp headed headerOf startOf mapsIn mapsOf headerFields headingName headerNumbers same bytes seen headerRanges RootStarts
-  header-back = by-heading (H .heading) refl (W .rootStart)
+  header-back = by-heading (H .heading) refl (W .start)
     where
       -- the numbers of a header that names its start
       named : Within (headerRanges C2 (H .maps)) (headerNumbers C2 H)
@@ -148,10 +150,10 @@ module _ {P : Program} {S : Split} (W : Writable P S) where
         locations = H .locations;
         types = H .types;
         maps = H .maps;
-        rootStart = H .rootStart;
+        start = H .start;
       }
 
-      by-heading : (h : Heading) → H .heading ≡ h → RootStarts h (H .rootStart) → headerLine Check (headingName h ∷ map decimal (headerNumbers h H)) ≡ right H
+      by-heading : (h : Heading) → H .heading ≡ h → RootStarts h (H .start) → headerLine Check (headingName h ∷ map decimal (headerNumbers h H)) ≡ right H
       by-heading C e z =
           rw (numbers-back (within-to (R .denominator) (omega arith) (within-to (R .locations) (omega arith)
           (within-to (R .typesFew) (omega arith) (within-to (R .mapsFew) (omega arith) empty)))))
@@ -161,7 +163,7 @@ module _ {P : Program} {S : Split} (W : Writable P S) where
             locations = H .locations;
             types = H .types;
             maps = H .maps;
-            rootStart = record { 0 = sym z i };
+            start = record { 0 = sym z i };
           }))
       by-heading C2 e z = rw (numerals-back named, numbers-back named) (λ i. right (headed-by (sym e i)))
       by-heading C3 e z = rw (numerals-back named, numbers-back named) (λ i. right (headed-by (sym e i)))

@@ -15,7 +15,9 @@ use Rattle.spec.specs.Text.{Line, bytes, same, Field, fields, lookUp}
 use Rattle.spec.specs.Reading.{Seen, right, seen, Range, _to_, below, inRange, numerals, numbers}
 use Rattle.spec.specs.Expression.{Step}
 use Rattle.spec.specs.Program.{Program}
-use Rattle.spec.specs.Split.{Map, Header, headings, headerRanges, mapsOf, mapsIn, startOf, headerOf, headed, headerLine, refOf, lockOf, outRange, tidOf, semOf, rwlockOf, typeLine, typeLines, mapLine, Signature, signatureOf, signatureLine, Row, rowOf, startGiven, startRange, emptyFault, postRange, postField, rowLine, Split}
+use Rattle.spec.specs.Split.{Map, headings, headerRanges, mapsOf, mapsIn, startOf, headerOf, headed, headerLine, refOf, lockOf, outRange, tidOf, semOf, rwlockOf, typeLine, typeLines, mapLine, signatureOf, signatureLine, Row, rowOf, startGiven, startRange, emptyFault, postRange, postField, rowLine, Split}
+use Rattle.spec.specs.declared.Signature.{Signature}
+use Rattle.spec.specs.declared.Header.{Header}
 use Rattle.spec.specs.WellFormed.{Shows, WellFormedSplit}
 use Rattle.spec.specs.WellFormed as well-formed
 use Rattle.spec.specs.declared.Heading.{Heading}

@@ -3,7 +3,9 @@ use mathlib.Core.List.{List, [], _∷_, _++_, map}
 use mathlib.Core.Option.{Option, none, some}
 use Prim.Native.Nat.{ℕ}
 use Rattle.spec.specs.Text.{bytes, Field}
-use Rattle.spec.specs.Split.{Map, Header, Signature, Row, Split}
+use Rattle.spec.specs.Split.{Map, Row, Split}
+use Rattle.spec.specs.declared.Signature.{Signature}
+use Rattle.spec.specs.declared.Header.{Header}
 use Rattle.spec.specs.declared.Heading.{Heading}
 use Rattle.spec.specs.declared.Heading.the-variants.{C, C2, C3}
 use Rattle.spec.specs.declared.Purpose.{Purpose}
@@ -21,8 +23,8 @@ headingName C3 = bytes "C3"
 
 unfoldable pub headerNumbers : Heading → Header → List ℕ
 headerNumbers C H = H .denominator ∷ H .locations ∷ H .types ∷ H .maps ∷ []
-headerNumbers C2 H = H .denominator ∷ H .locations ∷ H .types ∷ H .maps ∷ H .rootStart .0 ∷ []
-headerNumbers C3 H = H .denominator ∷ H .locations ∷ H .types ∷ H .maps ∷ H .rootStart .0 ∷ []
+headerNumbers C2 H = H .denominator ∷ H .locations ∷ H .types ∷ H .maps ∷ H .start .0 ∷ []
+headerNumbers C3 H = H .denominator ∷ H .locations ∷ H .types ∷ H .maps ∷ H .start .0 ∷ []
 
 unfoldable pub headerFields : Header → List Field
 headerFields H = headingName (H .heading) ∷ map decimal (headerNumbers (H .heading) H)

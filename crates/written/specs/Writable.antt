@@ -37,7 +37,7 @@ RowStarts h w (some m) = takesStart w ≡ true
 -- a split that can be written for a program
 pub record Writable (P : Program) (S : Split) : Type 0 where
   pub inRange : InRange P S
-  pub rootStart : RootStarts (S .header .heading) (S .header .rootStart)
+  pub start : RootStarts (S .header .heading) (S .header .start)
   pub lockShows : (t : ℕ) (i o : MapNumber) → t < length (S .types) → getD (S .types) t type-line.Int ≡ type-line.Lock i o
       → LockShows (S .header .heading) i o
   pub numbersSmall : (m : ℕ) → AtMost 1000000000 (getD (S .maps) m [])

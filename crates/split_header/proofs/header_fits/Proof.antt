@@ -7,7 +7,6 @@ use lib.ListN.{getD}
 use Rattle.spec.specs.Reading.{Range, below, inRange}
 use Rattle.spec.specs.Split.{headerRanges}
 use Rattle.spec.specs.declared.Heading.the-variants.{C2}
-use Rattle.workspace.specs.Sheets.{headerTold}
 use Rattle.split_header.specs.Header.{headerFits}
 use Rattle.split_fields.proofs.Tests.{range-out, range-next, range-last, range-index, below-test}
 use borrow.Author.Needs.{needs}
@@ -38,24 +37,24 @@ unfolding headerRanges
 in-maps s = sym (s .before .within4 .ensures) ∙ not-false _ (s .if4 .left)
 
 returns : tie.Need-returns
-unfolding headerFits headerTold headerRanges
+unfolding headerFits headerRanges
 returns c =
     let limit = c .before .before in
     range-out _ _ _ _ (range-index 1 (limit .index2 .ensures .0) (limit .before .index .ensures .0) (c .before .within .ensures) ∙ not-true _ (c .if1 .taken))
 
 returns-2 : tie.Need-returns-2
-unfolding headerFits headerTold headerRanges
+unfolding headerFits headerRanges
 returns-2 c = range-next _ _ _ _ (in-denominator (c .before .before)) (range-out _ _ _ _ (sym (c .before .within2 .ensures) ∙ not-true _ (c .if2 .taken)))
 
 returns-3 : tie.Need-returns-3
-unfolding headerFits headerTold headerRanges
+unfolding headerFits headerRanges
 returns-3 c =
     let two = c .before .before in
     range-next _ _ _ _ (in-denominator (two .before .before))
     (range-next _ _ _ _ (in-locations two) (range-out _ _ _ _ (sym (c .before .within3 .ensures) ∙ not-true _ (c .if3 .taken))))
 
 returns-4 : tie.Need-returns-4
-unfolding headerFits headerTold headerRanges
+unfolding headerFits headerRanges
 returns-4 c =
     let three = c .before .before in
     let two = three .before .before in
@@ -64,7 +63,7 @@ returns-4 c =
     (range-next _ _ _ _ (in-types three) (range-out _ _ _ _ (sym (c .before .within4 .ensures) ∙ not-true _ (c .if4 .taken)))))
 
 returns-5 : tie.Need-returns-5
-unfolding headerFits headerTold headerRanges
+unfolding headerFits headerRanges
 returns-5 c =
     let four = c .before .before in
     let three = four .before .before in

@@ -2,7 +2,6 @@
 use mathlib.Core.Path.{sym, ap, _∙_}
 use lib.Dec.{lit<}
 use borrow.Author.Needs.{needs}
-use Rattle.workspace.specs.Sheets.{headerTold}
 use Rattle.written.specs.Sheet.{written}
 use Rattle.writer.proofs.Buffer.{parted, onward, finish}
 use Rattle.split_writer.specs.Contract.{SheetWritten}
@@ -38,7 +37,7 @@ write-rows-requires c κs =
     rows-stand (start .pre .holds)
 
 returns : tie.Need-returns
-unfolding SheetWritten headerTold
+unfolding SheetWritten
 returns c S holds =
     let c₅ = c .before .before in
     let c₄ = c₅ .before .before .before .before in

@@ -4,11 +4,10 @@ use mathlib.Core.Path.{sym, subst, _∙_}
 use mathlib.Core.List.{List}
 use Prim.Native.Nat.{ℕ, _<_}
 use lib.ListN.{length}
-use Rattle.spec.specs.Split.{Header}
+use Rattle.spec.specs.declared.Header.{Header}
 use Rattle.lexer.specs.Cursors.{rest}
 use Rattle.lexer.specs.declared.Cursor.{Cursor}
 use Rattle.lexer.proofs.Walks.{left-some}
-use Rattle.workspace.specs.Sheets.{headerTold}
 use Rattle.split_fields.specs.Answers.{SplitCursor, LeadingAnswer, PostAnswer, StartAnswer}
 use Rattle.split_fields.specs.declared.Leading.the-variants as leading
 use Rattle.split_fields.proofs.LineLaws.{line-missing, comma-placed}
@@ -28,7 +27,7 @@ module _ (s : tie.Else1) where
   cursor = start .args .cursor
 
   abbrev header : Header
-  header = headerTold (start .args .header)
+  header = (start .args .header)
 
   left : 0 < length (rest text cursor)
   left = left-some (rest text cursor) (sym (s .before .at-end .ensures) ∙ s .if1 .left)
@@ -80,7 +79,6 @@ returns-3 c =
     (subst (PostAnswer (start line .args .purpose) (text line) (second typed)) (c .enum-told2 .given .1) (field .post-field .ensures))
 
 returns-4 : tie.Need-returns-4
-unfolding headerTold
 returns-4 c =
     let made = c .before in
     let field = made .before .before in
@@ -92,7 +90,6 @@ returns-4 c =
     (made .row-with .result) (made .row-with .ensures) (c .row-of .result) (c .row-of .ensures)
 
 returns-5 : tie.Need-returns-5
-unfolding headerTold
 returns-5 c =
     let made = c .before in
     let field = made .before .before in

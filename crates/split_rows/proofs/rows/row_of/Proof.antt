@@ -3,8 +3,8 @@ use mathlib.Core.Path.{_≡_, sym, ap, _∙_}
 use mathlib.Core.Bool.{true}
 use native.Mathlib.Omega.{arith}
 use borrow.Author.Tests.{not-true, not-false}
-use Rattle.spec.specs.Split.{Header, startRange}
-use Rattle.workspace.specs.Sheets.{headerTold}
+use Rattle.spec.specs.Split.{startRange}
+use Rattle.spec.specs.declared.Header.{Header}
 use Rattle.split_fields.proofs.Tests.{in-below, out-below}
 use Rattle.split_rows.specs.declared.rows.RowRead.the-variants as row-read
 use Rattle.split_rows.proofs.RowLaws.{fits, row-out, start-out, start-in, start-wanted, start-left}
@@ -17,19 +17,17 @@ module _ (s : tie.After-both-below) where
   start = s .before .before .before
 
   abbrev header : Header
-  header = headerTold (start .args .header)
+  header = (start .args .header)
 
 -- its two numbers are in their ranges
 in-ranges : (s : tie.Else1) → fits (start (s .before) .args .line) (start (s .before) .args .row) (start (s .before) .args .word) (header (s .before)) (start (s .before) .args .next) ≡ true
-unfolding headerTold
 in-ranges s = sym (s .before .both-below .ensures) ∙ not-false _ (s .if1 .left)
 
 returns : tie.Need-returns
-unfolding headerTold
 returns c = row-out _ (start (c .before) .args .row) (start (c .before) .args .word) (header (c .before)) _ (sym (c .before .both-below .ensures) ∙ not-true _ (c .if1 .taken))
 
 returns-2 : tie.Need-returns-2
-unfolding headerTold startRange
+unfolding startRange
 returns-2 c =
     let limit = c .before .before in
     let given = limit .before .before in
@@ -39,7 +37,6 @@ returns-2 c =
     (out-below _ _ (omega (arith, c .before .index .ensures .0, limit .start-limit .ensures, c .if2 .taken)))
 
 returns-3 : tie.Need-returns-3
-unfolding headerTold
 returns-3 c =
     let unwanted = c .before in
     let empty = unwanted .before .before in
@@ -50,7 +47,7 @@ returns-3 c =
     (sym (unwanted .before .may-be-empty .ensures) ∙ not-true _ (unwanted .if3 .taken))
 
 returns-4 : tie.Need-returns-4
-unfolding headerTold startRange
+unfolding startRange
 returns-4 c =
     let limit = c .before .before in
     let given = limit .before .before in
@@ -60,7 +57,6 @@ returns-4 c =
     (in-below _ _ (omega (arith, c .before .index .ensures .0, limit .start-limit .ensures, c .if2 .left)))
 
 returns-5 : tie.Need-returns-5
-unfolding headerTold
 returns-5 c =
     let empty = c .before .before in
     let ranged = empty .before .before in

@@ -5,14 +5,13 @@ use mathlib.Core.Path.{refl, sym, _∙_}
 use mathlib.Core.List.{List}
 use Prim.Native.Nat.{ℕ, _<_}
 use lib.ListN.{length}
-use Rattle.spec.specs.Split.{Header, signatureOf}
+use Rattle.spec.specs.Split.{signatureOf}
+use Rattle.spec.specs.declared.Header.{Header}
 use Rattle.lexer.specs.Cursors.{rest}
 use Rattle.lexer.specs.declared.Cursor.{Cursor}
 use Rattle.lexer.proofs.LineEnds.{LineRead, numbers-none, numbers-read}
 use Rattle.lexer.proofs.Walks.{left-some}
-use Rattle.workspace.specs.Sheets.{headerTold}
 use Rattle.split_fields.proofs.LineLaws.{line-missing}
-use Rattle.split_rows.specs.Lines.{signatureTold}
 use Rattle.split_rows.proofs.SignatureLaws.{signature-form, first-out, second-out, signature-on}
 use Rattle.split_rows.proofs.signatures.signature_line.Statement.{statement}
 use Rattle.split_rows.proofs.signatures.signature_line.Tie as tie
@@ -29,7 +28,7 @@ module _ (s : tie.Else1) where
   cursor = start .args .cursor
 
   abbrev header : Header
-  header = headerTold (start .args .header)
+  header = (start .args .header)
 
   left : 0 < length (rest text cursor)
   left = left-some (rest text cursor) (sym (s .before .at-end .ensures) ∙ s .if1 .left)
@@ -52,7 +51,6 @@ returns-2 c =
     signature-form (header line) (text line) (cursor line) (left line) (numbers-none (numbers .numbers .ensures) 4 refl (c .enum-told .given .1) .0)
 
 returns-3 : tie.Need-returns-3
-unfolding headerTold
 returns-3 c =
     let tested = c .before in
     let read = tested .before .before in
@@ -61,7 +59,6 @@ returns-3 c =
     (sym (tested .both-below .ensures) ∙ not-true _ (c .if2 .taken))
 
 returns-4 : tie.Need-returns-4
-unfolding headerTold
 returns-4 c =
     let second = c .before in
     let else2 = second .before in
@@ -73,7 +70,7 @@ returns-4 c =
     (sym (second .both-below2 .ensures) ∙ not-true _ (c .if3 .taken))
 
 returns-5 : tie.Need-returns-5
-unfolding headerTold signatureTold signatureOf
+unfolding signatureOf
 returns-5 c =
     let second = c .before in
     let else2 = second .before in

@@ -5,7 +5,6 @@ use Prim.Native.Nat.{_-_}
 use native.Mathlib.Omega.{arith}
 use Rattle.lexer.specs.Cursors.{placeAt}
 use Rattle.workspace.specs.Layout.{mapsAt, workSize}
-use Rattle.workspace.specs.Sheets.{headerTold}
 use Rattle.split_types.specs.Lines.{cellLine}
 use Rattle.split_types.specs.Answers.{MapAnswer}
 use Rattle.split_sections.specs.Stored.{HoldsMaps}
@@ -51,14 +50,13 @@ same-length c =
     map-long (pre .small .locations) (pre .small .maps) (pre .whole) (inside .before .loop .inv) (inside .loop-test .taken) (line .map-line .last .1 .1 .0) (line .map-line .kept .1 .1 .0)
 
 returns : tie.Need-returns Inv-loop μ-loop
-unfolding headerTold
 returns c =
     let line = c .before .before .before .before .before in
     let inside = line .before .before in
     let turn = inside .before in
     let pre = start turn .pre in
     map-stops (pre .small .locations) (pre .small .maps) (pre .whole) (turn .loop .inv) (inside .loop-test .taken) (line .map-line .last .1 .1 .0) (line .map-line .kept .1 .1 .0)
-    (maps-numbered (headerTold (start turn .args .header)) (start turn .args .header .maps))
+    (maps-numbered (start turn .args .header) (start turn .args .header .maps))
     (subst (MapAnswer _ _ _) (c .before .found2 .given .1) (line .map-line .ensures))
 
 loop-again : tie.Need-loop-again Inv-loop μ-loop
@@ -71,10 +69,9 @@ loop-again c =
     map-on (pre .small .locations) (pre .small .maps) (pre .whole) (turn .loop .inv) (inside .loop-test .taken) (line .map-line .last .1 .1 .0) (line .map-line .kept .1 .1 .0) (answer .0) (answer .1)
 
 returns-2 : tie.Need-returns-2 Inv-loop μ-loop
-unfolding headerTold
 returns-2 c =
     let turn = c .before in
-    stages-done (turn .loop .inv) (maps-numbered (headerTold (start turn .args .header)) (start turn .args .header .maps)) (c .loop-test .left)
+    stages-done (turn .loop .inv) (maps-numbered (start turn .args .header) (start turn .args .header .maps)) (c .loop-test .left)
 
 pub read-maps-spec : {M : Type 1} → statement M
 read-maps-spec =

@@ -8,7 +8,6 @@ use Rattle.spec.specs.Split.{Row}
 use Rattle.lexer.specs.Cursors.{placeAt}
 use Rattle.workspace.specs.Layout.{rowTypesAt, presAt}
 use Rattle.workspace.specs.Holds.{startNumber}
-use Rattle.workspace.specs.Sheets.{headerTold}
 use Rattle.workspace.specs.Steps.{stepAt}
 use Rattle.workspace.proofs.Region.{changed-nothing}
 use Rattle.split_rows.specs.Lines.{wordLine, rowTold}
@@ -21,7 +20,7 @@ use Rattle.split_sections.proofs.row_lines.read_rows.Statement.{stateme
 use Rattle.split_sections.proofs.row_lines.read_rows.Tie as tie
 
 abbrev Inv-loop : tie.InvT-loop
-Inv-loop text purpose header steps work₀ cursor₀ k₀ work cursor k = Stage (λ i. wordLine purpose (headerTold header) (stepAt work₀ i .word)) HoldsRows rowTypesAt presAt steps text work₀ (placeAt text cursor₀) work cursor k
+Inv-loop text purpose header steps work₀ cursor₀ k₀ work cursor k = Stage (λ i. wordLine purpose header (stepAt work₀ i .word)) HoldsRows rowTypesAt presAt steps text work₀ (placeAt text cursor₀) work cursor k
 
 abbrev μ-loop : tie.MeasureT-loop
 μ-loop text purpose header steps work₀ cursor₀ k₀ work cursor k = steps - k
@@ -34,8 +33,8 @@ module _ (s : tie.After-word-of Inv-loop μ-loop) where
   abbrev turn : tie.At-loop Inv-loop μ-loop
   turn = s .before .before .before
 
-  word-here : readLine splitSheet (wordLine (start turn .args .purpose) (headerTold (start turn .args .header)) (stepAt (start turn .args .work .now) (turn .loop .k) .word)) (placeAt (start turn .args .text .now) (turn .loop .cursor))
-      ≡ readLine splitSheet (wordLine (start turn .args .purpose) (headerTold (start turn .args .header)) (s .word-of .result)) (placeAt (start turn .args .text .now) (turn .loop .cursor))
+  word-here : readLine splitSheet (wordLine (start turn .args .purpose) (start turn .args .header) (stepAt (start turn .args .work .now) (turn .loop .k) .word)) (placeAt (start turn .args .text .now) (turn .loop .cursor))
+      ≡ readLine splitSheet (wordLine (start turn .args .purpose) (start turn .args .header) (s .word-of .result)) (placeAt (start turn .args .text .now) (turn .loop .cursor))
   word-here = row-here _ _ _ _ _ (s .word-of .ensures) (omega (arith, s .before .before .loop-test .taken, start turn .pre .few)) (turn .loop .inv .changed)
 
 loop-holds : tie.Need-loop-holds Inv-loop μ-loop
@@ -62,7 +61,7 @@ returns c =
     let line = c .before .before .before in
     let word = line .before in
     let entry = start (turn word) in
-    stage-stops (turn word .loop .inv) (rows-numbered (entry .args .purpose) (headerTold (entry .args .header)) (entry .args .work .now) 0 (entry .args .steps)) (word .before .before .loop-test .taken)
+    stage-stops (turn word .loop .inv) (rows-numbered (entry .args .purpose) (entry .args .header) (entry .args .work .now) 0 (entry .args .steps)) (word .before .before .loop-test .taken)
     (word-here word ∙ subst (RowAnswer _ _) (c .before .found2 .given .1) (line .row-line .ensures)) (changed-nothing rowTypesAt presAt (turn word .loop .work))
 
 loop-again : tie.Need-loop-again Inv-loop μ-loop
@@ -79,7 +78,7 @@ loop-again c =
 returns-2 : tie.Need-returns-2 Inv-loop μ-loop
 returns-2 c =
     let entry = start (c .before) in
-    stages-done (c .before .loop .inv) (rows-numbered (entry .args .purpose) (headerTold (entry .args .header)) (entry .args .work .now) 0 (entry .args .steps)) (c .loop-test .left)
+    stages-done (c .before .loop .inv) (rows-numbered (entry .args .purpose) (entry .args .header) (entry .args .work .now) 0 (entry .args .steps)) (c .loop-test .left)
 
 pub read-rows-spec : {M : Type 1} → statement M
 read-rows-spec =

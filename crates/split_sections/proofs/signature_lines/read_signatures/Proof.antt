@@ -6,7 +6,6 @@ use native.Mathlib.Omega.{arith}
 use Rattle.spec.specs.Split.{signatureLine}
 use Rattle.lexer.specs.Cursors.{placeAt}
 use Rattle.workspace.specs.Layout.{sigBeforesAt, sigResultsAt}
-use Rattle.workspace.specs.Sheets.{headerTold}
 use Rattle.workspace.proofs.Region.{changed-nothing}
 use Rattle.split_rows.specs.Answers.{SignatureAnswer}
 use Rattle.split_sections.specs.Stored.{HoldsSignatures}
@@ -18,7 +17,7 @@ use Rattle.split_sections.proofs.signature_lines.read_signatures.Tie as
 
 abbrev Inv-loop : tie.InvT-loop
 Inv-loop text header procedures work₀ cursor₀ f₀ work cursor f =
-    Stage (λ i. signatureLine (headerTold header)) HoldsSignatures sigBeforesAt (sigResultsAt + 16) procedures text work₀ (placeAt text cursor₀) work cursor f
+    Stage (λ i. signatureLine header) HoldsSignatures sigBeforesAt (sigResultsAt + 16) procedures text work₀ (placeAt text cursor₀) work cursor f
 
 abbrev μ-loop : tie.MeasureT-loop
 μ-loop text header procedures work₀ cursor₀ f₀ work cursor f = procedures - f
@@ -49,7 +48,7 @@ returns : tie.Need-returns Inv-loop μ-loop
 returns c =
     let line = c .before .before .before in
     let turn = line .before .before in
-    stage-stops (turn .loop .inv) (signatures-numbered (headerTold (start turn .args .header)) (start turn .args .procedures)) (line .before .loop-test .taken)
+    stage-stops (turn .loop .inv) (signatures-numbered (start turn .args .header) (start turn .args .procedures)) (line .before .loop-test .taken)
     (subst (SignatureAnswer _ _) (c .before .found2 .given .1) (line .signature-line .ensures)) (changed-nothing sigBeforesAt (sigResultsAt + 16) (turn .loop .work))
 
 loop-again : tie.Need-loop-again Inv-loop μ-loop
@@ -64,7 +63,7 @@ loop-again c =
 returns-2 : tie.Need-returns-2 Inv-loop μ-loop
 returns-2 c =
     let turn = c .before in
-    stages-done (turn .loop .inv) (signatures-numbered (headerTold (start turn .args .header)) (start turn .args .procedures)) (c .loop-test .left)
+    stages-done (turn .loop .inv) (signatures-numbered (start turn .args .header) (start turn .args .procedures)) (c .loop-test .left)
 
 pub read-signatures-spec : {M : Type 1} → statement M
 read-signatures-spec =

@@ -1,14 +1,12 @@
 -- Four columns get a number each; what stood in them stays.
 use lib.ListN.{length-set}
 use native.Mathlib.Omega.{arith}
-use Rattle.split_rows.specs.Lines.{signatureTold}
 use borrow.Author.Needs.{needs}
 use mathlib.Core.Path.{refl}
 use Rattle.split_sections.proofs.signature_lines.store_signature.Statement.{statement}
 use Rattle.split_sections.proofs.signature_lines.store_signature.Tie as tie
 
 pub store-signature-spec : {M : Type 1} → statement M
-unfolding signatureTold
 store-signature-spec =
     tie.close
     (tie.spec

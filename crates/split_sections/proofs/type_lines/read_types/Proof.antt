@@ -6,7 +6,6 @@ use native.Mathlib.Omega.{arith}
 use Rattle.spec.specs.Split.{typeLine}
 use Rattle.lexer.specs.Cursors.{placeAt}
 use Rattle.workspace.specs.Layout.{kindsAt, lineAt, kindCode, firstOf, secondOf}
-use Rattle.workspace.specs.Sheets.{headerTold}
 use Rattle.workspace.proofs.Region.{changed-nothing}
 use Rattle.split_types.specs.Answers.{TypeAnswer}
 use Rattle.split_sections.specs.Stored.{HoldsTypes}
@@ -17,7 +16,7 @@ use Rattle.split_sections.proofs.type_lines.read_types.Statement.{state
 use Rattle.split_sections.proofs.type_lines.read_types.Tie as tie
 
 abbrev Inv-loop : tie.InvT-loop
-Inv-loop text header work₀ types cursor₀ own₀ work cursor own = Stage (typeLine (headerTold header)) HoldsTypes kindsAt lineAt (header .types) text work₀ (placeAt text cursor₀) work cursor own
+Inv-loop text header work₀ types cursor₀ own₀ work cursor own = Stage (typeLine header) HoldsTypes kindsAt lineAt (header .types) text work₀ (placeAt text cursor₀) work cursor own
 
 abbrev μ-loop : tie.MeasureT-loop
 μ-loop text header work₀ types cursor₀ own₀ work cursor own = header .types - own
@@ -49,7 +48,7 @@ returns : tie.Need-returns Inv-loop μ-loop
 returns c =
     let line = c .before .before .before in
     let turn = line .before .before in
-    stage-stops (turn .loop .inv) (types-numbered (headerTold (start turn .args .header)) 0 (start turn .args .header .types)) (line .before .loop-test .taken)
+    stage-stops (turn .loop .inv) (types-numbered (start turn .args .header) 0 (start turn .args .header .types)) (line .before .loop-test .taken)
     (subst (TypeAnswer _ _) (c .before .found2 .given .1) (line .type-line .ensures)) (changed-nothing kindsAt lineAt (turn .loop .work))
 
 loop-again : tie.Need-loop-again Inv-loop μ-loop
@@ -64,7 +63,7 @@ loop-again c =
 returns-2 : tie.Need-returns-2 Inv-loop μ-loop
 returns-2 c =
     let turn = c .before in
-    stages-done (turn .loop .inv) (types-numbered (headerTold (start turn .args .header)) 0 (start turn .args .header .types)) (c .loop-test .left)
+    stages-done (turn .loop .inv) (types-numbered (start turn .args .header) 0 (start turn .args .header .types)) (c .loop-test .left)
 
 pub read-types-spec : {M : Type 1} → statement M
 read-types-spec =

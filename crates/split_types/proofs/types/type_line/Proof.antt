@@ -11,7 +11,6 @@ use Rattle.vocabulary.specs.Words.{typeWordOf}
 use Rattle.lexer.specs.declared.Cursor.{Cursor}
 use Rattle.lexer.proofs.LineEnds.{numbers-none, numbers-read}
 use Rattle.lexer.proofs.Walks.{left-some}
-use Rattle.workspace.specs.Sheets.{headerTold}
 use Rattle.split_fields.specs.Answers.{HeadAnswer}
 use Rattle.split_fields.specs.declared.Head.the-variants as head
 use Rattle.split_types.specs.Answers.{TypeAnswer}
@@ -62,13 +61,12 @@ module _ (s : tie.After-type-of) where
   line = some-line field
 
   answered : (x : TypeSeen) → s .type-of .result ≡ x
-      → TypeAnswer (text line) (readLine splitSheet (typeLine (headerTold (start line .args .header)) (start line .args .own)) (placeAt (text line) (cursor line))) (typeAnswer x (cursor line .line + 1) (read .read .given .0 .0))
-  unfolding headerTold
+      → TypeAnswer (text line) (readLine splitSheet (typeLine (start line .args .header) (start line .args .own)) (placeAt (text line) (cursor line))) (typeAnswer x (cursor line .line + 1) (read .read .given .0 .0))
   answered =
       let pre = start line .pre in
       let w = word field in
       let behind = comma-placed _ _ _ (pre .reading .placed) (w .3) (w .4) in
-      type-answered (headerTold (start line .args .header)) (start line .args .own) (text line) (cursor line) (left line) (pre .reading .placed) (w .3) _ (w .4)
+      type-answered (start line .args .header) (start line .args .own) (text line) (cursor line) (left line) (pre .reading .placed) (w .3) _ (w .4)
       (pre .small .locations, pre .small .maps, pre .numbered) _ (kind .type-word .ensures ∙ ap typeWordOf (w .2))
       (numbers .numbers .last .1 .1 .0) _ (numbers-read (numbers .numbers .ensures) 2 refl behind (read .read .given .1)) _ (s .type-of .ensures)
 
@@ -76,7 +74,7 @@ returns-2 : tie.Need-returns-2
 returns-2 c =
     let first-field = c .before .before in
     let line = first-field .before .before in
-    no-comma (headerTold (start line .args .header)) (start line .args .own) (text line) (cursor line) (left line)
+    no-comma (start line .args .header) (start line .args .own) (text line) (cursor line) (left line)
     (subst (HeadAnswer (text line) (cursor line)) (c .enum-told .given .1) (first-field .first-field .ensures))
 
 numbers-requires : tie.Need-numbers-requires
@@ -89,7 +87,7 @@ returns-3 c =
     let numbers = c .before .before .before in
     let field = numbers .before .before .before .before .before in
     let line = some-line field in
-    type-form (headerTold (start line .args .header)) (start line .args .own) (text line) (cursor line) (left line) (start line .pre .reading .placed) (word field .3) _ (word field .4)
+    type-form (start line .args .header) (start line .args .own) (text line) (cursor line) (left line) (start line .pre .reading .placed) (word field .3) _ (word field .4)
     (numbers-none (numbers .numbers .ensures) 2 refl (c .enum-told2 .given .1) .0)
 
 pub type-line-spec : {M : Type 1} → statement M
