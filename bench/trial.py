@@ -24,7 +24,7 @@ def program():
 def libraries():
     """Every crate that `entries` reaches, in the order of crates.txt."""
     with open("crates.txt", encoding="utf-8") as file:
-        rows = [line.split(":") for line in file if not line.startswith("#")]
+        rows = [line.split(":") for line in file if line.strip() and not line.startswith("#")]
     below = {name: rest.split() for name, rest in rows}
     reached, left = set(), ["entries"]
     while left:

@@ -2,12 +2,15 @@
 mod loads;
 mod rows;
 
-pub use loads::check_lock_in;
-pub use loads::check_lock_out;
-pub use loads::check_rwlock_read;
-pub use loads::check_rwlock_write;
-pub use loads::check_sem;
-pub use loads::check_tid;
+pub use loads::check_join;
+pub use loads::check_lock;
+pub use loads::check_post;
+pub use loads::check_rdlock;
+pub use loads::check_rdunlock;
+pub use loads::check_unlock;
+pub use loads::check_wait;
+pub use loads::check_wrlock;
+pub use loads::check_wrunlock;
 pub use rows::check_newl;
 pub use rows::check_newrwlock;
 pub use rows::check_newsem;

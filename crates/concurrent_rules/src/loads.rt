@@ -1,131 +1,146 @@
-// Words with a part that hands a load over, from its type to the step or from the step back.
+// Words with a part whose type has a load: the step takes it, or gives it back.
 use conditions::type_false;
 use rules::sum;
 use spec::MapNumber;
 use spec::Ruling;
 use spec::TypeLine;
 use views::View;
+use workspace::type_at;
 ghost use mathlib.Core.Path.{_≡_};
-ghost use Rattle.spec.specs.Kinds.{lock, tid, sem, rwlock, is, firstMap, secondMap};
+ghost use Rattle.spec.specs.Sites.{judge};
+ghost use Rattle.spec.specs.declared.Word.the-variants.{Unary};
+ghost use Rattle.spec.specs.declared.UnaryWord.the-variants.{Join, Lock, Unlock, Post, Wait, Rdlock, Rdunlock, Wrlock, Wrunlock};
+ghost use Rattle.conditions.specs.declared.Relation.the-variants.{Sum};
 ghost use Rattle.conditions.specs.Outcome.{outcome, firstFalseFrom};
-ghost use Rattle.rules.specs.Table.{loaded};
+ghost use Rattle.rules.specs.Table.{flows, rowIn};
 
-// A part that is a tid, and its K: 1 type int; 2 part a tid; 3 less + K = more.
-pub fn check_tid(
-    work: &[u32],
-    s: View,
-    kind: TypeLine,
-    kind1: TypeLine,
-    less: MapNumber,
-    more: MapNumber,
-) -> Ruling
-    ensures { λ r. ⌜ outcome r ≡ firstFalseFrom (s .line) 1 (loaded (now (work .entry)) s kind (is tid kind1) less (firstMap kind1) more) ⌝ }
+// The last condition of a word that takes: post = post of part + load.
+fn takes(work: &[u32], s: View, load: MapNumber) -> Ruling
+    ensures { λ r. ⌜ outcome r ≡ judge (s .line) 3 (flows (now (work .entry)) s (Sum (s .post1) load (s .post))) ⌝ }
 {
-    let TypeLine::Int = kind else {
-        return type_false(s.line, 1);
-    };
-    let TypeLine::Tid(load) = kind1 else {
-        return type_false(s.line, 2);
-    };
-    sum(work, s, 3, less, load, more)
+    sum(work, s, 3, s.post1, load, s.post)
 }
 
-// A part that is a lock, and its in: 1 type int; 2 part a lock; 3 less + in = more.
-pub fn check_lock_in(
-    work: &[u32],
-    s: View,
-    kind: TypeLine,
-    kind1: TypeLine,
-    less: MapNumber,
-    more: MapNumber,
-) -> Ruling
-    ensures { λ r. ⌜ outcome r ≡ firstFalseFrom (s .line) 1 (loaded (now (work .entry)) s kind (is lock kind1) less (firstMap kind1) more) ⌝ }
+// The last condition of a word that gives back: post + load = post of part.
+fn gives(work: &[u32], s: View, load: MapNumber) -> Ruling
+    ensures { λ r. ⌜ outcome r ≡ judge (s .line) 3 (flows (now (work .entry)) s (Sum (s .post) load (s .post1))) ⌝ }
 {
-    let TypeLine::Int = kind else {
-        return type_false(s.line, 1);
-    };
-    let TypeLine::Lock(load, _) = kind1 else {
-        return type_false(s.line, 2);
-    };
-    sum(work, s, 3, less, load, more)
+    sum(work, s, 3, s.post, load, s.post1)
 }
 
-// A part that is a lock, and its out: 1 type int; 2 part a lock; 3 less + out = more.
-pub fn check_lock_out(
-    work: &[u32],
-    s: View,
-    kind: TypeLine,
-    kind1: TypeLine,
-    less: MapNumber,
-    more: MapNumber,
-) -> Ruling
-    ensures { λ r. ⌜ outcome r ≡ firstFalseFrom (s .line) 1 (loaded (now (work .entry)) s kind (is lock kind1) less (secondMap kind1) more) ⌝ }
+// JOIN: 1 type int; 2 part a tid; 3 post = post of part + K.
+pub fn check_join(work: &[u32], s: View) -> Ruling
+    ensures { λ r. ⌜ outcome r ≡ firstFalseFrom (s .line) 1 (rowIn (Unary Join) (now (work .entry)) s) ⌝ }
 {
-    let TypeLine::Int = kind else {
+    let TypeLine::Int = type_at(work, s.typed) else {
         return type_false(s.line, 1);
     };
-    let TypeLine::Lock(_, load) = kind1 else {
+    let TypeLine::Tid(load) = type_at(work, s.type1) else {
         return type_false(s.line, 2);
     };
-    sum(work, s, 3, less, load, more)
+    takes(work, s, load)
 }
 
-// A part that is a sem, and its K: 1 type int; 2 part a sem; 3 less + K = more.
-pub fn check_sem(
-    work: &[u32],
-    s: View,
-    kind: TypeLine,
-    kind1: TypeLine,
-    less: MapNumber,
-    more: MapNumber,
-) -> Ruling
-    ensures { λ r. ⌜ outcome r ≡ firstFalseFrom (s .line) 1 (loaded (now (work .entry)) s kind (is sem kind1) less (firstMap kind1) more) ⌝ }
+// LCK: 1 type int; 2 part a lock; 3 post = post of part + in.
+pub fn check_lock(work: &[u32], s: View) -> Ruling
+    ensures { λ r. ⌜ outcome r ≡ firstFalseFrom (s .line) 1 (rowIn (Unary Lock) (now (work .entry)) s) ⌝ }
 {
-    let TypeLine::Int = kind else {
+    let TypeLine::Int = type_at(work, s.typed) else {
         return type_false(s.line, 1);
     };
-    let TypeLine::Sem(load) = kind1 else {
+    let TypeLine::Lock(taken, _) = type_at(work, s.type1) else {
         return type_false(s.line, 2);
     };
-    sum(work, s, 3, less, load, more)
+    takes(work, s, taken)
 }
 
-// A part that is a rwlock, and its r: 1 type int; 2 part a rwlock; 3 less + r = more.
-pub fn check_rwlock_read(
-    work: &[u32],
-    s: View,
-    kind: TypeLine,
-    kind1: TypeLine,
-    less: MapNumber,
-    more: MapNumber,
-) -> Ruling
-    ensures { λ r. ⌜ outcome r ≡ firstFalseFrom (s .line) 1 (loaded (now (work .entry)) s kind (is rwlock kind1) less (firstMap kind1) more) ⌝ }
+// ULCK: 1 type int; 2 part a lock; 3 post + out = post of part.
+pub fn check_unlock(work: &[u32], s: View) -> Ruling
+    ensures { λ r. ⌜ outcome r ≡ firstFalseFrom (s .line) 1 (rowIn (Unary Unlock) (now (work .entry)) s) ⌝ }
 {
-    let TypeLine::Int = kind else {
+    let TypeLine::Int = type_at(work, s.typed) else {
         return type_false(s.line, 1);
     };
-    let TypeLine::Rwlock(load, _) = kind1 else {
+    let TypeLine::Lock(_, given) = type_at(work, s.type1) else {
         return type_false(s.line, 2);
     };
-    sum(work, s, 3, less, load, more)
+    gives(work, s, given)
 }
 
-// A part that is a rwlock, and its w: 1 type int; 2 part a rwlock; 3 less + w = more.
-pub fn check_rwlock_write(
-    work: &[u32],
-    s: View,
-    kind: TypeLine,
-    kind1: TypeLine,
-    less: MapNumber,
-    more: MapNumber,
-) -> Ruling
-    ensures { λ r. ⌜ outcome r ≡ firstFalseFrom (s .line) 1 (loaded (now (work .entry)) s kind (is rwlock kind1) less (secondMap kind1) more) ⌝ }
+// POST: 1 type int; 2 part a sem; 3 post + K = post of part.
+pub fn check_post(work: &[u32], s: View) -> Ruling
+    ensures { λ r. ⌜ outcome r ≡ firstFalseFrom (s .line) 1 (rowIn (Unary Post) (now (work .entry)) s) ⌝ }
 {
-    let TypeLine::Int = kind else {
+    let TypeLine::Int = type_at(work, s.typed) else {
         return type_false(s.line, 1);
     };
-    let TypeLine::Rwlock(_, load) = kind1 else {
+    let TypeLine::Sem(load) = type_at(work, s.type1) else {
         return type_false(s.line, 2);
     };
-    sum(work, s, 3, less, load, more)
+    gives(work, s, load)
+}
+
+// WAIT: 1 type int; 2 part a sem; 3 post = post of part + K.
+pub fn check_wait(work: &[u32], s: View) -> Ruling
+    ensures { λ r. ⌜ outcome r ≡ firstFalseFrom (s .line) 1 (rowIn (Unary Wait) (now (work .entry)) s) ⌝ }
+{
+    let TypeLine::Int = type_at(work, s.typed) else {
+        return type_false(s.line, 1);
+    };
+    let TypeLine::Sem(load) = type_at(work, s.type1) else {
+        return type_false(s.line, 2);
+    };
+    takes(work, s, load)
+}
+
+// RDLOCK: 1 type int; 2 part a rwlock; 3 post = post of part + r.
+pub fn check_rdlock(work: &[u32], s: View) -> Ruling
+    ensures { λ r. ⌜ outcome r ≡ firstFalseFrom (s .line) 1 (rowIn (Unary Rdlock) (now (work .entry)) s) ⌝ }
+{
+    let TypeLine::Int = type_at(work, s.typed) else {
+        return type_false(s.line, 1);
+    };
+    let TypeLine::Rwlock(read, _) = type_at(work, s.type1) else {
+        return type_false(s.line, 2);
+    };
+    takes(work, s, read)
+}
+
+// RDUNLOCK: 1 type int; 2 part a rwlock; 3 post + r = post of part.
+pub fn check_rdunlock(work: &[u32], s: View) -> Ruling
+    ensures { λ r. ⌜ outcome r ≡ firstFalseFrom (s .line) 1 (rowIn (Unary Rdunlock) (now (work .entry)) s) ⌝ }
+{
+    let TypeLine::Int = type_at(work, s.typed) else {
+        return type_false(s.line, 1);
+    };
+    let TypeLine::Rwlock(read, _) = type_at(work, s.type1) else {
+        return type_false(s.line, 2);
+    };
+    gives(work, s, read)
+}
+
+// WRLOCK: 1 type int; 2 part a rwlock; 3 post = post of part + w.
+pub fn check_wrlock(work: &[u32], s: View) -> Ruling
+    ensures { λ r. ⌜ outcome r ≡ firstFalseFrom (s .line) 1 (rowIn (Unary Wrlock) (now (work .entry)) s) ⌝ }
+{
+    let TypeLine::Int = type_at(work, s.typed) else {
+        return type_false(s.line, 1);
+    };
+    let TypeLine::Rwlock(_, write) = type_at(work, s.type1) else {
+        return type_false(s.line, 2);
+    };
+    takes(work, s, write)
+}
+
+// WRUNLOCK: 1 type int; 2 part a rwlock; 3 post + w = post of part.
+pub fn check_wrunlock(work: &[u32], s: View) -> Ruling
+    ensures { λ r. ⌜ outcome r ≡ firstFalseFrom (s .line) 1 (rowIn (Unary Wrunlock) (now (work .entry)) s) ⌝ }
+{
+    let TypeLine::Int = type_at(work, s.typed) else {
+        return type_false(s.line, 1);
+    };
+    let TypeLine::Rwlock(_, write) = type_at(work, s.type1) else {
+        return type_false(s.line, 2);
+    };
+    gives(work, s, write)
 }

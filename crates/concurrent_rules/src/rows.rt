@@ -10,6 +10,7 @@ use rules::sum;
 use spec::Ruling;
 use spec::TypeLine;
 use views::View;
+use workspace::type_at;
 ghost use mathlib.Core.Path.{_≡_};
 ghost use Rattle.conditions.specs.Outcome.{outcome, firstFalseFrom};
 ghost use Rattle.spec.specs.declared.Word.the-variants.{Leaf, Binary};
@@ -18,23 +19,23 @@ ghost use Rattle.spec.specs.declared.BinaryWord.the-variants.{Spawn};
 ghost use Rattle.rules.specs.Table.{rowIn};
 
 // NEWT: 1 a tid type; 2 post = pre.
-pub fn check_newt(work: &[u32], s: View, kind: TypeLine) -> Ruling
-    ensures { λ r. ⌜ outcome r ≡ firstFalseFrom (s .line) 1 (rowIn (Leaf Newtid) (now (work .entry)) s kind kind) ⌝ }
+pub fn check_newt(work: &[u32], s: View) -> Ruling
+    ensures { λ r. ⌜ outcome r ≡ firstFalseFrom (s .line) 1 (rowIn (Leaf Newtid) (now (work .entry)) s) ⌝ }
 {
-    let TypeLine::Tid(_) = kind else {
+    let TypeLine::Tid(_) = type_at(work, s.typed) else {
         return type_false(s.line, 1);
     };
     equal(work, s, 2, s.post, s.pre)
 }
 
 // SPAWN: 1 type int; 2 e1 a tid; 3 post of e2 ≥ K; 4 post + s = post of e1.
-pub fn check_spawn(work: &[u32], s: View, kind: TypeLine, kind1: TypeLine) -> Ruling
-    ensures { λ r. ⌜ outcome r ≡ firstFalseFrom (s .line) 1 (rowIn (Binary Spawn) (now (work .entry)) s kind kind1) ⌝ }
+pub fn check_spawn(work: &[u32], s: View) -> Ruling
+    ensures { λ r. ⌜ outcome r ≡ firstFalseFrom (s .line) 1 (rowIn (Binary Spawn) (now (work .entry)) s) ⌝ }
 {
-    let TypeLine::Int = kind else {
+    let TypeLine::Int = type_at(work, s.typed) else {
         return type_false(s.line, 1);
     };
-    let TypeLine::Tid(load) = kind1 else {
+    let TypeLine::Tid(load) = type_at(work, s.type1) else {
         return type_false(s.line, 2);
     };
     also(
@@ -44,30 +45,30 @@ pub fn check_spawn(work: &[u32], s: View, kind: TypeLine, kind1: TypeLine) -> Ru
 }
 
 // NEWL: 1 a lock type; 2 post + out = pre.
-pub fn check_newl(work: &[u32], s: View, kind: TypeLine) -> Ruling
-    ensures { λ r. ⌜ outcome r ≡ firstFalseFrom (s .line) 1 (rowIn (Leaf Newlock) (now (work .entry)) s kind kind) ⌝ }
+pub fn check_newl(work: &[u32], s: View) -> Ruling
+    ensures { λ r. ⌜ outcome r ≡ firstFalseFrom (s .line) 1 (rowIn (Leaf Newlock) (now (work .entry)) s) ⌝ }
 {
-    let TypeLine::Lock(_, out) = kind else {
+    let TypeLine::Lock(_, out) = type_at(work, s.typed) else {
         return type_false(s.line, 1);
     };
     sum(work, s, 2, s.post, out, s.pre)
 }
 
 // NEWSEM: 1 a sem type; 2 post = pre.
-pub fn check_newsem(work: &[u32], s: View, kind: TypeLine) -> Ruling
-    ensures { λ r. ⌜ outcome r ≡ firstFalseFrom (s .line) 1 (rowIn (Leaf Newsem) (now (work .entry)) s kind kind) ⌝ }
+pub fn check_newsem(work: &[u32], s: View) -> Ruling
+    ensures { λ r. ⌜ outcome r ≡ firstFalseFrom (s .line) 1 (rowIn (Leaf Newsem) (now (work .entry)) s) ⌝ }
 {
-    let TypeLine::Sem(_) = kind else {
+    let TypeLine::Sem(_) = type_at(work, s.typed) else {
         return type_false(s.line, 1);
     };
     equal(work, s, 2, s.post, s.pre)
 }
 
 // NEWRWLOCK: 1 a rwlock type; 2 N × r ≤ w; 3 post + w = pre.
-pub fn check_newrwlock(work: &[u32], s: View, kind: TypeLine) -> Ruling
-    ensures { λ r. ⌜ outcome r ≡ firstFalseFrom (s .line) 1 (rowIn (Leaf Newrwlock) (now (work .entry)) s kind kind) ⌝ }
+pub fn check_newrwlock(work: &[u32], s: View) -> Ruling
+    ensures { λ r. ⌜ outcome r ≡ firstFalseFrom (s .line) 1 (rowIn (Leaf Newrwlock) (now (work .entry)) s) ⌝ }
 {
-    let TypeLine::Rwlock(read, write) = kind else {
+    let TypeLine::Rwlock(read, write) = type_at(work, s.typed) else {
         return type_false(s.line, 1);
     };
     also(

@@ -25,7 +25,7 @@ ghost use mathlib.Core.Path.{_≡_};
 ghost use Prim.Native.Nat.{_<_, _-_};
 ghost use lib.ListN.{set};
 ghost use Rattle.control.specs.Shapes.{shapeAt};
-ghost use Rattle.control.specs.Control.{variable as variableOf, behind as behindOf, second as secondOf, firstOf, rootOf, enteredBy, entered, halfWritten, left, returned, returnedSpace, turned, turnedSpace, found};
+ghost use Rattle.control.specs.Control.{variable as variableOf, behind as behindOf, second as secondOf, firstOf, rootOf, entering as enteringAt, returning as returningTo, stoppedAt, enteredBy, entered, halfWritten, left, returned, returnedSpace, turned, turnedSpace, found};
 
 // Where a thread is, while its next word is looked for and once it is found; its variables stand in that row.
 pub struct Focus {
@@ -107,71 +107,57 @@ pub fn root(program: &[u32]) -> u32
     first(program, at(program, PROCEDURES))
 }
 
+// To a step k.
+fn entering(row: u32, k: u32) -> Focus
+    ensures { λ r. ⌜ r ≡ enteringAt row k ⌝ }
+{
+    Focus {
+        mode: ENTER,
+        at: k,
+        value: 0,
+        row,
+    }
+}
+
+// With a value v to a continuation c.
+fn returning(row: u32, c: u32, v: u32) -> Focus
+    ensures { λ r. ⌜ r ≡ returningTo row c v ⌝ }
+{
+    Focus {
+        mode: RETURN,
+        at: c,
+        value: v,
+        row,
+    }
+}
+
+// At the word of a step k.
+fn stopped_at(row: u32, k: u32) -> Focus
+    ensures { λ r. ⌜ r ≡ stoppedAt row k ⌝ }
+{
+    Focus {
+        mode: STOPPED,
+        at: k,
+        value: 0,
+        row,
+    }
+}
+
 // From a step k of that shape, with continuation c and, of a variable, its value x.
 fn entered_by(s: Shape, row: u32, k: u32, c: u32, x: u32) -> Focus
     ensures { λ r. ⌜ r ≡ enteredBy s row k c x ⌝ }
 {
     match s {
-        Shape::Variable => Focus {
-            mode: RETURN,
-            at: c,
-            value: x,
-            row,
-        },
-        Shape::Constant => Focus {
-            mode: RETURN,
-            at: c,
-            value: 0,
-            row,
-        },
-        Shape::Maker => Focus {
-            mode: STOPPED,
-            at: k,
-            value: 0,
-            row,
-        },
-        Shape::While => Focus {
-            mode: STOPPED,
-            at: k,
-            value: 0,
-            row,
-        },
-        Shape::OnePart => Focus {
-            mode: ENTER,
-            at: behind(k),
-            value: 0,
-            row,
-        },
-        Shape::Call => Focus {
-            mode: ENTER,
-            at: behind(k),
-            value: 0,
-            row,
-        },
-        Shape::Let => Focus {
-            mode: ENTER,
-            at: behind(k),
-            value: 0,
-            row,
-        },
-        Shape::If => Focus {
-            mode: STOPPED,
-            at: k,
-            value: 0,
-            row,
-        },
-        Shape::Spawn => Focus {
-            mode: ENTER,
-            at: behind(k),
-            value: 0,
-            row,
-        },
-        Shape::Write => Focus {
-            mode: ENTER,
-            at: behind(k),
-            value: 0,
-            row,
-        },
+        Shape::Variable => returning(row, c, x),
+        Shape::Constant => returning(row, c, 0),
+        Shape::Maker => stopped_at(row, k),
+        Shape::While => stopped_at(row, k),
+        Shape::OnePart => entering(row, behind(k)),
+        Shape::Call => entering(row, behind(k)),
+        Shape::Let => entering(row, behind(k)),
+        Shape::If => stopped_at(row, k),
+        Shape::Spawn => entering(row, behind(k)),
+        Shape::Write => entering(row, behind(k)),
     }
 }
 

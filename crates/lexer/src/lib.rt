@@ -158,34 +158,31 @@ impl Cursor {
             let b = text[to];
             if b == b',' {
                 let at = (to + 1) as u32;
-                let next = Cursor { at, line };
                 return Span {
                     from,
                     to,
                     end: FieldEnd::Comma,
-                    next,
+                    next: Cursor { at, line },
                 };
             }
             if b == b'\n' {
                 let at = (to + 1) as u32;
                 let line = line + 1;
-                let next = Cursor { at, line };
                 return Span {
                     from,
                     to,
                     end: FieldEnd::Newline,
-                    next,
+                    next: Cursor { at, line },
                 };
             }
             to += 1;
         }
         let at = to as u32;
-        let next = Cursor { at, line };
         Span {
             from,
             to,
             end: FieldEnd::Text,
-            next,
+            next: Cursor { at, line },
         }
     }
 

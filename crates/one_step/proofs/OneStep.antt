@@ -51,7 +51,7 @@ module _ (S : Split) (P : Program) (R : InRange P S) (few : length (S .rows) ≤
 
     conditions-shown : (e : Expr) → Ready w k inside vars Γ pre e
         → (let s = viewOf w n d k in
-        ruleRow (ruleOf (cell w wordsAt k)) w s (layout.typeAt w (s .typed)) (layout.typeAt w (s .type1)))
+        ruleRow (ruleOf (cell w wordsAt k)) w s)
         ≡ conditionsOf S Γ pre e
     unfolding size
     conditions-shown (leaf x l v) r =

@@ -3,7 +3,7 @@ use mathlib.Core.List.{List}
 use Prim.Native.Nat.{ℕ}
 use Rattle.spec.specs.Reading.{Out}
 use Rattle.workspace.specs.declared.Rule.{Rule}
-use Rattle.workspace.specs.Layout.{wordsAt, ruleOf, typeAt}
+use Rattle.workspace.specs.Layout.{wordsAt, ruleOf}
 use Rattle.conditions.specs.Outcome.{firstFalseFrom}
 use Rattle.views.specs.StepView.{cell, viewOf}
 use Rattle.rules.specs.Table.{ruleRow}
@@ -12,7 +12,7 @@ use Rattle.rules.specs.Table.{ruleRow}
 unfoldable pub ruleOutcome : Rule → (w : List ℕ) → (locations denominator k : ℕ) → Out (Unit {0})
 ruleOutcome r w locations denominator k =
     let s = viewOf w locations denominator k in
-    firstFalseFrom (s .line) 1 (ruleRow r w s (typeAt w (s .typed)) (typeAt w (s .type1)))
+    firstFalseFrom (s .line) 1 (ruleRow r w s)
 
 -- the conditions of step k
 unfoldable pub stepOutcome : (w : List ℕ) → (locations denominator k : ℕ) → Out (Unit {0})

@@ -86,7 +86,7 @@ module _ (w : List ℕ) (S : Split) (P : Program) (H : HoldsSplit w S) (R : InRa
   -- ---------------------------------------------------------------- the table
 
   pub leaf-shown : (x : LeafWord) → Part w S (s .typed) (s .post) (leaf x l v) → Bound S x s Γ v
-      → ruleRow (ruleOf (leafCode x)) w s (layout.typeAt w (s .typed)) (layout.typeAt w (s .type1)) ≡ conditionsOf S Γ pre (leaf x l v)
+      → ruleRow (ruleOf (leafCode x)) w s ≡ conditionsOf S Γ pre (leaf x l v)
   unfolding printed ruleOf wordBy ruleRow conditionsBy conditionsOf type
   leaf-shown Var o b = rw (equal located (o .posted) pre-stands, shows _ _ o (b .0) (b .1))
   leaf-shown Int o b = rw (equal located (o .posted) pre-stands, typed-as _ o)
@@ -105,7 +105,7 @@ module _ (w : List ℕ) (S : Split) (P : Program) (H : HoldsSplit w S) (R : InRa
     -- a `call` shows the signature of its procedure
     pub unary-shown : (x : UnaryWord) → Part w S (s .typed) (s .post) (unary x l v e₁)
         → Stands w S (s .start) (bodyStart S (unary x l v e₁)) → (x ≡ Call → Signed w S (s .signature) (signature S v))
-        → ruleRow (ruleOf (unaryCode x)) w s (layout.typeAt w (s .typed)) (layout.typeAt w (s .type1)) ≡ conditionsOf S Γ pre (unary x l v e₁)
+        → ruleRow (ruleOf (unaryCode x)) w s ≡ conditionsOf S Γ pre (unary x l v e₁)
     unfolding printed ruleOf wordBy ruleRow conditionsBy conditionsOf type keptBack
     unary-shown While o b c =
         rw (at-least located pre-stands (o .posted), at-least located (f .posted) (o .posted), typed-as _ o)
@@ -149,7 +149,7 @@ module _ (w : List ℕ) (S : Split) (P : Program) (H : HoldsSplit w S) (R : InRa
     module _ (e₂ : Expr) (g : Part w S (s .type2) (s .post2) e₂) where
       pub binary-shown : (x : BinaryWord) → Part w S (s .typed) (s .post) (binary x l v e₁ e₂)
           → Stands w S (s .start) (bodyStart S (binary x l v e₁ e₂))
-          → ruleRow (ruleOf (binaryCode x)) w s (layout.typeAt w (s .typed)) (layout.typeAt w (s .type1)) ≡ conditionsOf S Γ pre (binary x l v e₁ e₂)
+          → ruleRow (ruleOf (binaryCode x)) w s ≡ conditionsOf S Γ pre (binary x l v e₁ e₂)
       unfolding printed ruleOf wordBy ruleRow conditionsBy conditionsOf type
       binary-shown Let o b =
           rw (equal located (o .posted) (g .posted), agrees _ _ o (g .typed) (g .type-in))

@@ -11,17 +11,18 @@ use rules::sum;
 use spec::Ruling;
 use spec::TypeLine;
 use views::View;
+use workspace::type_at;
 ghost use mathlib.Core.Path.{_≡_};
 ghost use Rattle.conditions.specs.Outcome.{outcome, firstFalseFrom};
 ghost use Rattle.spec.specs.declared.Word.the-variants.{Leaf, Unary, Binary};
 ghost use Rattle.spec.specs.declared.LeafWord.the-variants.{Var, Int};
 ghost use Rattle.spec.specs.declared.UnaryWord.the-variants.{While, Ref, Read, Call};
 ghost use Rattle.spec.specs.declared.BinaryWord.the-variants.{Let, If, Write};
-ghost use Rattle.rules.specs.Table.{rowIn, plainRow};
+ghost use Rattle.rules.specs.Table.{rowIn};
 
 // VAR: 1 type is that of its let's e1, or for a lock a looser one; 2 post = pre.
 pub fn check_var(work: &[u32], s: View) -> Ruling
-    ensures { λ r. ⌜ outcome r ≡ firstFalseFrom (s .line) 1 (plainRow (Leaf Var) (now (work .entry)) s) ⌝ }
+    ensures { λ r. ⌜ outcome r ≡ firstFalseFrom (s .line) 1 (rowIn (Leaf Var) (now (work .entry)) s) ⌝ }
 {
     if !may_show(work, s.locations, s.typed, s.bound) {
         return type_false(s.line, 1);
@@ -30,10 +31,10 @@ pub fn check_var(work: &[u32], s: View) -> Ruling
 }
 
 // INT: 1 type int; 2 post = pre.
-pub fn check_int(work: &[u32], s: View, kind: TypeLine) -> Ruling
-    ensures { λ r. ⌜ outcome r ≡ firstFalseFrom (s .line) 1 (rowIn (Leaf Int) (now (work .entry)) s kind kind) ⌝ }
+pub fn check_int(work: &[u32], s: View) -> Ruling
+    ensures { λ r. ⌜ outcome r ≡ firstFalseFrom (s .line) 1 (rowIn (Leaf Int) (now (work .entry)) s) ⌝ }
 {
-    let TypeLine::Int = kind else {
+    let TypeLine::Int = type_at(work, s.typed) else {
         return type_false(s.line, 1);
     };
     equal(work, s, 2, s.post, s.pre)
@@ -41,7 +42,7 @@ pub fn check_int(work: &[u32], s: View, kind: TypeLine) -> Ruling
 
 // LET: 1 type of e2; 2 post = post of e2.
 pub fn check_let(work: &[u32], s: View) -> Ruling
-    ensures { λ r. ⌜ outcome r ≡ firstFalseFrom (s .line) 1 (plainRow (Binary Let) (now (work .entry)) s) ⌝ }
+    ensures { λ r. ⌜ outcome r ≡ firstFalseFrom (s .line) 1 (rowIn (Binary Let) (now (work .entry)) s) ⌝ }
 {
     if !agrees(work, s.locations, s.typed, s.type2) {
         return type_false(s.line, 1);
@@ -51,7 +52,7 @@ pub fn check_let(work: &[u32], s: View) -> Ruling
 
 // IF: 1 type of e1; 2 type of e2; 3 post of e1 ≥ post; 4 post of e2 ≥ post.
 pub fn check_if(work: &[u32], s: View) -> Ruling
-    ensures { λ r. ⌜ outcome r ≡ firstFalseFrom (s .line) 1 (plainRow (Binary If) (now (work .entry)) s) ⌝ }
+    ensures { λ r. ⌜ outcome r ≡ firstFalseFrom (s .line) 1 (rowIn (Binary If) (now (work .entry)) s) ⌝ }
 {
     if !agrees(work, s.locations, s.typed, s.type1) {
         return type_false(s.line, 1);
@@ -66,10 +67,10 @@ pub fn check_if(work: &[u32], s: View) -> Ruling
 }
 
 // WHILE: 1 type int; 2 pre ≥ post; 3 post of part ≥ post.
-pub fn check_while(work: &[u32], s: View, kind: TypeLine) -> Ruling
-    ensures { λ r. ⌜ outcome r ≡ firstFalseFrom (s .line) 1 (rowIn (Unary While) (now (work .entry)) s kind kind) ⌝ }
+pub fn check_while(work: &[u32], s: View) -> Ruling
+    ensures { λ r. ⌜ outcome r ≡ firstFalseFrom (s .line) 1 (rowIn (Unary While) (now (work .entry)) s) ⌝ }
 {
-    let TypeLine::Int = kind else {
+    let TypeLine::Int = type_at(work, s.typed) else {
         return type_false(s.line, 1);
     };
     let body = s.post1;
@@ -80,10 +81,10 @@ pub fn check_while(work: &[u32], s: View, kind: TypeLine) -> Ruling
 }
 
 // REF: 1 a ref type whose c is the part's type; 2 post = post of part.
-pub fn check_ref(work: &[u32], s: View, kind: TypeLine) -> Ruling
-    ensures { λ r. ⌜ outcome r ≡ firstFalseFrom (s .line) 1 (rowIn (Unary Ref) (now (work .entry)) s kind kind) ⌝ }
+pub fn check_ref(work: &[u32], s: View) -> Ruling
+    ensures { λ r. ⌜ outcome r ≡ firstFalseFrom (s .line) 1 (rowIn (Unary Ref) (now (work .entry)) s) ⌝ }
 {
-    let TypeLine::Ref(_, content) = kind else {
+    let TypeLine::Ref(_, content) = type_at(work, s.typed) else {
         return type_false(s.line, 1);
     };
     if !agrees(work, s.locations, content, s.type1) {
@@ -93,13 +94,13 @@ pub fn check_ref(work: &[u32], s: View, kind: TypeLine) -> Ruling
 }
 
 // WRITE: 1 type int; 2 e1 a ref; 3 type of e2 is c; 4 post = post of e2; 5 post at p ≥ D.
-pub fn check_write(work: &[u32], s: View, kind: TypeLine, kind1: TypeLine) -> Ruling
-    ensures { λ r. ⌜ outcome r ≡ firstFalseFrom (s .line) 1 (rowIn (Binary Write) (now (work .entry)) s kind kind1) ⌝ }
+pub fn check_write(work: &[u32], s: View) -> Ruling
+    ensures { λ r. ⌜ outcome r ≡ firstFalseFrom (s .line) 1 (rowIn (Binary Write) (now (work .entry)) s) ⌝ }
 {
-    let TypeLine::Int = kind else {
+    let TypeLine::Int = type_at(work, s.typed) else {
         return type_false(s.line, 1);
     };
-    let TypeLine::Ref(p, content) = kind1 else {
+    let TypeLine::Ref(p, content) = type_at(work, s.type1) else {
         return type_false(s.line, 2);
     };
     if !agrees(work, s.locations, content, s.type2) {
@@ -112,10 +113,10 @@ pub fn check_write(work: &[u32], s: View, kind: TypeLine, kind1: TypeLine) -> Ru
 }
 
 // READ: 1 part a ref; 2 type is c; 3 post = post of part; 4 post at p > 0.
-pub fn check_read(work: &[u32], s: View, kind1: TypeLine) -> Ruling
-    ensures { λ r. ⌜ outcome r ≡ firstFalseFrom (s .line) 1 (rowIn (Unary Read) (now (work .entry)) s kind1 kind1) ⌝ }
+pub fn check_read(work: &[u32], s: View) -> Ruling
+    ensures { λ r. ⌜ outcome r ≡ firstFalseFrom (s .line) 1 (rowIn (Unary Read) (now (work .entry)) s) ⌝ }
 {
-    let TypeLine::Ref(p, content) = kind1 else {
+    let TypeLine::Ref(p, content) = type_at(work, s.type1) else {
         return type_false(s.line, 1);
     };
     if !agrees(work, s.locations, content, s.typed) {
@@ -129,7 +130,7 @@ pub fn check_read(work: &[u32], s: View, kind1: TypeLine) -> Ruling
 
 // CALL: 1 type is result; 2 type of part is argument; 3 post of part = before + s; 4 post = after + s.
 pub fn check_call(work: &[u32], s: View) -> Ruling
-    ensures { λ r. ⌜ outcome r ≡ firstFalseFrom (s .line) 1 (plainRow (Unary Call) (now (work .entry)) s) ⌝ }
+    ensures { λ r. ⌜ outcome r ≡ firstFalseFrom (s .line) 1 (rowIn (Unary Call) (now (work .entry)) s) ⌝ }
 {
     let g = s.signature;
     if !agrees(work, s.locations, s.typed, g.result) {

@@ -1,7 +1,7 @@
 -- What the lent space and the records hold of the machine, with the counts of what it has made.
 use Prim.Native.Nat.{ℕ, suc, _+_, _*_, _<_, _≤_}
 use mathlib.Core.Path.{_≡_}
-use mathlib.Core.Bool.{Bool, true, false}
+use mathlib.Core.Bool.{true}
 use mathlib.Core.List.{List}
 use mathlib.Core.Option.{some}
 use native.Mathlib.Omega.{arith}
@@ -16,7 +16,7 @@ use Rattle.things.specs.declared.Slot.{Slot}
 use Rattle.reduction.specs.Slots.{slotAt}
 use Rattle.engine.specs.Focuses.{focusAt}
 use Rattle.replay_theory.specs.Run.{Kind, cells, locks, rwlocks, semaphores, identifiers}
-use Rattle.machine.specs.Control.{Control, done, at, openCalls}
+use Rattle.machine.specs.Control.{openCalls}
 use Rattle.machine.specs.State.{MachineThread}
 use Rattle.machine.specs.Step.{isDone}
 use Rattle.machine.specs.Kept.{UnusedFrom}

@@ -9,7 +9,8 @@ use Rattle.concurrent_rules.proofs.rows.check_newrwlock.Tie as tie
 returns-2 : tie.Need-returns-2
 unfolding is sameKind firstMap secondMap
 returns-2 c =
-    rw (c .before .before .before .before .kind .given .1)
+    let places = c .before .before .before .before in
+    rw (← places .before .before .type-at .ensures, places .read .given .1)
     (pass _ _ _ _ refl
     (next _ _ _ _ _ _ (c .also .ensures) (c .before .before .flow .ensures)
     (last _ _ _ (c .before .sum .ensures))))
@@ -18,9 +19,10 @@ pub check-newrwlock-spec : {M : Type 1} → statement M
 check-newrwlock-spec =
     tie.close
     (tie.spec
+    (λ c κs. search needs)
     (λ c. search needs)
     (λ c κs. search needs)
-    (λ c. fail _ _ _ _ (not-of rwlock _ (c .before .match .keys2)) (c .type-false .ensures))
+    (λ c. rw (← c .before .before .type-at .ensures) (fail _ _ _ _ (not-of rwlock _ (c .before .match .keys2)) (c .type-false .ensures)))
     (λ c κs. search needs)
     (λ c κs. search needs)
     (λ c κs. search needs)

@@ -10,14 +10,17 @@ use Rattle.concurrent_rules.proofs.rows.check_spawn.Tie as tie
 
 returns-2 : tie.Need-returns-2
 returns-2 c =
-    pass _ _ _ _ (of-is (c .before .before .enum-told .given .1))
-    (fail _ _ _ _ (not-of tid _ (c .before .match2 .keys2)) (c .type-false2 .ensures))
+    let part = c .before .before in
+    rw (← part .type-at2 .ensures, ← part .before .before .before .type-at .ensures)
+    (pass _ _ _ _ (of-is (part .before .enum-told .given .1))
+    (fail _ _ _ _ (not-of tid _ (c .before .match2 .keys2)) (c .type-false2 .ensures)))
 
 returns-3 : tie.Need-returns-3
 unfolding is sameKind firstMap
 returns-3 c =
-    let part = c .before .before .before .before in
-    rw (part .before .before .enum-told .given .1, part .kind1 .given .1)
+    let found = c .before .before .before .before in
+    let part = found .before .before in
+    rw (← part .type-at2 .ensures, ← part .before .before .before .type-at .ensures, part .before .enum-told .given .1, found .load .given .1)
     (pass _ _ _ _ refl
     (pass _ _ _ _ refl
     (next _ _ _ _ _ _ (c .also .ensures) (c .before .before .at-least .ensures)
@@ -27,9 +30,11 @@ pub check-spawn-spec : {M : Type 1} → statement M
 check-spawn-spec =
     tie.close
     (tie.spec
+    (λ c κs. search needs)
     (λ c. search needs)
     (λ c κs. search needs)
-    (λ c. fail _ _ _ _ (not-of int _ (c .before .match .keys2)) (c .type-false .ensures))
+    (λ c. rw (← c .before .before .type-at .ensures) (fail _ _ _ _ (not-of int _ (c .before .match .keys2)) (c .type-false .ensures)))
+    (λ c κs. search needs)
     (λ c. search needs)
     (λ c κs. search needs)
     returns-2

@@ -13,7 +13,8 @@ returns-2 : tie.Need-returns-2
 unfolding is sameKind contains content
 returns-2 c =
     let content = c .before .before in
-    rw (content .before .before .kind1 .given .1)
+    let cell = content .before .before in
+    rw (← cell .before .before .type-at .ensures, cell .p .given .1)
     (pass _ _ _ _ refl
     (fail _ _ _ _ (sym (content .agrees .ensures) ∙ not-true _ (c .before .if1 .taken)) (c .type-false2 .ensures)))
 
@@ -22,7 +23,8 @@ unfolding is sameKind refLocation contains content
 returns-3 c =
     let test = c .before .before .before in
     let content = test .before in
-    rw (content .before .before .kind1 .given .1)
+    let cell = content .before .before in
+    rw (← cell .before .before .type-at .ensures, cell .p .given .1)
     (pass _ _ _ _ refl
     (pass _ _ _ _ (sym (content .agrees .ensures) ∙ not-false _ (test .if1 .left))
     (next _ _ _ _ _ _ (c .also .ensures) (c .before .before .equal .ensures)
@@ -32,9 +34,10 @@ pub check-read-spec : {M : Type 1} → statement M
 check-read-spec =
     tie.close
     (tie.spec
+    (λ c κs. search needs)
     (λ c. search needs)
     (λ c κs. search needs)
-    (λ c. fail _ _ _ _ (not-of ref _ (c .before .match .keys2)) (c .type-false .ensures))
+    (λ c. rw (← c .before .before .type-at .ensures) (fail _ _ _ _ (not-of ref _ (c .before .match .keys2)) (c .type-false .ensures)))
     (λ c κs. search needs)
     (λ c κs. search needs)
     returns-2

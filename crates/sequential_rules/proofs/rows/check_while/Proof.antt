@@ -8,17 +8,20 @@ use Rattle.sequential_rules.proofs.rows.check_while.Tie as tie
 
 returns-2 : tie.Need-returns-2
 returns-2 c =
-    pass _ _ _ _ (of-is (c .before .before .before .before .enum-told .given .1))
+    let int-told = c .before .before .before .before in
+    rw (← int-told .before .before .type-at .ensures)
+    (pass _ _ _ _ (of-is (int-told .enum-told .given .1))
     (next _ _ _ _ _ _ (c .also .ensures) (c .before .before .at-least .ensures)
-    (last _ _ _ (c .before .at-least2 .ensures)))
+    (last _ _ _ (c .before .at-least2 .ensures))))
 
 pub check-while-spec : {M : Type 1} → statement M
 check-while-spec =
     tie.close
     (tie.spec
+    (λ c κs. search needs)
     (λ c. search needs)
     (λ c κs. search needs)
-    (λ c. fail _ _ _ _ (not-of int _ (c .before .match .keys2)) (c .type-false .ensures))
+    (λ c. rw (← c .before .before .type-at .ensures) (fail _ _ _ _ (not-of int _ (c .before .match .keys2)) (c .type-false .ensures)))
     (λ c κs. search needs)
     (λ c κs. search needs)
     (λ c κs. search needs)

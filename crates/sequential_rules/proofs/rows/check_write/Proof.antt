@@ -12,15 +12,18 @@ use Rattle.sequential_rules.proofs.rows.check_write.Tie as tie
 
 returns-2 : tie.Need-returns-2
 returns-2 c =
-    pass _ _ _ _ (of-is (c .before .before .enum-told .given .1))
-    (fail _ _ _ _ (not-of ref _ (c .before .match2 .keys2)) (c .type-false2 .ensures))
+    let part = c .before .before in
+    rw (← part .type-at2 .ensures, ← part .before .before .before .type-at .ensures)
+    (pass _ _ _ _ (of-is (part .before .enum-told .given .1))
+    (fail _ _ _ _ (not-of ref _ (c .before .match2 .keys2)) (c .type-false2 .ensures)))
 
 returns-3 : tie.Need-returns-3
 unfolding is sameKind contains content
 returns-3 c =
     let content = c .before .before in
-    let part = content .before .before in
-    rw (part .before .before .enum-told .given .1, part .kind1 .given .1)
+    let cell = content .before .before in
+    let part = cell .before .before in
+    rw (← part .type-at2 .ensures, ← part .before .before .before .type-at .ensures, part .before .enum-told .given .1, cell .p .given .1)
     (pass _ _ _ _ refl
     (pass _ _ _ _ refl
     (fail _ _ _ _ (sym (content .agrees .ensures) ∙ not-true _ (c .before .if1 .taken)) (c .type-false3 .ensures))))
@@ -30,8 +33,9 @@ unfolding is sameKind refLocation contains content
 returns-4 c =
     let test = c .before .before .before in
     let content = test .before in
-    let part = content .before .before in
-    rw (part .before .before .enum-told .given .1, part .kind1 .given .1)
+    let cell = content .before .before in
+    let part = cell .before .before in
+    rw (← part .type-at2 .ensures, ← part .before .before .before .type-at .ensures, part .before .enum-told .given .1, cell .p .given .1)
     (pass _ _ _ _ refl
     (pass _ _ _ _ refl
     (pass _ _ _ _ (sym (content .agrees .ensures) ∙ not-false _ (test .if1 .left))
@@ -42,9 +46,11 @@ pub check-write-spec : {M : Type 1} → statement M
 check-write-spec =
     tie.close
     (tie.spec
+    (λ c κs. search needs)
     (λ c. search needs)
     (λ c κs. search needs)
-    (λ c. fail _ _ _ _ (not-of int _ (c .before .match .keys2)) (c .type-false .ensures))
+    (λ c. rw (← c .before .before .type-at .ensures) (fail _ _ _ _ (not-of int _ (c .before .match .keys2)) (c .type-false .ensures)))
+    (λ c κs. search needs)
     (λ c. search needs)
     (λ c κs. search needs)
     returns-2
