@@ -7,7 +7,7 @@ use mathlib.Core.List.{List, _∷_, _++_}
 use native.Mathlib.Decide.{ℕ-discrete}
 use Rattle.calculus.specs.Expression.{Value, name, read, Exp, value, writeRedex, unaryRedex, Next, atWord, nextWord, choose, Procedure, Program}
 use Rattle.calculus.specs.State.{Slot, cell, Thread, State, Move, update}
-use Rattle.calculus.specs.Reduction.{_>>=_, content, zeroExp, becomes, wordOf, reduct, reduce, orElse, attempt, run, startState}
+use Rattle.calculus.specs.Reduction.{_>>=_, cellValue, zeroExp, becomes, wordOf, reduct, reduce, orElse, attempt, run, startState}
 use Rattle.calculus.specs.Claim.{ThreadAt, AboutToRead, aboutToRead, AboutToWrite, aboutToWrite, race, RaceFree, Safe, reached, AboutToUse, aboutToUse, SameEitherWay, CellStepsSwap, InEitherOrder}
 use Rattle.calculus.proofs.Laws.Maps.{update-other, updates-swap}
 use Rattle.calculus.proofs.Laws.Places.{set-elsewhere, sets-swap}
@@ -31,7 +31,7 @@ read-step : (P : List Procedure) (m : Move) (t : Thread) (n : ℕ) (v : Value) �
     CellStep P m t n v (λ names. names)
 read-step P m t n v word = record {
   e = value v;
-  goes = λ s there holds. word-found P s m t there word ∙ ap (λ sl. content sl >>= λ w. some (becomes s m t (s .names) (value w))) holds;
+  goes = λ s there holds. word-found P s m t there word ∙ ap (λ sl. cellValue sl >>= λ w. some (becomes s m t (s .names) (value w))) holds;
 }
 
 write-step : (P : List Procedure) (m : Move) (t : Thread) (n : ℕ) (v w : Value) → nextWord (t .body) ≡ atWord (writeRedex (name n) w) →
@@ -39,7 +39,7 @@ write-step : (P : List Procedure) (m : Move) (t : Thread) (n : ℕ) (v w : Value
 write-step P m t n v w word = record {
   e = zeroExp;
   goes = λ s there holds. word-found P s m t there word
-      ∙ ap (λ sl. content sl >>= λ z. some (becomes s m t (update (s .names) n (cell w)) zeroExp)) holds;
+      ∙ ap (λ sl. cellValue sl >>= λ z. some (becomes s m t (update (s .names) n (cell w)) zeroExp)) holds;
 }
 
 -- ---- Two steps

@@ -8,7 +8,7 @@ use native.Mathlib.Omega.{arith}
 use lib.ListN.{getElem?}
 use Rattle.calculus.specs.Expression.{Value, name, HoldWord, Unary, join, ref, read, lock, unlock, post, wait, hold, call, Redex, unaryRedex, Next, isValue, atVariable, atWord, nextWord, Procedure}
 use Rattle.calculus.specs.State.{LockState, opened, closed, Inside, Slot, identifier, aLock, semaphore, rwlock, Thread, State, first, Move}
-use Rattle.calculus.specs.Reduction.{ifUnused, ifIdentifier, content, lockState, count, rwState, insideAfter, ifEqual, valueOf, wordOf, named, reduct, reduce}
+use Rattle.calculus.specs.Reduction.{ifUnused, ifIdentifier, cellValue, lockState, count, rwState, insideAfter, ifEqual, valueOf, wordOf, named, reduct, reduce}
 use Rattle.calculus.specs.Claim.{ThreadAt, Finished, finished, Waits, atJoin, atLock, atWait, atHold, Halts, HaltsWell}
 use Rattle.calculus.specs.Capability.{Cap}
 use Rattle.calculus.specs.Figure5.{Ty, refType, tidType, asItIs, Signatures, empty}
@@ -44,8 +44,8 @@ module _ {D : ℕ} {S : Signatures} {s : State} (P : List Procedure) (bodies : B
       some-is-not-none (bind-goes-on (ifUnused (s .names (I .top))) _ (ap ifUnused (I .above (I .top) (omega arith))) h)
 
   -- So does a word on a cell.
-  cell-has-content : {ρ n : ℕ} {τ : Ty} → I .N n ≡ some (refType ρ τ) → (v : Value) × (content (s .names n) ≡ some v)
-  cell-has-content {n} known = let (v, found, _) = cell-there (rw known at (I .slots n)) in (v, ap content found)
+  cell-has-content : {ρ n : ℕ} {τ : Ty} → I .N n ≡ some (refType ρ τ) → (v : Value) × (cellValue (s .names n) ≡ some v)
+  cell-has-content {n} known = let (v, found, _) = cell-there (rw known at (I .slots n)) in (v, ap cellValue found)
 
   join-waits : {K : Cap} {n : ℕ} → nextWord (t .body) ≡ atWord (unaryRedex join (name n)) → I .N n ≡ some (tidType K) → Waits s t
   join-waits {n} word known = atJoin n word kind none-finished
@@ -87,7 +87,7 @@ module _ {D : ℕ} {S : Signatures} {s : State} (P : List Procedure) (bodies : B
   unary-halts join word (name-typed known asItIs) (join-typed gains) = join-waits word known
   unary-halts ref word typed (ref-typed enough) = named-goes-ahead _ (no-reduct word 0 (I .top))
   unary-halts read word (name-typed {n = n} known asItIs) (read-typed some-of-it enough) =
-      some-is-not-none (bind-goes-on (content (s .names n)) _ (cell-has-content known .1) (no-reduct word 0 0))
+      some-is-not-none (bind-goes-on (cellValue (s .names n)) _ (cell-has-content known .1) (no-reduct word 0 0))
   unary-halts lock word (name-typed {n = n} known shown) (lock-typed gains) =
       let (l, found) = lock-named {n = n} (own-lock known shown) in lock-waits l word found
   unary-halts unlock word (name-typed {n = n} known shown) (unlock-typed pays) =
@@ -111,7 +111,7 @@ module _ {D : ℕ} {S : Signatures} {s : State} (P : List Procedure) (bodies : B
       let kind = ap ifIdentifier (identifier-there (rw known at (I .slots n))) in
       some-is-not-none (bind-goes-on (ifIdentifier (s .names n)) _ kind (no-reduct word 0 0))
   redex-halts word (write-redex-typed (name-typed {n = n} known asItIs) typed whole enough) =
-      some-is-not-none (bind-goes-on (content (s .names n)) _ (cell-has-content known .1) (no-reduct word 0 0))
+      some-is-not-none (bind-goes-on (cellValue (s .names n)) _ (cell-has-content known .1) (no-reduct word 0 0))
   redex-halts word (unary-redex-typed {o = o} v-typed o-typed) = unary-halts o word v-typed o-typed
   redex-halts word (make-redex-typed o-typed) = named-goes-ahead _ (no-reduct word 0 (I .top))
 

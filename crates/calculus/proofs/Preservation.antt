@@ -9,7 +9,7 @@ use native.Mathlib.Omega.{arith}
 use lib.ListN.{getElem?}
 use Rattle.calculus.specs.Expression.{Value, name, HoldWord, Unary, join, ref, read, lock, unlock, post, wait, hold, call, newtid, newlock, newsem, newrwlock, Exp, value, letIn, if, while, Redex, letRedex, ifRedex, whileRedex, spawnRedex, writeRedex, unaryRedex, makeRedex, isValue, atWord, nextWord, substitute, Procedure}
 use Rattle.calculus.specs.State.{opened, aLock, semaphore, Thread, State, Part, first, second, Move}
-use Rattle.calculus.specs.Reduction.{ifIdentifier, content, lockState, ifOpened, count, oneLess, rwState, insideAfter, ifEqual, valueOf, wordOf, zeroExp, nowhere, partListed, unaryReduct, reduct, reduce}
+use Rattle.calculus.specs.Reduction.{ifIdentifier, cellValue, lockState, ifOpened, count, oneLess, rwState, insideAfter, ifEqual, valueOf, wordOf, zeroExp, nowhere, partListed, unaryReduct, reduct, reduce}
 use Rattle.calculus.specs.Claim.{ThreadAt}
 use Rattle.calculus.specs.Capability.{Cap, _×ᶜ_, _≥ᶜ_}
 use Rattle.calculus.specs.Figure5.{Ty, intType, refType, lockType, tidType, semType, rwlockType, asItIs, Signature, Signatures, Env, empty, bind}
@@ -73,7 +73,7 @@ module _ {D : ℕ} {S : Signatures} {s : State} (P : List Procedure) (bodies : B
       unaryReduct P s m t read (name n) ≡ some s′ → WellTyped D S s′
   read-keeps {n} M known enough q =
       let (w, found, typed) = cell-there (rw known at (I .slots n)) in
-      thread-alone-keeps M (value w) (value-typed typed enough) (bind-goes-on (content (s .names n)) _ (ap content found) q)
+      thread-alone-keeps M (value w) (value-typed typed enough) (bind-goes-on (cellValue (s .names n)) _ (ap cellValue found) q)
 
   -- An open lock keeps what it takes, Ψₒ, and the thread takes out of it no more than it hands out, Ψᵢ; closed it keeps nothing. Here
   -- it counts that a lock hands out no more than it takes.
@@ -178,7 +178,7 @@ module _ {D : ℕ} {S : Signatures} {s : State} (P : List Procedure) (bodies : B
   write-keeps : {Φ : Cap} {ρ n : ℕ} {w : Value} {σ : Ty} {s′ : State} (M : Place D S s I m t h intType Φ) → I .N n ≡ some (refType ρ σ) →
       ValueTyped (I .N) w σ → h .own ≥ᶜ Φ → reduct P s m t (writeRedex (name n) w) ≡ some s′ → WellTyped D S s′
   write-keeps {ρ} {n} {σ} M known typed enough q =
-      let (_, _, q₁) = bind-is-some (content (s .names n)) q in
+      let (_, _, q₁) = bind-is-some (cellValue (s .names n)) q in
       slot-change-keeps M n _ (refType ρ σ) (h .own) zeroExp known (slot-cell typed) (value-typed int-typed enough) (λ ρ. omega arith) q₁
 
   newtid-keeps : {Φ K : Cap} {s′ : State} (M : Place D S s I m t h (tidType K) Φ) → h .own ≥ᶜ Φ →

@@ -40,13 +40,13 @@ ifIdentifier (semaphore c) = none
 ifIdentifier (rwlock N i) = none
 
 -- The value that a cell holds.
-abbrev pub content : Slot → Option Value
-content unused = none
-content identifier = none
-content (cell v) = some v
-content (aLock l) = none
-content (semaphore c) = none
-content (rwlock N i) = none
+abbrev pub cellValue : Slot → Option Value
+cellValue unused = none
+cellValue identifier = none
+cellValue (cell v) = some v
+cellValue (aLock l) = none
+cellValue (semaphore c) = none
+cellValue (rwlock N i) = none
 
 -- Whether a lock is open or closed.
 abbrev pub lockState : Slot → Option LockState
@@ -169,7 +169,7 @@ module _ (P : List Procedure) where
   unaryReduct s m t ref v = named s m t (cell v)
   unaryReduct s m t read v = do
     n ← nameOf v
-    w ← content (s .names n)
+    w ← cellValue (s .names n)
     some (becomes s m t (s .names) (value w))
   unaryReduct s m t lock v = do
     n ← nameOf v
@@ -209,7 +209,7 @@ module _ (P : List Procedure) where
     some (withThread (record { tid = n; body = e }) (becomes s m t (s .names) zeroExp))
   reduct s m t (writeRedex v w) = do
     n ← nameOf v
-    content (s .names n)
+    cellValue (s .names n)
     some (becomes s m t (update (s .names) n (cell w)) zeroExp)
   reduct s m t (unaryRedex o v) = unaryReduct s m t o v
   reduct s m t (makeRedex o) = named s m t (made o)

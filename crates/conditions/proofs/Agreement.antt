@@ -11,7 +11,7 @@ use borrow.Author.Tests.{eq-eqb, eqb-true, ne-eqb, lt-ltb, le-ltb, ltb-true}
 use Rattle.spec.specs.Choice.{if_then_else_}
 use Rattle.spec.specs.Program.{Program}
 use Rattle.spec.specs.Split.{Split, typeAt, mapAt}
-use Rattle.spec.specs.Maps.{nowhere, sameNumbers, _≥ᵐ_}
+use Rattle.spec.specs.Maps.{holdsEverywhere, sameNumbers, _≥ᵐ_}
 use Rattle.spec.specs.Agreement.{Tree, plain, refTo, sameMaps, sameTree, treeOf, trees, tree, agree}
 use Rattle.spec.specs.Kinds.{int, ref, lock, kindOf, sameKind, is, refLocation, content, maps, firstMap, secondMap}
 use Rattle.spec.specs.Conditions.{contains, looserLock, mayShow}
@@ -139,7 +139,7 @@ module _ (w : List ℕ) (S : Split) (P : Program) (H : HoldsSplit w S) (R : InRa
   same-numbers-shown k h p q = rw (equal-shown located (map-stands w S P H R k p) (map-stands w S P H R h q))
 
   not-below-shown : (k h : MapNumber) → k .0 < length (S .maps) → h .0 < length (S .maps)
-      → everywhere w n (AtLeast k h) ≡ nowhere (mapAt S k ≥ᵐ mapAt S h)
+      → everywhere w n (AtLeast k h) ≡ holdsEverywhere (mapAt S k ≥ᵐ mapAt S h)
   unfolding everywhere
   not-below-shown k h p q = rw (at-least-shown located (map-stands w S P H R k p) (map-stands w S P H R h q))
 

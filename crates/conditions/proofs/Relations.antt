@@ -9,7 +9,7 @@ use lib.Dec.{leb, ltb}
 use lib.ListN.{length}
 use borrow.Author.Tests.{eqb-true, eq-eqb, ltb-true, ltb-false, lt-ltb, le-ltb, lt-leb, le-leb, leb-true}
 use Rattle.spec.specs.Choice.{if_then_else_}
-use Rattle.spec.specs.Maps.{lowest, atLeast, _+ᵐ_, _×ᵐ_, overWhole, nowhere}
+use Rattle.spec.specs.Maps.{lowest, atLeast, _+ᵐ_, _×ᵐ_, overWhole, holdsEverywhere}
 use Rattle.spec.specs.Reading.{on}
 use Rattle.spec.specs.Conditions.{F}
 use Rattle.spec.specs.Sites.{judge}
@@ -75,7 +75,7 @@ module _ (w : List ℕ) where
   itself-nowhere r e l (suc n) = rw (one-more r l n, itself-holds r e l) (itself-nowhere r e (l + 1) n)
 
   pub itself-everywhere : (r : Relation) → ofItself r ≡ true → (n : ℕ) → everywhere w n r ≡ true
-  unfolding everywhere fails nowhere
+  unfolding everywhere fails holdsEverywhere
   itself-everywhere r e n = rw (itself-nowhere r e 0 (asked w r n))
 
   -- a flow condition on a map and itself
@@ -139,6 +139,6 @@ pub told-everywhere : (w : List ℕ) (r : Relation) (n : ℕ) (p : Location) →
 unfolding everywhere
 told-everywhere w r n p e = rw (← e) (either (ltb (p .0) n) refl)
   where
-    either : (s : Bool) → ltb (p .0) n ≡ s → leb n (p .0) ≡ nowhere (below n p)
-    either true h = unfold nowhere in rw (below-here n p (ltb-true (p .0) n h)) (lt-leb n (p .0) (ltb-true (p .0) n h))
-    either false h = unfold nowhere in rw (below-none n p (ltb-false (p .0) n h)) (le-leb n (p .0) (ltb-false (p .0) n h))
+    either : (s : Bool) → ltb (p .0) n ≡ s → leb n (p .0) ≡ holdsEverywhere (below n p)
+    either true h = unfold holdsEverywhere in rw (below-here n p (ltb-true (p .0) n h)) (lt-leb n (p .0) (ltb-true (p .0) n h))
+    either false h = unfold holdsEverywhere in rw (below-none n p (ltb-false (p .0) n h)) (le-leb n (p .0) (ltb-false (p .0) n h))

@@ -6,7 +6,7 @@ use Prim.Native.Nat.{ℕ, _+_, _*_, _<_}
 use lib.Dec.{eqb, leb, ltb}
 use lib.ListN.{length}
 use Rattle.spec.specs.Choice.{if_then_else_}
-use Rattle.spec.specs.Maps.{lowest, atLeast, _+ᵐ_, _×ᵐ_, overWhole, nowhere}
+use Rattle.spec.specs.Maps.{lowest, atLeast, _+ᵐ_, _×ᵐ_, overWhole, holdsEverywhere}
 use Rattle.spec.specs.Conditions.{Condition, A}
 use Rattle.spec.specs.declared.Location.{Location}
 use Rattle.spec.specs.declared.MapNumber.{MapNumber}
@@ -71,7 +71,7 @@ ofItself (Within a d) = false
 
 -- whether a relation holds at each of n locations
 unfoldable pub everywhere : (w : List ℕ) (n : ℕ) → Relation → Bool
-everywhere w n r = nowhere (fails w n r)
+everywhere w n r = holdsEverywhere (fails w n r)
 
 -- a map has at least so much of a location
 abbrev pub hasAtLeast : (w : List ℕ) → MapNumber → Location → (least : ℕ) → Condition

@@ -15,7 +15,7 @@ use Rattle.spec.specs.Expression.{Step, Position, Expr, leaf, unary, binary, si
 use Rattle.spec.specs.Split.{Map, Split, mapAt}
 use Rattle.spec.specs.Maps.{_≥ᵐ_, share}
 use Rattle.spec.specs.Conditions.{Env, type, post, bodyStart, keptBack, startMap, signature, conditionsBy, conditionsOf, procedureConditions}
-use Rattle.spec.specs.Sites.{Site, Claim, sites, numbered, claimsAt, claims, bodySites, claimsOfProcedure, claimsOfProcedures, isFlow, only}
+use Rattle.spec.specs.Sites.{Site, NumberedCondition, sites, numbered, claimsAt, claims, bodySites, claimsOfProcedure, claimsOfProcedures, isFlow, only}
 use Rattle.spec.specs.WellFormed.{NumberedFrom}
 use Rattle.spec.specs.FirstFalse.{Holds, AllHold}
 use Rattle.spec.specs.declared.Location.{Location}
@@ -224,7 +224,7 @@ module _ {ss : List Step} {S : Split} {σ : List Map} {T : Split} (G : Showing s
   roots-parts p i x due e rs = rw (flow-steps S p e) (λ h. (h .1 .0, h .0, h .1 .1), λ h. (h .1, (h .0, h .2)))
 
   -- a procedure: the claim on its line, those of its body, and those behind it
-  procedure-parts : (f : ℕ) (q : Procedure) (behind : List Claim) {A B C : Location → Type 0}
+  procedure-parts : (f : ℕ) (q : Procedure) (behind : List NumberedCondition) {A B C : Location → Type 0}
       → (((post T (q .body) ≥ᵐ mapAt T (signature T f .after)) ≡ none) × Unit {0}) ↔ Everywhere L A
       → AllFlow (bodySites T (signature T f) q) ↔ Everywhere L B
       → AllHold (only isFlow behind) ↔ Everywhere L C

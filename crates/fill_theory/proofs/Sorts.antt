@@ -6,7 +6,7 @@ use mathlib.Core.Logic.{_↔_}
 use Prim.Native.Nat.{ℕ}
 use Rattle.spec.specs.Split.{Split}
 use Rattle.spec.specs.Conditions.{Condition, T, F, A}
-use Rattle.spec.specs.Sites.{Site, Claim, claimsAt, claims, isType, isFlow, only}
+use Rattle.spec.specs.Sites.{Site, NumberedCondition, claimsAt, claims, isType, isFlow, only}
 use Rattle.spec.specs.FirstFalse.{AllHold}
 use Rattle.spec.proofs.Claims.{only-append, all-hold-parts, all-hold-append, OfEach}
 
@@ -19,20 +19,20 @@ module _ (sort : Condition → Bool) where
   OwnAt S s = AllHold (only sort (claimsAt S s))
 
   -- the claims of two lists
-  pub only-parts : (xs ys : List Claim) → AllHold (only sort (xs ++ ys)) → AllHold (only sort xs) × AllHold (only sort ys)
+  pub only-parts : (xs ys : List NumberedCondition) → AllHold (only sort (xs ++ ys)) → AllHold (only sort xs) × AllHold (only sort ys)
   only-parts xs ys h = all-hold-parts (only sort xs) (only sort ys) (subst AllHold (only-append sort xs ys) h)
 
-  pub parts-only : (xs ys : List Claim) → AllHold (only sort xs) → AllHold (only sort ys) → AllHold (only sort (xs ++ ys))
+  pub parts-only : (xs ys : List NumberedCondition) → AllHold (only sort xs) → AllHold (only sort ys) → AllHold (only sort (xs ++ ys))
   parts-only xs ys p q = subst AllHold (sym (only-append sort xs ys)) (all-hold-append (only sort xs) (only sort ys) p q)
 
   pub sort-each : OfEach (λ cs. AllHold (only sort cs))
   sort-each = record { parts = only-parts; whole = parts-only }
 
 -- all claims hold exactly when those on types do and those on flow and access do
-abbrev Sorts : List Claim → Type 0
+abbrev Sorts : List NumberedCondition → Type 0
 Sorts cs = AllHold (only isType cs) × AllHold (only isFlow cs)
 
-pub all-hold-sorts : (cs : List Claim) → AllHold cs ↔ Sorts cs
+pub all-hold-sorts : (cs : List NumberedCondition) → AllHold cs ↔ Sorts cs
 unfolding AllHold only isType isFlow
 all-hold-sorts [] = (λ h. (tt, tt), λ h. tt)
 all-hold-sorts (c ∷ cs) = go (c .line) (c .number) (c .condition) (all-hold-sorts cs)

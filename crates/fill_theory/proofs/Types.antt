@@ -8,9 +8,9 @@ use Rattle.spec.specs.Program.{Program}
 use Rattle.spec.specs.Split.{Map, Split}
 use Rattle.spec.specs.Table as entry
 use Rattle.spec.specs.Table.{TypeTerm, Entry, table}
-use Rattle.spec.specs.Conditions.{Env, type, post, bodyStart, signature, startMap, mayShow, wordOf, typeTerm, says, conditionsBy, conditionsOf, procedureConditions}
+use Rattle.spec.specs.Conditions.{Env, type, post, bodyStart, signature, startMap, mayShow, stepWord, typeTerm, says, conditionsBy, conditionsOf, procedureConditions}
 use Rattle.spec.specs.Agreement.{agree}
-use Rattle.spec.specs.Sites.{Site, Claim, sites, numbered, claimsAt, claims, bodySites, claimsOfProcedure, claimsOfProcedures, claimsOf, isType, only}
+use Rattle.spec.specs.Sites.{Site, NumberedCondition, sites, numbered, claimsAt, claims, bodySites, claimsOfProcedure, claimsOfProcedures, claimsOf, isType, only}
 use Rattle.spec.specs.Ranges.{InRange}
 use Rattle.spec.specs.declared.Word.the-variants.{Binary}
 use Rattle.spec.proofs.Claims.{claims-append}
@@ -42,7 +42,7 @@ module _ {S S′ : Split} where
   }
 
 -- two lists of claims, one behind the other
-both-kept : (xs ys xs′ ys′ : List Claim) → only isType xs ≡ only isType xs′ → only isType ys ≡ only isType ys′ → only isType (xs ++ ys) ≡ only isType (xs′ ++ ys′)
+both-kept : (xs ys xs′ ys′ : List NumberedCondition) → only isType xs ≡ only isType xs′ → only isType ys ≡ only isType ys′ → only isType (xs ++ ys) ≡ only isType (xs′ ++ ys′)
 both-kept xs ys xs′ ys′ p q = only-append isType xs ys ∙ ap₂ _++_ p q ∙ sym (only-append isType xs′ ys′)
 
 module _ {P : Program} {S : Split} (R : InRange P S) (σ : List Map) where
@@ -50,7 +50,7 @@ module _ {P : Program} {S : Split} (R : InRange P S) (σ : List Map) where
   S′ = filled S σ
 
   -- the claims on types at a step, whatever its pre
-  abbrev ownTypes : Split → Env → Map → Expr → List Claim
+  abbrev ownTypes : Split → Env → Map → Expr → List NumberedCondition
   ownTypes T Γ pre e = only isType (claimsAt T (record { Γ = Γ; pre = pre; step = e }))
 
   module _ (Γ : Env) (pre pre′ : Map) (e : Expr) where
@@ -79,7 +79,7 @@ module _ {P : Program} {S : Split} (R : InRange P S) (σ : List Map) where
 
     own-kept : ownTypes S′ Γ pre e ≡ ownTypes S Γ pre′ e
     unfolding claimsAt conditionsOf conditionsBy
-    own-kept = entries-kept (lineOf e) 1 (table (wordOf e))
+    own-kept = entries-kept (lineOf e) 1 (table (stepWord e))
 
   sites-alike : (Γ : Env) (pre pre′ : Map) (e : Expr) → Alike S′ (sites S′ Γ pre e) S (sites S Γ pre′ e)
   unfolding sites claims

@@ -7,7 +7,7 @@ use lib.ListN.{length, getD}
 use Rattle.spec.specs.Program.{Program}
 use Rattle.spec.specs.Split.{Map, Row, Split, mapAt}
 use Rattle.spec.specs.Maps.{share}
-use Rattle.spec.specs.Sites.{Claim, claimsOf, isType, isFlow, only}
+use Rattle.spec.specs.Sites.{NumberedCondition, claimsOf, isType, isFlow, only}
 use Rattle.spec.specs.FirstFalse.{AllHold}
 use Rattle.spec.specs.declared.Location.{Location}
 use Rattle.fill_theory.specs.Filled.{filled}
@@ -15,10 +15,10 @@ use Rattle.fill_theory.specs.Filled.{filled}
 -- ------------------------------------------------------------------ two sorts of claims
 
 -- the (T) claims, and the (F) and (A) claims
-unfoldable pub typeClaims : Program → Split → List Claim
+unfoldable pub typeClaims : Program → Split → List NumberedCondition
 typeClaims P S = only isType (claimsOf S P)
 
-unfoldable pub flowClaims : Program → Split → List Claim
+unfoldable pub flowClaims : Program → Split → List NumberedCondition
 flowClaims P S = only isFlow (claimsOf S P)
 
 -- ------------------------------------------------------------------ after-maps

@@ -17,7 +17,7 @@ use Rattle.spec.specs.Kinds.{int, lock, is, content}
 use Rattle.spec.specs.Agreement.{Tree, plain, sameTree, treeOf, trees, tree, agree}
 use Rattle.spec.specs.Table as entry
 use Rattle.spec.specs.Table.{TypeTerm, MapTerm, Entry, table}
-use Rattle.spec.specs.Conditions.{Condition, T, Env, typeAt, mapAt, startMap, contains, looserLock, mayShow, row, type, kind, post, startOr, bodyStart, signature, wordOf, typeTerm, mapTerm, says, conditionsBy, conditionsOf, procedureConditions}
+use Rattle.spec.specs.Conditions.{Condition, T, Env, typeAt, mapAt, startMap, contains, looserLock, mayShow, row, type, kind, post, startOr, bodyStart, signature, stepWord, typeTerm, mapTerm, says, conditionsBy, conditionsOf, procedureConditions}
 use Rattle.spec.specs.Sites.{Site, sites, claimsAt, claims, bodySites, claimsOfProcedure, claimsOfProcedures, claimsOf}
 use Rattle.spec.specs.Verdict.{takesEnough, allTakeEnough, locksTakeEnough, startAtMostOne, ruled}
 use Rattle.spec.specs.declared.Heading.{Heading}
@@ -141,7 +141,7 @@ module _ (h : Heading) (S : Split) where
 
     same-own : conditionsOf (under h S) Γ pre e ≡ conditionsOf S Γ pre e
     unfolding conditionsOf conditionsBy
-    same-own = same-all (table (wordOf e))
+    same-own = same-all (table (stepWord e))
 
   -- ---------------------------------------------------------------- all of them
 

@@ -13,7 +13,7 @@ use Rattle.spec.specs.Agreement.{agree}
 use Rattle.spec.specs.Kinds.{ref, is, content}
 use Rattle.spec.specs.Table as entry
 use Rattle.spec.specs.Table.{Entry, table}
-use Rattle.spec.specs.Conditions.{Env, startMap, signature, contains, mayShow, wordOf, says, conditionsBy, conditionsOf, procedureConditions}
+use Rattle.spec.specs.Conditions.{Env, startMap, signature, contains, mayShow, stepWord, says, conditionsBy, conditionsOf, procedureConditions}
 use Rattle.spec.specs.Sites.{Site, sites, numbered, claimsAt, claims, bodySites, claimsOfProcedure, claimsOfProcedures, claimsOf}
 use Rattle.spec.specs.FirstFalse.{Holds, AllHold}
 use Rattle.spec.specs.Verdict.{sheets, ruled, checked, answer, verdict}
@@ -69,7 +69,7 @@ module _ (S : Split) where
 
     own-holds : (n i : ℕ) → AllHold (numbered n i (conditionsByNumber S Γ pre e)) → AllHold (numbered n i (conditionsOf S Γ pre e))
     unfolding conditionsByNumber conditionsOf conditionsBy
-    own-holds n i = all-say n i (table (wordOf e))
+    own-holds n i = all-say n i (table (stepWord e))
 
   claims-hold : (ss : List Site) → AllHold (claimsByNumber S ss) → AllHold (claims S ss)
   unfolding claims claimsAt claimsByNumber

@@ -11,7 +11,7 @@ use Rattle.spec.specs.Split.{Map, Split, split, mapAt}
 use Rattle.spec.specs.declared.Signature.{Signature}
 use Rattle.spec.specs.Maps.{_≥ᵐ_}
 use Rattle.spec.specs.Conditions.{Condition, T, F, Env, type, post, startMap, signature, conditionsBy}
-use Rattle.spec.specs.Sites.{Site, sites, Claim, numbered, bodySites, firstFalse}
+use Rattle.spec.specs.Sites.{Site, sites, NumberedCondition, numbered, bodySites, firstFalse}
 use Rattle.spec.specs.Verdict.{verdict}
 use Rattle.spec.specs.declared.TypeNumber.{TypeNumber}
 use Rattle.spec.specs.declared.Answer.{Answer}
@@ -31,18 +31,18 @@ module _ (S : Split) where
   procedureConditionsByNumber g p = T (agreeByNumber (type S (p .body)) (g .result)) ∷ F (post S (p .body) ≥ᵐ mapAt S (g .after)) ∷ []
 
   -- the claims of a program in their order, as Sites.antt of crates/spec has them
-  unfoldable pub claimsByNumber : List Site → List Claim
+  unfoldable pub claimsByNumber : List Site → List NumberedCondition
   claimsByNumber [] = []
   claimsByNumber (s ∷ ss) = numbered (lineOf (s .step)) 1 (conditionsByNumber (s .Γ) (s .pre) (s .step)) ++ claimsByNumber ss
 
-  unfoldable pub claimsOfProcedureByNumber : Signature → Procedure → List Claim
+  unfoldable pub claimsOfProcedureByNumber : Signature → Procedure → List NumberedCondition
   claimsOfProcedureByNumber g p = numbered (p .line) 1 (procedureConditionsByNumber g p) ++ claimsByNumber (bodySites S g p)
 
-  unfoldable pub claimsOfProceduresByNumber : (f : ℕ) → List Procedure → List Claim
+  unfoldable pub claimsOfProceduresByNumber : (f : ℕ) → List Procedure → List NumberedCondition
   claimsOfProceduresByNumber f [] = []
   claimsOfProceduresByNumber f (p ∷ ps) = claimsOfProcedureByNumber (signature S f) p ++ claimsOfProceduresByNumber (f + 1) ps
 
-  unfoldable pub claimsOfByNumber : Program → List Claim
+  unfoldable pub claimsOfByNumber : Program → List NumberedCondition
   claimsOfByNumber P = claimsOfProceduresByNumber 0 (P .procedures) ++ claimsByNumber (sites S [] (startMap S) (P .root))
 
 unfoldable pub ruledByNumber : Program → Split → Out (Unit {0})

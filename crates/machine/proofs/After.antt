@@ -11,10 +11,10 @@ use lib.ListN.{getElem?, set}
 use Rattle.spec.specs.Expression.{Position, Expr}
 use Rattle.calculus.specs.Expression.{Value, name, Unary, join, ref, read, lock, unlock, post, wait, hold, call, Redex, unaryRedex}
 use Rattle.calculus.specs.State.{Slot, unused, cell, rwlock, Part, first, second, update}
-use Rattle.calculus.specs.Reduction.{nameOf, ifIdentifier, content, lockState, ifOpened, count, oneLess, rwState, insideAfter, made as madeSlot}
+use Rattle.calculus.specs.Reduction.{nameOf, ifIdentifier, cellValue, lockState, ifOpened, count, oneLess, rwState, insideAfter, made as madeSlot}
 use Rattle.calculus.proofs.Laws.Maps.{some-injective, none-is-not-some, bind-is-some, update-other}
 use Rattle.replay_theory.specs.Paths.{Path}
-use Rattle.replay_theory.specs.Run.{Kind, cells, nameIn, plain, spawns, joins, opens, makes, unaryEffect, kindMade, effect, ofUnary}
+use Rattle.replay_theory.specs.Run.{ObjectKind, cells, nameIn, plain, spawns, joins, opens, makes, unaryEffect, kindMade, effect, ofUnary}
 use Rattle.replay_theory.proofs.Changes.{answer-means-used, used-updated}
 use Rattle.machine.specs.Environment.{Env, zeros}
 use Rattle.machine.specs.Control.{Frame, markFrame, Word, letWord, ifWord, whileWord, spawnWord, writeWord, unaryWord, makeWord, unrolledWord, againWord, redex, Control, done, at, nextRedex, return, enter}
@@ -33,7 +33,7 @@ pub data After (M : Machine) (i tid : ℕ) (ps : List Path) (q : Path) (w : Rede
   goes : (names : ℕ → Slot) (b : Control) → effect w ≡ plain → UnusedFrom names (M .next) → ControlOk b → Tells b ps →
       After M i tid ps q w (goesTo M i tid names b)
   called : (b : Control) → effect w ≡ opens → ControlOk b → Tells b (q ∷ ps) → After M i tid ps q w (goesTo M i tid (M .names) b)
-  made : (k : Kind) (new : Slot) (b : Control) → effect w ≡ makes k → ControlOk b → Tells b ps → After M i tid ps q w (record {
+  made : (k : ObjectKind) (new : Slot) (b : Control) → effect w ≡ makes k → ControlOk b → Tells b ps → After M i tid ps q w (record {
     procedures = M .procedures;
     threads = set (M .threads) i (running tid b);
     names = update (M .names) (M .next) new;
@@ -79,7 +79,7 @@ module _ (M : Machine) (i tid : ℕ) (σ : Env) (K : List Frame) (kept : Kept M)
     unary-after ref v N q = told (creates M i tid σ K (cell v)) N (made cells (cell v) _ refl (returns (name (M .next))) (return-tells σ (name (M .next)) K)) q
     unary-after read v N q =
         let (m, _, q₁) = bind-is-some (nameOf v) q in
-        let (u, _, q₂) = bind-is-some (content (M .names m)) q₁ in
+        let (u, _, q₂) = bind-is-some (cellValue (M .names m)) q₁ in
         told _ N (goes (M .names) _ refl (kept .unusedFrom) (returns u) (return-tells σ u K)) q₂
     unary-after lock v N q =
         let (m, _, q₁) = bind-is-some (nameOf v) q in
@@ -141,8 +141,8 @@ module _ (M : Machine) (i tid : ℕ) (σ : Env) (K : List Frame) (kept : Kept M)
       (spawned m _ _ refl (returns _ n zeroValue) (enter-ok σ e (r .scope) [] (r .fits) tt) (return-tells σ zeroValue K) (enter-tells σ e [])) q₂
   word-after c (writeWord k v w) N r n q =
       let (m, _, q₁) = bind-is-some (nameOf v) q in
-      let (u, e, q₂) = bind-is-some (content (M .names m)) q₁ in
-      told _ N (leaves-after _ n m _ refl (answer-means-used content (M .names m) refl e)) q₂
+      let (u, e, q₂) = bind-is-some (cellValue (M .names m)) q₁ in
+      told _ N (leaves-after _ n m _ refl (answer-means-used cellValue (M .names m) refl e)) q₂
   word-after c (unaryWord k o v) N r n q = unary-after _ n o v N q
   word-after c (makeWord k o) N r n q =
       told (creates M i tid σ K (madeSlot o)) N (made (kindMade o) (madeSlot o) _ refl (returns _ n (name (M .next))) (return-tells σ (name (M .next)) K)) q

@@ -14,7 +14,7 @@ use Rattle.spec.proofs.Tests.{both-true}
 use Rattle.calculus.specs.Expression.{Redex}
 use Rattle.replay_theory.specs.Trace.{TraceLine}
 use Rattle.replay_theory.specs.Paths.{Path}
-use Rattle.replay_theory.specs.Run.{Kind, cells, locks, rwlocks, semaphores, identifiers, Effect, effect, thingsAfter, oneMore, threadLimit, thingLimit, withinLimits, callLimit, openIn}
+use Rattle.replay_theory.specs.Run.{ObjectKind, cells, locks, rwlocks, semaphores, identifiers, Effect, effect, thingsAfter, oneMore, threadLimit, thingLimit, withinLimits, callLimit, openIn}
 use Rattle.machine.specs.State.{MachineThread, Machine, rank, startMachine}
 use Rattle.machine.specs.Replay.{Replay, startReplay, stepped, callsIn, countsWithin, within}
 use Rattle.machine.specs.Counted.{total, Counted}
@@ -28,7 +28,7 @@ use Rattle.machine.proofs.Stepped.{step-taken}
 use Rattle.machine.proofs.Kept.{step-kept}
 use Rattle.machine.proofs.Start.{start-kept}
 
-one-more-in-all : (k : Kind) (things : Kind → ℕ) → total (oneMore k things) ≡ suc (total things)
+one-more-in-all : (k : ObjectKind) (things : ObjectKind → ℕ) → total (oneMore k things) ≡ suc (total things)
 unfolding total oneMore
 one-more-in-all cells things = omega arith
 one-more-in-all locks things = omega arith
@@ -37,7 +37,7 @@ one-more-in-all semaphores things = omega arith
 one-more-in-all identifiers things = omega arith
 
 -- A name for each thing made.
-names-grow : (M N : Machine) (i tid : ℕ) (ps : List Path) (q : Path) (w : Redex) (things : Kind → ℕ) → M .next ≡ suc (total things) → After M i tid ps q w N →
+names-grow : (M N : Machine) (i tid : ℕ) (ps : List Path) (q : Path) (w : Redex) (things : ObjectKind → ℕ) → M .next ≡ suc (total things) → After M i tid ps q w N →
     N .next ≡ suc (total (thingsAfter (effect w) things))
 unfolding thingsAfter
 names-grow M N i tid ps q w things h (goes names b e u ok tells) = h ∙ ap (λ (f : Effect). suc (total (thingsAfter f things))) (sym e)
@@ -69,11 +69,11 @@ start-counted {P = P} w = record {
 -- ---- Bounds
 
 -- What the limits say, each by itself.
-pub record Limits (threads : ℕ) (things : Kind → ℕ) : Type 0 where
+pub record Limits (threads : ℕ) (things : ObjectKind → ℕ) : Type 0 where
   pub of-threads : threads ≤ 16
-  pub of-things : (k : Kind) → things k ≤ 64
+  pub of-things : (k : ObjectKind) → things k ≤ 64
 
-limits-tell : (threads : ℕ) (things : Kind → ℕ) → withinLimits threads things ≡ true → Limits threads things
+limits-tell : (threads : ℕ) (things : ObjectKind → ℕ) → withinLimits threads things ≡ true → Limits threads things
 unfolding withinLimits threadLimit thingLimit
 limits-tell threads things h =
     let i = both-true (leb threads 16 && leb (things cells) 64 && leb (things locks) 64 && leb (things rwlocks) 64 && leb (things semaphores) 64)
@@ -85,7 +85,7 @@ limits-tell threads things h =
     record { of-threads = leb-true threads 16 (c .0); of-things = each (c .1) (l .1) (r .1) (s .1) (i .1) }
   where
     each : leb (things cells) 64 ≡ true → leb (things locks) 64 ≡ true → leb (things rwlocks) 64 ≡ true → leb (things semaphores) 64 ≡ true →
-        leb (things identifiers) 64 ≡ true → (k : Kind) → things k ≤ 64
+        leb (things identifiers) 64 ≡ true → (k : ObjectKind) → things k ≤ 64
     each c l r s i cells = leb-true (things cells) 64 c
     each c l r s i locks = leb-true (things locks) 64 l
     each c l r s i rwlocks = leb-true (things rwlocks) 64 r

@@ -10,7 +10,7 @@ use Rattle.spec.specs.Expression as sheet
 use Rattle.spec.specs.Expression.{Position, Expr}
 use Rattle.calculus.specs.Expression.{Value, int, name, Unary, join, ref, read, lock, unlock, post, wait, hold, call, Exp, value, letIn, while, Redex, nextWord, plug, substitute, Procedure}
 use Rattle.calculus.specs.State.{Slot, unused, cell, Thread, State, Part, first, second, Move, update, remove}
-use Rattle.calculus.specs.Reduction.{_>>=_, _>>_, nameOf, ifUnused, ifIdentifier, content, lockState, ifOpened, count, oneLess, rwState, insideAfter, ifEqual, valueOf, zeroExp, nowhere, partListed, made, becomes, withThread, withoutThread, named, reduct, wordOf, reduce}
+use Rattle.calculus.specs.Reduction.{_>>=_, _>>_, nameOf, ifUnused, ifIdentifier, cellValue, lockState, ifOpened, count, oneLess, rwState, insideAfter, ifEqual, valueOf, zeroExp, nowhere, partListed, made, becomes, withThread, withoutThread, named, reduct, wordOf, reduce}
 use Rattle.calculus.specs.Claim.{Every}
 use Rattle.calculus.proofs.Laws.Places.{set-elsewhere}
 use Rattle.calculus.proofs.Laws.Questions.{equal-is-told}
@@ -183,7 +183,7 @@ module _ (M : Machine) (i tid : ℕ) (σ : Env) (K : List Frame) (m : Move) (pla
   unary-alike k join (int c) here listed = refl
   unary-alike k join (name n) here listed = ask (ifIdentifier (M .names n)) _ _ (λ _. joins-alike M i tid σ _ K here m placed n (λ j. listed k n j refl))
   unary-alike k ref v here listed = makes-row here (cell v)
-  unary-alike k read v here listed = ask (nameOf v) _ _ (λ n. ask (content (M .names n)) _ _ (λ u. gives-row here (M .names) u))
+  unary-alike k read v here listed = ask (nameOf v) _ _ (λ n. ask (cellValue (M .names n)) _ _ (λ u. gives-row here (M .names) u))
   unary-alike k lock v here listed =
       ask (nameOf v) _ _ (λ n. ask (lockState (M .names n)) _ _ (λ l. ask (ifOpened l) _ _ (λ _. gives-row here _ zeroValue)))
   unary-alike k unlock v here listed =
@@ -221,7 +221,7 @@ module _ (M : Machine) (i tid : ℕ) (σ : Env) (K : List Frame) (m : Move) (pla
   word-alike (whileWord k e) n here listed = goes-row here (M .names) (at σ (unrolledWord k e) K) _ refl
   word-alike (spawnWord k v e) n here listed = ask (nameOf v) _ _ (λ c. ask (ifIdentifier (M .names c)) _ _ (λ _. spawns-alike M i tid σ _ K here m placed e c))
   word-alike (writeWord k v u) n here listed =
-      ask (nameOf v) _ _ (λ c. ask (content (M .names c)) _ _ (λ _. gives-row here _ zeroValue))
+      ask (nameOf v) _ _ (λ c. ask (cellValue (M .names c)) _ _ (λ _. gives-row here _ zeroValue))
   word-alike (unaryWord k o v) n here listed = unary-alike k o v here listed
   word-alike (makeWord k o) n here listed = makes-row here (made o)
   word-alike (unrolledWord k e) n here listed =

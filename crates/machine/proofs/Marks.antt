@@ -10,7 +10,7 @@ use Rattle.spec.specs.declared.BinaryWord.the-variants.{Let, If, Spawn, Write}
 use Rattle.calculus.specs.Expression.{Value, int, newtid, Exp, value, Redex, Next, atWord, nextWord}
 use Rattle.calculus.specs.State.{first, second}
 use Rattle.soundness.specs.Erasure.{LeafForm, variable, constant, makes, leafForm, UnaryForm, loop, strict, unaryForm}
-use Rattle.replay_theory.specs.Paths.{Path, once, nextPath, onlyPart, partOf, partAt}
+use Rattle.replay_theory.specs.Paths.{Path, pathOnce, nextPath, onlyPart, partOf, partAt}
 use Rattle.replay_theory.specs.Run.{hasFinished, isOpen, openIn}
 use Rattle.machine.specs.Environment.{Env, closed}
 use Rattle.machine.specs.Control.{Frame, letFrame, spawnFrame, writeFirst, writeSecond, unaryFrame, againFrame, markFrame, around, fill, Word, letWord, ifWord, whileWord, spawnWord, writeWord, unaryWord, makeWord, unrolledWord, againWord, wordExp, Control, done, at, decode, seekLeaf, seekUnary, seek, return, enter, runPart, marks, openCalls}
@@ -78,30 +78,30 @@ part-found σ (againFrame k e ∷ K) E p = part-found σ K (around σ (againFram
 part-found σ (markFrame σ′ ∷ K) E p = part-found σ′ K E p
 
 path-found : {r : Redex} (σ : Env) (K : List Frame) (E : Exp) → nextWord E ≡ atWord r → nextPath (fill σ K E) ≡ pathFrom K (nextPath E)
-unfolding nextPath once
+unfolding nextPath pathOnce
 path-found σ [] E h = refl
 path-found σ (letFrame k x e ∷ K) E h =
     path-found σ K (around σ (letFrame k x e) E) (next-around σ (letFrame k x e) E h)
-    ∙ ap (λ (q : Next). pathFrom K (once q [] (first ∷ nextPath E))) h
+    ∙ ap (λ (q : Next). pathFrom K (pathOnce q [] (first ∷ nextPath E))) h
 path-found σ (spawnFrame k e ∷ K) E h =
     path-found σ K (around σ (spawnFrame k e) E) (next-around σ (spawnFrame k e) E h)
-    ∙ ap (λ (q : Next). pathFrom K (once q [] (first ∷ nextPath E))) h
+    ∙ ap (λ (q : Next). pathFrom K (pathOnce q [] (first ∷ nextPath E))) h
 path-found σ (writeFirst k e ∷ K) E h =
     path-found σ K (around σ (writeFirst k e) E) (next-around σ (writeFirst k e) E h)
-    ∙ ap (λ (q : Next). pathFrom K (once q (once (nextWord (closed σ e)) [] (second ∷ nextPath (closed σ e))) (first ∷ nextPath E))) h
+    ∙ ap (λ (q : Next). pathFrom K (pathOnce q (pathOnce (nextWord (closed σ e)) [] (second ∷ nextPath (closed σ e))) (first ∷ nextPath E))) h
 path-found σ (writeSecond k v ∷ K) E h =
     path-found σ K (around σ (writeSecond k v) E) (next-around σ (writeSecond k v) E h)
-    ∙ ap (λ (q : Next). pathFrom K (once q [] (second ∷ nextPath E))) h
+    ∙ ap (λ (q : Next). pathFrom K (pathOnce q [] (second ∷ nextPath E))) h
 path-found σ (unaryFrame k o ∷ K) E h =
     path-found σ K (around σ (unaryFrame k o) E) (next-around σ (unaryFrame k o) E h)
-    ∙ ap (λ (q : Next). pathFrom K (once q [] (first ∷ nextPath E))) h
+    ∙ ap (λ (q : Next). pathFrom K (pathOnce q [] (first ∷ nextPath E))) h
 path-found σ (againFrame k e ∷ K) E h =
     path-found σ K (around σ (againFrame k e) E) (next-around σ (againFrame k e) E h)
-    ∙ ap (λ (q : Next). pathFrom K (once q [] (first ∷ nextPath E))) h
+    ∙ ap (λ (q : Next). pathFrom K (pathOnce q [] (first ∷ nextPath E))) h
 path-found σ (markFrame σ′ ∷ K) E h = path-found σ′ K E h
 
 word-is-here : (σ : Env) (w : Word) → nextPath (wordExp σ w) ≡ []
-unfolding nextPath once
+unfolding nextPath pathOnce
 word-is-here σ (letWord k x v e) = refl
 word-is-here σ (ifWord k e₁ e₂) = refl
 word-is-here σ (whileWord k e) = refl

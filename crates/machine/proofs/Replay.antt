@@ -20,7 +20,7 @@ use Rattle.replay_theory.specs.Paths.{Path}
 use Rattle.replay_theory.specs.LowestPair as run-pair
 use Rattle.replay_theory.specs.LowestPair.{lowestAmong}
 use Rattle.replay_theory.specs.Replay as answer
-use Rattle.replay_theory.specs.Replay.{Outcome, pastLimit, step as stepOf, limited, onLine, goesOn, way, raceOr, firstRace, judged}
+use Rattle.replay_theory.specs.Replay.{Outcome, pastLimit, step as stepOf, limited, lineOutcome, goesOn, way, raceOr, firstRace, judged}
 use Rattle.replay_theory.specs.declared.Ending.{Ending}
 use Rattle.replay_theory.specs.declared.FirstRace.{FirstRace}
 use Rattle.replay_theory.specs.declared.FirstRace.the-variants.{None, Found}
@@ -134,8 +134,8 @@ module _ (ls : List Line) (k : ℕ) (race : FirstRace) (R : Replay) (alike : Ali
       by-limit true = step-alike ls k race R′ alike (stepped-kept R R′ l kept q)
       by-limit false = ends _ k race
 
-  line-goes-on : (o : Option TraceLine) → playing (onLine (stepped R) within o) ≡ atEnd k race (going (onLine (run.stepped (runOf R)) run.within o))
-  unfolding onLine playOn goesOn
+  line-goes-on : (o : Option TraceLine) → playing (lineOutcome (stepped R) within o) ≡ atEnd k race (going (lineOutcome (run.stepped (runOf R)) run.within o))
+  unfolding lineOutcome playOn goesOn
   line-goes-on none = ends _ k race
   line-goes-on (some l) =
       stepped-alike l (stepped R l) refl ∙ ap (λ (o : Option Run). atEnd k race (going (limited run.within o))) (sym (line-alike R kept l))

@@ -3,11 +3,11 @@
 use Prim.Native.Nat.{ℕ, suc, _+_}
 use mathlib.Core.Path.{_≡_}
 use mathlib.Core.Bool.{true}
-use Rattle.replay_theory.specs.Run.{Kind, cells, locks, rwlocks, semaphores, identifiers}
+use Rattle.replay_theory.specs.Run.{ObjectKind, cells, locks, rwlocks, semaphores, identifiers}
 use Rattle.machine.specs.Kept.{Kept}
 use Rattle.machine.specs.Replay.{Replay, within}
 
-unfoldable pub total : (Kind → ℕ) → ℕ
+unfoldable pub total : (ObjectKind → ℕ) → ℕ
 total things = things cells + things locks + things rwlocks + things semaphores + things identifiers
 
 -- Name 0 is the start's identifier.

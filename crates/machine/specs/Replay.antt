@@ -12,9 +12,9 @@ use Rattle.spec.specs.Program.{Program}
 use Rattle.calculus.specs.Expression.{Redex}
 use Rattle.calculus.specs.Reduction.{_>>=_}
 use Rattle.replay_theory.specs.Trace.{TraceLine, traceLine}
-use Rattle.replay_theory.specs.Run.{Kind, partChosen, effect, thingsAfter, withinLimits, callLimit}
+use Rattle.replay_theory.specs.Run.{ObjectKind, partChosen, effect, thingsAfter, withinLimits, callLimit}
 use Rattle.replay_theory.specs.LowestPair.{Uses, usesOf, lowestAmong}
-use Rattle.replay_theory.specs.Replay.{Outcome, badForm, noStep, pastLimit, step as stepOf, onLine, raceOr, refused, judged}
+use Rattle.replay_theory.specs.Replay.{Outcome, badForm, noStep, pastLimit, step as stepOf, lineOutcome, raceOr, refused, judged}
 use Rattle.replay_theory.specs.declared.Status.{Status}
 use Rattle.replay_theory.specs.declared.Status.the-variants.{Running, Finished, Joined}
 use Rattle.replay_theory.specs.declared.Ending.{Ending}
@@ -29,7 +29,7 @@ use Rattle.machine.specs.Step.{step}
 -- Threads are counted by the machine's list, which keeps the joined ones.
 pub record Replay : Type 0 where
   pub machine : Machine
-  pub things : Kind → ℕ
+  pub things : ObjectKind → ℕ
 
 unfoldable pub startReplay : Program → Replay
 startReplay P = record { machine = startMachine P; things = λ k. 0 }
@@ -94,7 +94,7 @@ playOn k race (stepOf R) rest = rest R
 unfoldable pub playFrom : (k : ℕ) → FirstRace → Replay → List Line → Replayed
 playFrom k race R [] = ended Done k race
 playFrom k race R (l ∷ ls) =
-    playOn k race (onLine (stepped R) within (traceLine l)) (λ R′. playFrom (k + 1) (orRace race (k + 1) (lowestPair R′)) R′ ls)
+    playOn k race (lineOutcome (stepped R) within (traceLine l)) (λ R′. playFrom (k + 1) (orRace race (k + 1) (lowestPair R′)) R′ ls)
 
 unfoldable pub play : Replay → List Line → Replayed
 play R ls = playFrom 0 (orRace None 0 (lowestPair R)) R ls

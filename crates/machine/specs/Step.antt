@@ -8,7 +8,7 @@ use lib.ListN.{getElem?, set}
 use Rattle.spec.specs.Expression.{Position, Expr}
 use Rattle.calculus.specs.Expression.{Value, int, name, Unary, join, ref, read, lock, unlock, post, wait, hold, call}
 use Rattle.calculus.specs.State.{opened, closed, Slot, cell, aLock, semaphore, rwlock, Part, first, second, update}
-use Rattle.calculus.specs.Reduction.{_>>=_, _>>_, nameOf, ifIdentifier, content, lockState, ifOpened, count, oneLess, rwState, insideAfter, made}
+use Rattle.calculus.specs.Reduction.{_>>=_, _>>_, nameOf, ifIdentifier, cellValue, lockState, ifOpened, count, oneLess, rwState, insideAfter, made}
 use Rattle.machine.specs.Environment.{Env, zeros}
 use Rattle.machine.specs.Control.{Frame, markFrame, Word, letWord, ifWord, whileWord, spawnWord, writeWord, unaryWord, makeWord, unrolledWord, againWord, Control, done, at, return, enter, runPart}
 use Rattle.machine.specs.State.{MachineThread, Machine, running}
@@ -87,7 +87,7 @@ module _ (M : Machine) (i tid : ℕ) (σ : Env) (K : List Frame) where
   stepUnary ref v = some (creates (cell v))
   stepUnary read v = do
     n ← nameOf v
-    w ← content (M .names n)
+    w ← cellValue (M .names n)
     some (gives (M .names) w)
   stepUnary lock v = do
     n ← nameOf v
@@ -126,7 +126,7 @@ module _ (M : Machine) (i tid : ℕ) (σ : Env) (K : List Frame) where
     some (addThread (running n (enter σ e [])) (gives (M .names) zeroValue))
   stepWord c (writeWord k v w) = do
     n ← nameOf v
-    content (M .names n)
+    cellValue (M .names n)
     some (leaves n (cell w))
   stepWord c (unaryWord k o v) = stepUnary o v
   stepWord c (makeWord k o) = some (creates (made o))

@@ -18,7 +18,7 @@ use Rattle.engine.specs.declared.Outcome.the-variants.{Moved, Stuck, Past}
 use Rattle.engine.specs.declared.Stepped.{Stepped}
 use Rattle.engine.specs.Steps.{stepped}
 use Rattle.replay_theory.specs.Trace.{TraceLine, traceLine}
-use Rattle.replay_theory.specs.Replay.{Outcome, badForm, noStep, pastLimit, step, limited, onLine}
+use Rattle.replay_theory.specs.Replay.{Outcome, badForm, noStep, pastLimit, step, limited, lineOutcome}
 use Rattle.replay_theory.specs.declared.Ending.{Ending}
 use Rattle.replay_theory.specs.declared.Ending.the-variants.{Done}
 use Rattle.replay_theory.specs.declared.Replayed.{Replayed}
@@ -110,7 +110,7 @@ module _ (whole : Replayed) (p s text : List ℕ) (q : Point) (P : PlaysTo whole
   -- the first of the lines that are left
   by-line : q .at < length text → (l : Line) (ls : List Line) → lines (drop (q .at) text) ≡ l ∷ ls → LineTold (drop (q .at) text) l ls (length text) →
       LineTells whole p text q (lineDone p s q (moveIn (length text) (lineAt (drop (q .at) text))))
-  unfolding playFrom playOn onLine lineDone stoppedBy
+  unfolding playFrom playOn lineOutcome lineDone stoppedBy
   by-line h l ls e (open-line malformed none-there) =
       let w = ap (playFrom (q .steps) (q .race) R) (sym e) ∙ P .comes-to in
       rw malformed (rw none-there at w)

@@ -26,8 +26,8 @@ module _ (b : Exp) where
   in-part : (e : Exp) (around : Exp → Exp) (c : Part) (rest : Value → Next) → ((E : Exp) (p : Path) → partAt (c ∷ p) (around E) ≡ partAt p E) →
       ((r : Redex) → nextWord e ≡ atWord r → partAt (nextPath e) (plug e b) ≡ some b) → (q : Next) → nextWord e ≡ q → (r : Redex) → once q rest ≡ atWord r →
       (here : Path) (done : Exp) → ((v : Value) → rest v ≡ atWord r → partAt here done ≡ some b) →
-      partAt (path.once q here (c ∷ nextPath e)) (ifValue q done (around (plug e b))) ≡ some b
-  unfolding path.once
+      partAt (path.pathOnce q here (c ∷ nextPath e)) (ifValue q done (around (plug e b))) ≡ some b
+  unfolding path.pathOnce
   in-part e around c rest into later (isValue v) is r h here done values = values v h
   in-part e around c rest into later (atVariable x) is r h here done values = no-word refl h
   in-part e around c rest into later (atWord w) is r h here done values = into (plug e b) (nextPath e) ∙ later w is
@@ -78,8 +78,8 @@ once-waits (isValue v) then h = true-is-not-false h
 once-waits (atVariable x) then h = refl
 once-waits (atWord w) then h = refl
 
-path-waits : (n : Next) (here inside : Path) → hasFinished n ≡ false → path.once n here inside ≡ inside
-unfolding hasFinished path.once
+path-waits : (n : Next) (here inside : Path) → hasFinished n ≡ false → path.pathOnce n here inside ≡ inside
+unfolding hasFinished path.pathOnce
 path-waits (isValue v) here inside h = true-is-not-false h
 path-waits (atVariable x) here inside h = refl
 path-waits (atWord w) here inside h = refl
@@ -120,10 +120,10 @@ module _ (b : Exp) where
   -- A word that wants its part e₁ to be a value.
   by-part : (e₁ : Exp) (around : Exp → Exp) (c₀ : Part) → Around around c₀ → Claim e₁ → (c : Part) (p rest : Path) (d : Exp) (r : Redex) →
       (then : Value → Next) (here : Path) (done : Exp) (n : Next) → nextWord e₁ ≡ n → once n then ≡ atWord r →
-      path.once n here (c₀ ∷ nextPath e₁) ≡ c ∷ (p ++ rest) → partAt (c ∷ p) (around e₁) ≡ some d →
+      path.pathOnce n here (c₀ ∷ nextPath e₁) ≡ c ∷ (p ++ rest) → partAt (c ∷ p) (around e₁) ≡ some d →
       ((v : Value) → nextWord e₁ ≡ isValue v → then v ≡ atWord r → here ≡ c ∷ (p ++ rest) → Whole done c p d r) →
       Whole (ifValue n done (around (plug e₁ b))) c p d r
-  unfolding path.once
+  unfolding path.pathOnce
   by-part e₁ around c₀ A later c p rest d r then here done (isValue v) e h q is values = values v e h q
   by-part e₁ around c₀ A later c p rest d r then here done (atVariable x) e h q is values = no-word refl h
   by-part e₁ around c₀ A later c p rest d r then here done (atWord w) e h q is values =
@@ -131,13 +131,13 @@ module _ (b : Exp) where
 
   -- The whole goes on once that part is a value, and stands at its own word then, or at the path `here` of a later part.
   wants-value : (around : Exp → Exp) (c : Part) (rest : Value → Next) (here : Path) → ((E : Exp) (p : Path) → partAt (c ∷ p) (around E) ≡ partAt p E) →
-      ((E : Exp) → nextWord (around E) ≡ once (nextWord E) rest) → ((E : Exp) → nextPath (around E) ≡ path.once (nextWord E) here (c ∷ nextPath E)) →
+      ((E : Exp) → nextWord (around E) ≡ once (nextWord E) rest) → ((E : Exp) → nextPath (around E) ≡ path.pathOnce (nextWord E) here (c ∷ nextPath E)) →
       Around around c
-  unfolding path.once
+  unfolding path.pathOnce
   wants-value around c rest here part word path-to = record {
     part = part;
     word = λ E n busy k. word E ∙ ap (λ (n : Next). once n rest) k ∙ once-waits n rest busy;
-    path-to = λ E n busy k. path-to E ∙ ap (λ (n : Next). path.once n here (c ∷ nextPath E)) k ∙ path-waits n here (c ∷ nextPath E) busy;
+    path-to = λ E n busy k. path-to E ∙ ap (λ (n : Next). path.pathOnce n here (c ∷ nextPath E)) k ∙ path-waits n here (c ∷ nextPath E) busy;
   }
 
   let-around : (x : ℕ) (e₂ : Exp) → Around (λ E. letIn x E e₂) first
@@ -155,13 +155,13 @@ module _ (b : Exp) where
   first-around : (e₂ : Exp) → Around (λ E. write E e₂) first
   unfolding partAt partOf nextPath
   first-around e₂ = wants-value (λ E. write E e₂) first (λ v. once (nextWord e₂) λ w. atWord (writeRedex v w))
-      (path.once (nextWord e₂) [] (second ∷ nextPath e₂)) (λ E p. refl) (λ E. refl) (λ E. refl)
+      (path.pathOnce (nextWord e₂) [] (second ∷ nextPath e₂)) (λ E p. refl) (λ E. refl) (λ E. refl)
 
   second-around : (e₁ : Exp) (v : Value) → nextWord e₁ ≡ isValue v → Around (λ E. write e₁ E) second
-  unfolding partAt partOf nextPath path.once
+  unfolding partAt partOf nextPath path.pathOnce
   second-around e₁ v is = wants-value (λ E. write e₁ E) second (λ w. atWord (writeRedex v w)) [] (λ E p. refl)
       (λ E. ap (λ (n : Next). once n λ u. once (nextWord E) λ w. atWord (writeRedex u w)) is)
-      (λ E. ap (λ (n : Next). path.once n (path.once (nextWord E) [] (second ∷ nextPath E)) (first ∷ nextPath e₁)) is)
+      (λ E. ap (λ (n : Next). path.pathOnce n (path.pathOnce (nextWord E) [] (second ∷ nextPath E)) (first ∷ nextPath e₁)) is)
 
   by-path : (e : Exp) → ((c : Part) (p rest : Path) (d : Exp) (r : Redex) → nextWord e ≡ atWord r → nextPath e ≡ c ∷ (p ++ rest) →
       partAt (c ∷ p) e ≡ some d → Whole (plug e b) c p d r) → Claim e
@@ -201,8 +201,8 @@ body-goes-on b e p d w next R =
 word-in-part : (e : Exp) (around : Exp → Exp) (c : Part) (rest : Value → Next) → ((E : Exp) (p : Path) → partAt (c ∷ p) (around E) ≡ partAt p E) →
     ((r : Redex) → nextWord e ≡ atWord r → (d : Exp) × (partAt (nextPath e) e ≡ some d)) → (n : Next) → nextWord e ≡ n → (r : Redex) →
     once n rest ≡ atWord r → (here : Path) → ((v : Value) → rest v ≡ atWord r → (d : Exp) × (partAt here (around e) ≡ some d)) →
-    (d : Exp) × (partAt (path.once n here (c ∷ nextPath e)) (around e) ≡ some d)
-unfolding path.once
+    (d : Exp) × (partAt (path.pathOnce n here (c ∷ nextPath e)) (around e) ≡ some d)
+unfolding path.pathOnce
 word-in-part e around c rest into later (isValue v) is r h here values = values v h
 word-in-part e around c rest into later (atVariable x) is r h here values = no-word refl h
 word-in-part e around c rest into later (atWord w) is r h here values = let (d, there) = later w is in (d, into e (nextPath e) ∙ there)

@@ -8,9 +8,9 @@ use mathlib.Core.List.{List, [], _∷_, _++_}
 use lib.ListN.{getElem?, set}
 use Rattle.calculus.specs.Expression.{Value, name, Exp, value, Unary, join, ref, read, lock, unlock, post, wait, hold, call, Redex, letRedex, ifRedex, whileRedex, spawnRedex, writeRedex, unaryRedex, makeRedex, nextWord, plug, substitute, Procedure}
 use Rattle.calculus.specs.State.{Slot, unused, rwlock, Thread, State, Move, update, remove}
-use Rattle.calculus.specs.Reduction.{nameOf, ifUnused, ifIdentifier, content, lockState, ifOpened, count, oneLess, rwState, insideAfter, ifEqual, valueOf, zeroExp, becomes, unaryReduct, reduct}
+use Rattle.calculus.specs.Reduction.{nameOf, ifUnused, ifIdentifier, cellValue, lockState, ifOpened, count, oneLess, rwState, insideAfter, ifEqual, valueOf, zeroExp, becomes, unaryReduct, reduct}
 use Rattle.calculus.proofs.Laws.Maps.{some-injective, none-is-not-some, bind-is-some, update-other}
-use Rattle.replay_theory.specs.Run.{Kind, cells, Effect, plain, spawns, joins, opens, makes, unaryEffect, kindMade, effect}
+use Rattle.replay_theory.specs.Run.{ObjectKind, cells, Effect, plain, spawns, joins, opens, makes, unaryEffect, kindMade, effect}
 
 -- Every unused name stays unused.
 abbrev pub StaysUnused : (ℕ → Slot) → (ℕ → Slot) → Type 0
@@ -25,7 +25,7 @@ pub data Changed (s : State) (m : Move) (t : Thread) : Effect → State → Type
   goes : (names : ℕ → Slot) (b : Exp) → StaysUnused (s .names) names →
       Changed s m t plain (record { threads = set (s .threads) (m .thread) (movedTo t b); names = names })
   called : (b : Exp) → Changed s m t opens (record { threads = set (s .threads) (m .thread) (movedTo t b); names = s .names })
-  made : (k : Kind) (new : Slot) (b : Exp) →
+  made : (k : ObjectKind) (new : Slot) (b : Exp) →
       Changed s m t (makes k) (record { threads = set (s .threads) (m .thread) (movedTo t b); names = update (s .names) (m .fresh) new })
   spawned : (b : Exp) (u : Thread) →
       Changed s m t spawns (record { threads = set (s .threads) (m .thread) (movedTo t b) ++ (u ∷ []); names = s .names })
@@ -62,7 +62,7 @@ module _ (P : List Procedure) (s : State) (m : Move) (t : Thread) where
   unary-changes ref v s′ q = let (_, _, q₁) = bind-is-some (ifUnused (s .names (m .fresh))) q in told _ s′ (made cells _ (value (name (m .fresh)))) q₁
   unary-changes read v s′ q =
       let (n, _, q₁) = bind-is-some (nameOf v) q in
-      let (_, _, q₂) = bind-is-some (content (s .names n)) q₁ in
+      let (_, _, q₂) = bind-is-some (cellValue (s .names n)) q₁ in
       same-names _ q₂
   unary-changes lock v s′ q =
       let (n, _, q₁) = bind-is-some (nameOf v) q in
@@ -100,7 +100,7 @@ module _ (P : List Procedure) (s : State) (m : Move) (t : Thread) where
       told _ s′ (spawned zeroExp _) q₂
   reduct-changes (writeRedex v w) s′ q =
       let (n, _, q₁) = bind-is-some (nameOf v) q in
-      let (_, e, q₂) = bind-is-some (content (s .names n)) q₁ in
-      one-name n _ (answer-means-used content (s .names n) refl e) q₂
+      let (_, e, q₂) = bind-is-some (cellValue (s .names n)) q₁ in
+      one-name n _ (answer-means-used cellValue (s .names n) refl e) q₂
   reduct-changes (unaryRedex o v) s′ q = unary-changes o v s′ q
   reduct-changes (makeRedex o) s′ q = let (_, _, q₁) = bind-is-some (ifUnused (s .names (m .fresh))) q in told _ s′ (made (kindMade o) _ (value (name (m .fresh)))) q₁

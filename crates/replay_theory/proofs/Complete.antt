@@ -15,7 +15,7 @@ use Rattle.calculus.proofs.Laws.Questions.{equal-tells, equal-is-told, word-tel
 use Rattle.replay_theory.specs.Trace.{TraceLine}
 use Rattle.replay_theory.specs.Paths.{nextPath}
 use Rattle.replay_theory.specs.Run.{Run, placeOf, partChosen, lowestFinished, finishedFor, nameIn, moveOf, ofUnary, after, stepped}
-use Rattle.replay_theory.specs.Claim.{MoveOf, LowestFinished, Reduced, Step, NoStepOf}
+use Rattle.replay_theory.specs.Claim.{MoveOf, LowestFinished, Reduced, LanguageStep, NoStepOf}
 use Rattle.replay_theory.proofs.Lists.{there-in-both}
 use Rattle.replay_theory.proofs.Proper.{Proper, Stepped, step-taken, state-after, procedures-after, step-reduces}
 use Rattle.replay_theory.proofs.Order.{not-below}
@@ -145,7 +145,7 @@ module _ {r r′ : Run} {l : TraceLine} (S : Stepped r l r′) where
   abbrev pub reduced : Reduced
   reduced = record { thread = l .thread; path = nextPath (S .thread .body); word = S .word }
 
-  pub step-is-the-languages : Proper r → Step r l reduced r′
+  pub step-is-the-languages : Proper r → LanguageStep r l reduced r′
   unfolding moveOf after
   step-is-the-languages proper = record {
     move = moveOf r (S .place) (S .word) (S .part);

@@ -14,7 +14,7 @@ use Rattle.calculus.specs.Reduction.{startState}
 use Rattle.calculus.specs.Claim.{Every}
 use Rattle.replay_theory.specs.Trace.{TraceLine}
 use Rattle.replay_theory.specs.Paths.{Path}
-use Rattle.replay_theory.specs.Run.{Kind, cells, locks, rwlocks, semaphores, identifiers, sameKind, Run, startRun, Effect, plain, spawns, joins, opens, makes, sameEffect, effect, threadsAfter, oneMore, thingsAfter, after, threadLimit, thingLimit, withinLimits, callLimit, callsWithin, within}
+use Rattle.replay_theory.specs.Run.{ObjectKind, cells, locks, rwlocks, semaphores, identifiers, sameKind, Run, startRun, Effect, plain, spawns, joins, opens, makes, sameEffect, effect, threadsAfter, oneMore, thingsAfter, after, threadLimit, thingLimit, withinLimits, callLimit, callsWithin, within}
 use Rattle.replay_theory.specs.Claim.{Reduced, openCallsOf, RunsAt, CallsRun, howMany, Within}
 use Rattle.replay_theory.proofs.Proper.{Proper, Stepped}
 use Rattle.replay_theory.proofs.Complete.{reduced}
@@ -47,10 +47,10 @@ threads-more joins n = omega arith
 threads-more opens n = omega arith
 threads-more (makes k) n = omega arith
 
-makes-injective : {k l : Kind} → makes k ≡ makes l → k ≡ l
+makes-injective : {k l : ObjectKind} → makes k ≡ makes l → k ≡ l
 makes-injective h = cc
 
-things-more : (f : Effect) (things : Kind → ℕ) (k : Kind) → thingsAfter f things k ≡ things k + counted (makes k) f
+things-more : (f : Effect) (things : ObjectKind → ℕ) (k : ObjectKind) → thingsAfter f things k ≡ things k + counted (makes k) f
 unfolding thingsAfter counted oneMore
 things-more plain things k = omega arith
 things-more spawns things k = omega arith
@@ -70,7 +70,7 @@ things-more (makes l) things k = by-cases (sameKind k l) (sameEffect sameKind (m
 pub record Booked (rs : List Run) (ds : List Reduced) (r : Run) : Type 0 where
   pub counted : length rs ≡ suc (length ds)
   pub threads : r .threads ≡ 1 + howMany spawns ds
-  pub things : (k : Kind) → r .things k ≡ howMany (makes k) ds
+  pub things : (k : ObjectKind) → r .things k ≡ howMany (makes k) ds
   pub calls : (i : ℕ) → callsFor i (r .numbers) (r .calls) ≡ openCallsOf i ds rs
   pub running : AllRun (r .state .threads) (r .calls)
 
@@ -105,18 +105,18 @@ calls-run rs ds r proper B i place t there =
 
 -- ---- Limits
 
-abbrev Few : (Kind → ℕ) → Kind → Type 0
+abbrev Few : (ObjectKind → ℕ) → ObjectKind → Type 0
 Few things k = leb (things k) thingLimit ≡ true
 
-kinds-told : (things : Kind → ℕ) → Few things cells → Few things locks → Few things rwlocks → Few things semaphores → Few things identifiers →
-    (k : Kind) → Few things k
+kinds-told : (things : ObjectKind → ℕ) → Few things cells → Few things locks → Few things rwlocks → Few things semaphores → Few things identifiers →
+    (k : ObjectKind) → Few things k
 kinds-told things a b c d e cells = a
 kinds-told things a b c d e locks = b
 kinds-told things a b c d e rwlocks = c
 kinds-told things a b c d e semaphores = d
 kinds-told things a b c d e identifiers = e
 
-limits-told : (threads : ℕ) (things : Kind → ℕ) → withinLimits threads things ≡ true → (leb threads threadLimit ≡ true) × ((k : Kind) → Few things k)
+limits-told : (threads : ℕ) (things : ObjectKind → ℕ) → withinLimits threads things ≡ true → (leb threads threadLimit ≡ true) × ((k : ObjectKind) → Few things k)
 unfolding withinLimits
 limits-told threads things h =
     let (h₁, e) = both-true _ (leb (things identifiers) thingLimit) h in
@@ -126,7 +126,7 @@ limits-told threads things h =
     let (t, a) = both-true (leb threads threadLimit) (leb (things cells) thingLimit) h₄ in
     (t, kinds-told things a b c d e)
 
-limits-hold : (threads : ℕ) (things : Kind → ℕ) → leb threads threadLimit ≡ true → ((k : Kind) → Few things k) → withinLimits threads things ≡ true
+limits-hold : (threads : ℕ) (things : ObjectKind → ℕ) → leb threads threadLimit ≡ true → ((k : ObjectKind) → Few things k) → withinLimits threads things ≡ true
 unfolding withinLimits
 limits-hold threads things t few = rw (t, few cells, few locks, few rwlocks, few semaphores, few identifiers) refl
 

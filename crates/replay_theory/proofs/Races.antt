@@ -8,7 +8,7 @@ use borrow.Author.Tests.{eqb-true, eq-eqb}
 use Rattle.spec.proofs.Clashes.{true-is-not-false}
 use Rattle.calculus.specs.Expression.{Value, int, name, Unary, join, ref, read, lock, unlock, post, wait, hold, call, Redex, letRedex, ifRedex, whileRedex, spawnRedex, writeRedex, unaryRedex, makeRedex, atWord, nextWord}
 use Rattle.calculus.specs.State.{Slot, unused, identifier, cell, aLock, semaphore, rwlock, Thread, State}
-use Rattle.calculus.specs.Reduction.{_>>=_, nameOf, content, wordOf}
+use Rattle.calculus.specs.Reduction.{_>>=_, nameOf, cellValue, wordOf}
 use Rattle.calculus.specs.Claim.{ThreadAt, AboutToRead, aboutToRead, AboutToWrite, aboutToWrite, Race, race}
 use Rattle.calculus.proofs.Laws.Maps.{some-injective, none-is-not-some, bind-is-some}
 use Rattle.calculus.proofs.Laws.Questions.{word-tells}
@@ -54,7 +54,7 @@ writes-tells (writeRedex v u) n h = (u, ap (λ x. writeRedex x u) (name-tells v 
 writes-tells (unaryRedex o v) n h = none-is-not-some h
 writes-tells (makeRedex o) n h = none-is-not-some h
 
-content-tells : {v : Value} (sl : Slot) → content sl ≡ some v → sl ≡ cell v
+content-tells : {v : Value} (sl : Slot) → cellValue sl ≡ some v → sl ≡ cell v
 content-tells unused h = none-is-not-some h
 content-tells identifier h = none-is-not-some h
 content-tells (cell w) h = ap cell (some-injective h)
@@ -72,7 +72,7 @@ module _ (s : State) (t : Thread) where
   unfolding ifCell
   cell-found ask n h =
       let (m, asked, h₁) = bind-is-some (wordOf (nextWord (t .body)) >>= ask) h in
-      let (v, held, h₂) = bind-is-some (content (s .names m)) h₁ in
+      let (v, held, h₂) = bind-is-some (cellValue (s .names m)) h₁ in
       let (w, next, h₃) = bind-is-some (wordOf (nextWord (t .body))) asked in
       let same : m ≡ n = some-injective h₂ in
       (w, v, word-tells (nextWord (t .body)) next, h₃ ∙ ap some same, ap (s .names) (sym same) ∙ content-tells (s .names m) held)

@@ -16,7 +16,7 @@ use Rattle.calculus.proofs.Laws.Maps.{some-injective}
 use Rattle.replay_theory.specs.Trace.{TraceLine, traceLine}
 use Rattle.replay_theory.specs.Run.{Run, moveOf, stepped, within}
 use Rattle.replay_theory.specs.LowestPair.{lowestPair}
-use Rattle.replay_theory.specs.Replay.{pastLimit, step, limited, onLine, goesOn, way, raceOr, firstRace}
+use Rattle.replay_theory.specs.Replay.{pastLimit, step, limited, lineOutcome, goesOn, way, raceOr, firstRace}
 use Rattle.replay_theory.specs.declared.Ending.{Ending}
 use Rattle.replay_theory.specs.declared.Ending.the-variants.{TraceForm, NoStep, PastLimit}
 use Rattle.replay_theory.specs.declared.FirstRace.the-variants.{None, Found}
@@ -32,8 +32,8 @@ pub data Goes (k : ℕ) (r : Run) (l : Line) (rest : Run → List Run × Ending)
   isStep : (t : TraceLine) (r′ : Run) → traceLine l ≡ some t → stepped r t ≡ some r′ → within r′ ≡ true →
       Goes k r l rest (r′ ∷ rest r′ .0, rest r′ .1)
 
-pub line-goes : (k : ℕ) (r : Run) (l : Line) (rest : Run → List Run × Ending) → Goes k r l rest (goesOn k (onLine (stepped r) within (traceLine l)) rest)
-unfolding goesOn onLine limited
+pub line-goes : (k : ℕ) (r : Run) (l : Line) (rest : Run → List Run × Ending) → Goes k r l rest (goesOn k (lineOutcome (stepped r) within (traceLine l)) rest)
+unfolding goesOn lineOutcome limited
 line-goes k r l rest = by-line (traceLine l) refl
   where
     by-limit : (t : TraceLine) (r′ : Run) (b : Bool) → traceLine l ≡ some t → stepped r t ≡ some r′ → within r′ ≡ b →
@@ -45,7 +45,7 @@ line-goes k r l rest = by-line (traceLine l) refl
     by-step t none q e = isNoStep t q e
     by-step t (some r′) q e = by-limit t r′ (within r′) q e refl
 
-    by-line : (o : Option TraceLine) → traceLine l ≡ o → Goes k r l rest (goesOn k (onLine (stepped r) within o) rest)
+    by-line : (o : Option TraceLine) → traceLine l ≡ o → Goes k r l rest (goesOn k (lineOutcome (stepped r) within o) rest)
     by-line none q = isNoLine q
     by-line (some t) q = by-step t (stepped r t) q refl
 

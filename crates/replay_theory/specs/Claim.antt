@@ -24,7 +24,7 @@ use Rattle.calculus.specs.Claim.{ThreadAt, Finished, AboutToRead, AboutToWrite,
 use Rattle.soundness.specs.Erasure.{eraseProgram}
 use Rattle.replay_theory.specs.Trace.{TraceLine, traceLine}
 use Rattle.replay_theory.specs.Paths.{Path, nextPath, partAt}
-use Rattle.replay_theory.specs.Run.{Kind, sameKind, Run, startRun, placeOf, recordOf, hasFinished, partChosen, isOpen, Effect, spawns, opens, makes, sameEffect, effect, numbersAfter, threadsAfter, threadLimit, thingLimit, callLimit}
+use Rattle.replay_theory.specs.Run.{ObjectKind, sameKind, Run, startRun, placeOf, recordOf, hasFinished, partChosen, isOpen, Effect, spawns, opens, makes, sameEffect, effect, numbersAfter, threadsAfter, threadLimit, thingLimit, callLimit}
 use Rattle.replay_theory.specs.Replay.{way, judged, lineNumbers}
 use Rattle.replay_theory.specs.declared.Status.the-variants.{Running}
 use Rattle.replay_theory.specs.declared.FirstRace.{FirstRace}
@@ -73,7 +73,7 @@ pub record Reduced : Type 0 where
 
 -- The language's step of line l in the run r: its thread is running, the step reduces d, and r′ is the run after it. A call puts the body,
 -- with its argument, where the call stood.
-pub record Step (r : Run) (l : TraceLine) (d : Reduced) (r′ : Run) : Type 0 where
+pub record LanguageStep (r : Run) (l : TraceLine) (d : Reduced) (r′ : Run) : Type 0 where
   pub move : Move
   pub listed : MoveOf r l move
   pub running : recordOf r (l .thread) ≡ some Running
@@ -142,7 +142,7 @@ howMany e (d ∷ ds) = choose (sameEffect sameKind (effect (d .word)) e) (suc (h
 -- counted by itself over the whole run, the start thread included and its identifier not", and 64 "open calls in one thread".
 pub record Within (rs : List Run) (ds : List Reduced) : Type 0 where
   pub threads : 1 + howMany spawns ds ≤ threadLimit
-  pub things : (k : Kind) → howMany (makes k) ds ≤ thingLimit
+  pub things : (k : ObjectKind) → howMany (makes k) ds ≤ thingLimit
   pub calls : (i : ℕ) → length (openCallsOf i ds rs) ≤ callLimit
 
 -- ------------------------------------------------------------------ its lines in turn
@@ -159,7 +159,7 @@ pub record StepDone (rs : List Run) (ls : List Line) (ds : List Reduced) (n : �
   pub shown : traceLine line ≡ some read
   pub reduced : Reduced
   pub reducedThere : getElem? ds n ≡ some reduced
-  pub step : Step before read reduced after
+  pub step : LanguageStep before read reduced after
 
 -- Stops rs ds r l k n: the runs so far are rs, by the steps ds, and the last is r; the next line is l, which is line k, and the trace ends with
 -- the answer n.
@@ -167,7 +167,7 @@ pub data Stops (rs : List Run) (ds : List Reduced) (r : Run) : Option Line → (
   allDone : {k : ℕ} → Stops rs ds r none k (lineNumbers 0 0)
   notALine : {k : ℕ} (l : Line) → traceLine l ≡ none → Stops rs ds r (some l) k (lineNumbers 46 k)
   cannotStep : {k : ℕ} (l : Line) (t : TraceLine) → traceLine l ≡ some t → NoStepOf r t → Stops rs ds r (some l) k (lineNumbers 47 k)
-  tooMany : {k : ℕ} (l : Line) (t : TraceLine) (d : Reduced) (r′ : Run) → traceLine l ≡ some t → Step r t d r′ →
+  tooMany : {k : ℕ} (l : Line) (t : TraceLine) (d : Reduced) (r′ : Run) → traceLine l ≡ some t → LanguageStep r t d r′ →
       ¬ Within (rs ++ (r′ ∷ [])) (ds ++ (d ∷ [])) → Stops rs ds r (some l) k (lineNumbers 48 k)
 
 -- "It then does exactly the language's step on each line and reports the steps done"; none of these passes a limit, all of them run the open

@@ -7,7 +7,7 @@ use lib.Dec.{eqb}
 use Rattle.spec.specs.Choice.{if_then_else_}
 use Rattle.calculus.specs.Expression.{Value, Unary, join, ref, read, lock, unlock, post, wait, hold, call, Redex, letRedex, ifRedex, whileRedex, spawnRedex, writeRedex, unaryRedex, makeRedex, nextWord}
 use Rattle.calculus.specs.State.{Slot, Thread}
-use Rattle.calculus.specs.Reduction.{_>>=_, _>>_, nameOf, content, wordOf}
+use Rattle.calculus.specs.Reduction.{_>>=_, _>>_, nameOf, cellValue, wordOf}
 use Rattle.replay_theory.specs.Run.{Run, ofUnary}
 
 -- the name that a word reads, and the name that it writes
@@ -38,7 +38,7 @@ writes (makeRedex o) = none
 unfoldable pub ifCell : (ℕ → Slot) → Option ℕ → Option ℕ
 ifCell names o = do
   n ← o
-  content (names n)
+  cellValue (names n)
   some n
 
 -- the cell that a thread is about to read, the cell that it is about to write

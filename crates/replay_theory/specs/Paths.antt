@@ -9,21 +9,21 @@ abbrev pub Path : Type 0
 Path = List Part
 
 -- the one path once that part is a value, and else the path into the part
-unfoldable pub once : Next → (here inside : Path) → Path
-once (isValue v) here inside = here
-once (atVariable x) here inside = inside
-once (atWord w) here inside = inside
+unfoldable pub pathOnce : Next → (here inside : Path) → Path
+pathOnce (isValue v) here inside = here
+pathOnce (atVariable x) here inside = inside
+pathOnce (atWord w) here inside = inside
 
 -- the path of the next word
 unfoldable pub nextPath : Exp → Path
 nextPath (value v) = []
 nextPath (var x) = []
-nextPath (letIn x e₁ e₂) = once (nextWord e₁) [] (first ∷ nextPath e₁)
+nextPath (letIn x e₁ e₂) = pathOnce (nextWord e₁) [] (first ∷ nextPath e₁)
 nextPath (if e₁ e₂) = []
 nextPath (while e) = []
-nextPath (spawn e₁ e₂) = once (nextWord e₁) [] (first ∷ nextPath e₁)
-nextPath (write e₁ e₂) = once (nextWord e₁) (once (nextWord e₂) [] (second ∷ nextPath e₂)) (first ∷ nextPath e₁)
-nextPath (unary o e) = once (nextWord e) [] (first ∷ nextPath e)
+nextPath (spawn e₁ e₂) = pathOnce (nextWord e₁) [] (first ∷ nextPath e₁)
+nextPath (write e₁ e₂) = pathOnce (nextWord e₁) (pathOnce (nextWord e₂) [] (second ∷ nextPath e₂)) (first ∷ nextPath e₁)
+nextPath (unary o e) = pathOnce (nextWord e) [] (first ∷ nextPath e)
 nextPath (make o) = []
 
 unfoldable pub onlyPart : Exp → Part → Option Exp

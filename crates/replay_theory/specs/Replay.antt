@@ -37,9 +37,9 @@ unfoldable pub limited : {A : Type 0} → (within : A → Bool) → Option A →
 limited within none = noStep
 limited within (some a) = if within a then step a else pastLimit
 
-unfoldable pub onLine : {A : Type 0} → (stepped : TraceLine → Option A) → (within : A → Bool) → Option TraceLine → Outcome A
-onLine stepped within none = badForm
-onLine stepped within (some l) = limited within (stepped l)
+unfoldable pub lineOutcome : {A : Type 0} → (stepped : TraceLine → Option A) → (within : A → Bool) → Option TraceLine → Outcome A
+lineOutcome stepped within none = badForm
+lineOutcome stepped within (some l) = limited within (stepped l)
 
 -- the runs after each step, and how the trace ends; `line` is the number of the first line
 unfoldable pub goesOn : (line : ℕ) → Outcome Run → (Run → List Run × Ending) → List Run × Ending
@@ -50,7 +50,7 @@ goesOn k (step r) rest = let (rs, ending) = rest r in (r ∷ rs, ending)
 
 unfoldable pub way : (line : ℕ) → Run → List Line → List Run × Ending
 way k r [] = ([], Done)
-way k r (l ∷ ls) = goesOn k (onLine (stepped r) within (traceLine l)) (λ r′. way (k + 1) r′ ls)
+way k r (l ∷ ls) = goesOn k (lineOutcome (stepped r) within (traceLine l)) (λ r′. way (k + 1) r′ ls)
 
 -- ------------------------------------------------------------------ the report
 

@@ -17,8 +17,8 @@ use Rattle.replay_theory.specs.declared.Status.the-variants.{Running, Fi
 -- ------------------------------------------------------------------ runs
 
 -- The things that a run makes. No thing changes its kind or goes away.
-pub data Kind : Type 0 where
-  cells locks rwlocks semaphores identifiers : Kind
+pub data ObjectKind : Type 0 where
+  cells locks rwlocks semaphores identifiers : ObjectKind
   deriving Discrete as sameKind
 
 -- A run so far, of a program with these procedures: `numbers` has the numbers of the threads that are in the state, place by place, and none
@@ -30,7 +30,7 @@ pub record Run : Type 0 where
   pub numbers : List ℕ
   pub calls : List (List Path)
   pub threads : ℕ
-  pub things : Kind → ℕ
+  pub things : ObjectKind → ℕ
   pub next : ℕ
 
 -- "the start thread included and its identifier not": it is thread 0, and its identifier has the name 0
@@ -135,7 +135,7 @@ openCalls (t ∷ ts) (ps ∷ calls) = openIn (t .body) ps ∷ openCalls ts calls
 -- what a word does to the threads, calls and things of a run
 pub data Effect : Type 0 where
   plain spawns joins opens : Effect
-  makes : Kind → Effect
+  makes : ObjectKind → Effect
   deriving Discrete as sameEffect
 
 unfoldable pub unaryEffect : Unary → Effect
@@ -149,7 +149,7 @@ unaryEffect wait = plain
 unaryEffect (hold w) = plain
 unaryEffect (call f) = opens
 
-unfoldable pub kindMade : Maker → Kind
+unfoldable pub kindMade : Maker → ObjectKind
 kindMade newtid = identifiers
 kindMade newlock = locks
 kindMade newsem = semaphores
@@ -179,7 +179,7 @@ threadsAfter joins n = n
 threadsAfter opens n = n
 threadsAfter (makes k) n = n
 
-unfoldable pub oneMore : Kind → (Kind → ℕ) → Kind → ℕ
+unfoldable pub oneMore : ObjectKind → (ObjectKind → ℕ) → ObjectKind → ℕ
 oneMore k things l = choose (sameKind l k) (suc (things l)) (things l)
 
 -- the open calls before a step that are looked at after it, and the one taken at the path q. A new thread has none, and those of a joined one
@@ -191,7 +191,7 @@ callsAfter m q joins calls = remove calls (m .finished)
 callsAfter m q opens calls = taken (m .thread) q calls
 callsAfter m q (makes k) calls = calls
 
-unfoldable pub thingsAfter : Effect → (things : Kind → ℕ) → Kind → ℕ
+unfoldable pub thingsAfter : Effect → (things : ObjectKind → ℕ) → ObjectKind → ℕ
 thingsAfter plain things = things
 thingsAfter spawns things = things
 thingsAfter joins things = things
@@ -236,7 +236,7 @@ threadLimit = 16
 unfoldable pub thingLimit : ℕ
 thingLimit = 64
 
-unfoldable pub withinLimits : (threads : ℕ) → (things : Kind → ℕ) → Bool
+unfoldable pub withinLimits : (threads : ℕ) → (things : ObjectKind → ℕ) → Bool
 withinLimits threads things =
     leb threads threadLimit
     && leb (things cells) thingLimit

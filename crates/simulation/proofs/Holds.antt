@@ -15,7 +15,7 @@ use Rattle.control.specs.Layout.{thingCountsAt, nextValueAt, spaceSize}
 use Rattle.things.specs.declared.Slot.{Slot}
 use Rattle.reduction.specs.Slots.{slotAt}
 use Rattle.engine.specs.Focuses.{focusAt}
-use Rattle.replay_theory.specs.Run.{Kind, cells, locks, rwlocks, semaphores, identifiers}
+use Rattle.replay_theory.specs.Run.{ObjectKind, cells, locks, rwlocks, semaphores, identifiers}
 use Rattle.machine.specs.Control.{openCalls}
 use Rattle.machine.specs.State.{MachineThread}
 use Rattle.machine.specs.Step.{isDone}
@@ -38,14 +38,14 @@ SlotIs x (rwlock N (readers k)) = (x .kind ≡ 5) × (x .first ≡ N) × (x .sec
 SlotIs x (rwlock N writer) = (x .kind ≡ 6) × (x .first ≡ N)
 
 -- the number of a kind of things
-abbrev pub kindCode : Kind → ℕ
+abbrev pub kindCode : ObjectKind → ℕ
 kindCode identifiers = 1
 kindCode cells = 2
 kindCode locks = 3
 kindCode semaphores = 4
 kindCode rwlocks = 5
 
-pub kind-low : (k : Kind) → kindCode k < 8
+pub kind-low : (k : ObjectKind) → kindCode k < 8
 kind-low identifiers = omega arith
 kind-low cells = omega arith
 kind-low locks = omega arith
@@ -53,16 +53,16 @@ kind-low semaphores = omega arith
 kind-low rwlocks = omega arith
 
 -- how many things there are in all
-abbrev pub allThings : (Kind → ℕ) → ℕ
+abbrev pub allThings : (ObjectKind → ℕ) → ℕ
 allThings things = things identifiers + things cells + things locks + things semaphores + things rwlocks
 
-pub record NamesHeld (s : List ℕ) (names : ℕ → calculus.Slot) (next : ℕ) (things : Kind → ℕ) : Type 0 where
+pub record NamesHeld (s : List ℕ) (names : ℕ → calculus.Slot) (next : ℕ) (things : ObjectKind → ℕ) : Type 0 where
   pub constant : slotAt s 0 .kind ≡ 0
   pub slots : (n : ℕ) → suc n < 322 → SlotIs (slotAt s (suc n)) (names n)
   pub unused-from : UnusedFrom names next
   pub nextStored : getD s nextValueAt 0 ≡ suc next
-  pub counted : (k : Kind) → getD s (thingCountsAt + kindCode k) 0 ≡ things k
-  pub few : (k : Kind) → things k ≤ 64
+  pub counted : (k : ObjectKind) → getD s (thingCountsAt + kindCode k) 0 ≡ things k
+  pub few : (k : ObjectKind) → things k ≤ 64
   pub all : next ≡ suc (allThings things)
 
 -- ------------------------------------------------------------------ threads

@@ -34,7 +34,7 @@ use Rattle.things.specs.Uses.{slot, madeOf, usedBy}
 use Rattle.reduction.specs.Slots.{slotAt, slotPut}
 use Rattle.reduction.specs.Words.{given, withThing, newThing, subject, operand, effected, wordUsed, actedBy, acted}
 use Rattle.engine.specs.Steps.{actStep, afterAct}
-use Rattle.replay_theory.specs.Run.{Kind, cells, locks, rwlocks, semaphores, identifiers, sameKind, oneMore, threadLimit, thingLimit, withinLimits, kindMade}
+use Rattle.replay_theory.specs.Run.{ObjectKind, cells, locks, rwlocks, semaphores, identifiers, sameKind, oneMore, threadLimit, thingLimit, withinLimits, kindMade}
 use Rattle.replay_theory.specs.Replay.{limited}
 use Rattle.machine.specs.Environment.{Env}
 use Rattle.machine.specs.Control as machine
@@ -52,10 +52,10 @@ use Rattle.simulation.proofs.Moving.{Answered, moves, pausing}
 
 -- ------------------------------------------------------------------ counts
 
-kindAt : ℕ → Kind
+kindAt : ℕ → ObjectKind
 kindAt n = if eqb n 1 then identifiers else if eqb n 2 then cells else if eqb n 3 then locks else if eqb n 4 then semaphores else rwlocks
 
-kind-at : (k : Kind) → kindAt (kindCode k) ≡ k
+kind-at : (k : ObjectKind) → kindAt (kindCode k) ≡ k
 unfolding kindAt
 kind-at identifiers = refl
 kind-at cells = refl
@@ -63,10 +63,10 @@ kind-at locks = refl
 kind-at semaphores = refl
 kind-at rwlocks = refl
 
-kind-apart : (l k : Kind) → l ≢ k → kindCode l ≢ kindCode k
+kind-apart : (l k : ObjectKind) → l ≢ k → kindCode l ≢ kindCode k
 kind-apart l k n e = n (sym (kind-at l) ∙ ap kindAt e ∙ kind-at k)
 
-one-more-all : (k : Kind) (things : Kind → ℕ) → allThings (oneMore k things) ≡ suc (allThings things)
+one-more-all : (k : ObjectKind) (things : ObjectKind → ℕ) → allThings (oneMore k things) ≡ suc (allThings things)
 unfolding oneMore
 one-more-all cells things = omega arith
 one-more-all locks things = omega arith
@@ -74,7 +74,7 @@ one-more-all rwlocks things = omega arith
 one-more-all semaphores things = omega arith
 one-more-all identifiers things = omega arith
 
-one-more-few : (k : Kind) (things : Kind → ℕ) → ((l : Kind) → things l ≤ 64) → things k < 64 → (l : Kind) → oneMore k things l ≤ 64
+one-more-few : (k : ObjectKind) (things : ObjectKind → ℕ) → ((l : ObjectKind) → things l ≤ 64) → things k < 64 → (l : ObjectKind) → oneMore k things l ≤ 64
 unfolding oneMore
 one-more-few k things few h l = go (sameKind l k)
   where
@@ -83,7 +83,7 @@ one-more-few k things few h l = go (sameKind l k)
     go (no n) = few l
 
 -- one of a kind too many
-past-limits : (n : ℕ) (k : Kind) (things : Kind → ℕ) → n ≤ 16 → ((l : Kind) → things l ≤ 64) → 64 ≤ things k → withinLimits n (oneMore k things) ≡ false
+past-limits : (n : ℕ) (k : ObjectKind) (things : ObjectKind → ℕ) → n ≤ 16 → ((l : ObjectKind) → things l ≤ 64) → 64 ≤ things k → withinLimits n (oneMore k things) ≡ false
 unfolding withinLimits threadLimit thingLimit oneMore
 past-limits n cells things h few p = rw (le-leb n 16 h, lt-leb (suc (things cells)) 64 (omega (arith, p)))
 past-limits n locks things h few p = rw (le-leb n 16 h, le-leb (things cells) 64 (few cells), lt-leb (suc (things locks)) 64 (omega (arith, p)))
@@ -103,8 +103,8 @@ slot-set s j y v h = λ z. if ltb v 322 then slot
     (getD-set-other s j (thingFirstsAt + v) y 0 (λ e. omega (arith, e, h)) z)
     (getD-set-other s j (thingSecondsAt + v) y 0 (λ e. omega (arith, e, h)) z) else slot 0 0 0
 
-module _ {s : List ℕ} {names : ℕ → state.Slot} {next : ℕ} {things : Kind → ℕ} (N : NamesHeld s names next things) (long : length s ≡ spaceSize)
-    (k : Kind) (x : Slot) (new : state.Slot) (is-kind : x .kind ≡ kindCode k) (is : SlotIs x new) (room : things k < 64) where
+module _ {s : List ℕ} {names : ℕ → state.Slot} {next : ℕ} {things : ObjectKind → ℕ} (N : NamesHeld s names next things) (long : length s ≡ spaceSize)
+    (k : ObjectKind) (x : Slot) (new : state.Slot) (is-kind : x .kind ≡ kindCode k) (is : SlotIs x new) (room : things k < 64) where
   abbrev s₁ : List ℕ
   s₁ = slotPut s (suc next) x
 
@@ -124,7 +124,7 @@ module _ {s : List ℕ} {names : ℕ → state.Slot} {next : ℕ} {things : Kind
       let f = N .few rwlocks in
       less k room a b c d e f
     where
-      less : (k : Kind) → things k < 64 → next ≡ suc (allThings things) → things identifiers ≤ 64 → things cells ≤ 64 → things locks ≤ 64 → things semaphores ≤ 64 → things rwlocks ≤ 64 → suc next < 322
+      less : (k : ObjectKind) → things k < 64 → next ≡ suc (allThings things) → things identifiers ≤ 64 → things cells ≤ 64 → things locks ≤ 64 → things semaphores ≤ 64 → things rwlocks ≤ 64 → suc next < 322
       less identifiers h a b c d e f = omega arith
       less cells h a b c d e f = omega arith
       less locks h a b c d e f = omega arith
@@ -159,12 +159,12 @@ module _ {s : List ℕ} {names : ℕ → state.Slot} {next : ℕ} {things : Kind
       by-name m h (yes e) = subst (λ (y : Slot). SlotIs y new) (sym (slot-after (suc m) ∙ ap (λ (j : ℕ). slotAt s₁ (suc j)) e ∙ slot-here s (suc next) x next-low long)) is
       by-name m h (no f) = subst (λ (y : Slot). SlotIs y (names m)) (sym (slot-after (suc m) ∙ slot-there s (suc next) x next-low (suc m) (λ e. f (omega (arith, e))))) (N .slots m h)
 
-      by-kind : (l : Kind) → (d : Dec (l ≡ k)) → getD s₃ (thingCountsAt + kindCode l) 0 ≡ choose d (suc (things l)) (things l)
+      by-kind : (l : ObjectKind) → (d : Dec (l ≡ k)) → getD s₃ (thingCountsAt + kindCode l) 0 ≡ choose d (suc (things l)) (things l)
       by-kind l (yes e) =
           getD-set-other s₂ nextValueAt (thingCountsAt + kindCode l) (suc next + 1) 0 (λ z. let a = kind-low l in omega (arith, z, a))
-          ∙ ap (λ (m : Kind). getD s₂ (thingCountsAt + kindCode m) 0) e
+          ∙ ap (λ (m : ObjectKind). getD s₂ (thingCountsAt + kindCode m) 0) e
           ∙ getD-set-same s₁ (thingCountsAt + kindCode k) (things k + 1) 0 (let a = kind-low k in omega (arith, a, long₁))
-          ∙ (let z : things k + 1 ≡ suc (things k) = omega arith in z) ∙ ap (λ (m : Kind). suc (things m)) (sym e)
+          ∙ (let z : things k + 1 ≡ suc (things k) = omega arith in z) ∙ ap (λ (m : ObjectKind). suc (things m)) (sym e)
       by-kind l (no n) =
           let a = kind-low l in
           getD-set-other s₂ nextValueAt (thingCountsAt + kindCode l) (suc next + 1) 0 (λ z. omega (arith, z, a))
@@ -186,7 +186,7 @@ module _ {s : List ℕ} {names : ℕ → state.Slot} {next : ℕ} {things : Kind
 
 module _ (p s : List ℕ) (T : Threads) (R : Replay) (t tid : ℕ) (σ : Env) (K : List Frame) (H : Holds p s T R) (low : t < 16) (row : ℕ) (inside : RowIn t row) (values : Values p s row σ)
     (w : machine.Word) (f : Focus) (j : ℕ) (j-low : j < 256) (F : Frames p s t row j (continuation p j) K) (there : getElem? (R .machine .threads) t ≡ some (running tid (at σ w K)))
-    (k : Kind) (x : Slot) (new : state.Slot) (is-kind : x .kind ≡ kindCode k) (is : SlotIs x new) where
+    (k : ObjectKind) (x : Slot) (new : state.Slot) (is-kind : x .kind ≡ kindCode k) (is : SlotIs x new) where
   abbrev M : Machine
   M = R .machine
 

@@ -22,7 +22,7 @@ use Rattle.control.specs.Control.{found}
 use Rattle.reduction.specs.declared.words.Act.the-variants as act
 use Rattle.engine.specs.Focuses.{focusAt, settled, wentOn}
 use Rattle.engine.specs.Steps.{recorded, proceeded, outcomeOf, movedTo, actStep, afterAct}
-use Rattle.replay_theory.specs.Run.{Kind, cells, locks, rwlocks, semaphores, identifiers, threadLimit, thingLimit, withinLimits, callLimit}
+use Rattle.replay_theory.specs.Run.{ObjectKind, cells, locks, rwlocks, semaphores, identifiers, threadLimit, thingLimit, withinLimits, callLimit}
 use Rattle.replay_theory.specs.Replay.{Outcome, badForm, noStep, pastLimit, step, limited}
 use Rattle.spec.specs.Expression.{Procedure}
 use Rattle.machine.specs.Control.{Control, done, at, openCalls}
@@ -46,7 +46,7 @@ Answered p pastLimit r = r .0 .outcome ≡ Past
 Answered p (step R) r = (r .0 .outcome ≡ Moved) × Holds p (r .1) (r .0 .threads) R
 
 -- the limits are kept while they hold
-pub within-limits : (n : ℕ) (things : Kind → ℕ) → n ≤ 16 → ((k : Kind) → things k ≤ 64) → withinLimits n things ≡ true
+pub within-limits : (n : ℕ) (things : ObjectKind → ℕ) → n ≤ 16 → ((k : ObjectKind) → things k ≤ 64) → withinLimits n things ≡ true
 unfolding withinLimits threadLimit thingLimit
 within-limits n things h few =
     rw (le-leb n 16 h, le-leb (things cells) 64 (few cells), le-leb (things locks) 64 (few locks), le-leb (things rwlocks) 64 (few rwlocks), le-leb (things semaphores) 64 (few semaphores), le-leb (things identifiers) 64 (few identifiers))
@@ -107,7 +107,7 @@ set-there (x ∷ xs) zero a h = refl
 set-there (x ∷ xs) (suc i) a h = set-there xs i a (omega (arith, h))
 
 module _ (p s : List ℕ) (T : Threads) (ts : List MachineThread) (t tid : ℕ) (f : Focus) (P : Paused p s T ts t tid) (Q : List Procedure) (B : BodiesStand p Q)
-    (names : ℕ → state.Slot) (next : ℕ) (things : Kind → ℕ) (N : NamesHeld s names next things) (g : Focus) (d : Control)
+    (names : ℕ → state.Slot) (next : ℕ) (things : ObjectKind → ℕ) (N : NamesHeld s names next things) (g : Focus) (d : Control)
     (F : ControlAt p (found 2048 p s g .1) t (found 2048 p s g .0) d × SameBut t s (found 2048 p s g .1)) where
   abbrev Next : Replay
   Next = record { machine = record { procedures = Q; threads = set ts t (running tid d); names = names; next = next }; things = things }

@@ -18,7 +18,7 @@ use Rattle.control.specs.Layout.{thingCountsAt, nextValueAt, thingKindsAt, thin
 use Rattle.things.specs.declared.Slot.{Slot}
 use Rattle.things.specs.Uses.{slot}
 use Rattle.reduction.specs.Slots.{slotAt, slotPut}
-use Rattle.replay_theory.specs.Run.{Kind, cells, locks, rwlocks, semaphores, identifiers}
+use Rattle.replay_theory.specs.Run.{ObjectKind, cells, locks, rwlocks, semaphores, identifiers}
 use Rattle.simulation.proofs.Held.{codeValue}
 use Rattle.simulation.proofs.Agreeing.{Agree, agree-then, agree-shared}
 use Rattle.simulation.proofs.Holds.{SlotIs, NamesHeld, kindCode, kind-low}
@@ -85,7 +85,7 @@ slot-agree i s v x l =
 
 -- ------------------------------------------------------------------ all names
 
-module _ {s : List ℕ} {names : ℕ → state.Slot} {next : ℕ} {things : Kind → ℕ} (N : NamesHeld s names next things) where
+module _ {s : List ℕ} {names : ℕ → state.Slot} {next : ℕ} {things : ObjectKind → ℕ} (N : NamesHeld s names next things) where
   pub next-small : next ≤ 321
   next-small =
       let a = N .all in

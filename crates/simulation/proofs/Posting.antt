@@ -11,7 +11,7 @@ use lib.ListN.{getElem?}
 use Rattle.spec.specs.Program.{Program}
 use Rattle.calculus.specs.Expression.{Value, Unary, join, ref, read, lock, unlock, post, wait, hold, call, choose, Maker, newtid, newlock, newsem, newrwlock}
 use Rattle.calculus.specs.State.{Slot, unused, identifier, cell, aLock, semaphore, rwlock, Part, update}
-use Rattle.calculus.specs.Reduction.{nameOf, ifIdentifier, content, lockState, ifOpened, count, oneLess, rwState, insideAfter, made}
+use Rattle.calculus.specs.Reduction.{nameOf, ifIdentifier, cellValue, lockState, ifOpened, count, oneLess, rwState, insideAfter, made}
 use Rattle.calculus.proofs.Laws.Maps.{some-injective, none-is-not-some, bind-is-some}
 use Rattle.replay_theory.specs.Trace.{TraceLine}
 use Rattle.replay_theory.specs.Run.{partChosen, effect, thingsAfter}
@@ -66,7 +66,7 @@ module _ (k : ℕ) (M : Machine) (i tid : ℕ) (σ : Env) (K : List Frame) (h : 
   unary-counts ref v N q = told _ N (updated k (M .names) (M .next) (cell v) h (λ c e. none-is-not-some e)) q
   unary-counts read v N q =
       let (m, _, q₁) = bind-is-some (nameOf v) q in
-      let (u, _, q₂) = bind-is-some (content (M .names m)) q₁ in
+      let (u, _, q₂) = bind-is-some (cellValue (M .names m)) q₁ in
       told _ N same q₂
   unary-counts lock v N q =
       let (m, _, q₁) = bind-is-some (nameOf v) q in
@@ -106,7 +106,7 @@ module _ (k : ℕ) (M : Machine) (i tid : ℕ) (σ : Env) (K : List Frame) (h : 
       told _ N same z₂
   word-counts c (writeWord q v w) N z =
       let (m, _, z₁) = bind-is-some (nameOf v) z in
-      let (u, _, z₂) = bind-is-some (content (M .names m)) z₁ in
+      let (u, _, z₂) = bind-is-some (cellValue (M .names m)) z₁ in
       told _ N (updated k (M .names) m (cell w) h (λ c e. none-is-not-some e)) z₂
   word-counts c (unaryWord q o v) N z = unary-counts o v N z
   word-counts c (makeWord q o) N z = told _ N (updated k (M .names) (M .next) (made o) h (made-within (suc k) o)) z

@@ -27,7 +27,7 @@ use Rattle.things.specs.Uses.{slot}
 use Rattle.reduction.specs.Slots.{slotAt}
 use Rattle.engine.specs.Focuses.{focusAt, focusPut, settled, wentOn}
 use Rattle.engine.specs.Steps.{recorded, proceeded}
-use Rattle.replay_theory.specs.Run.{Kind}
+use Rattle.replay_theory.specs.Run.{ObjectKind}
 use Rattle.machine.specs.Control as machine
 use Rattle.machine.specs.Control.{Control, done, at, openCalls}
 use Rattle.machine.specs.State.{MachineThread, running}
@@ -44,7 +44,7 @@ pub slot-same : (s s′ : List ℕ) (v : ℕ) → SharedSame s s′ → slotAt s
 unfolding slotAt
 slot-same s s′ v h = λ z. if ltb v 322 then slot (h (thingKindsAt + v) (omega arith) z) (h (thingFirstsAt + v) (omega arith) z) (h (thingSecondsAt + v) (omega arith) z) else slot 0 0 0
 
-pub names-same : (s s′ : List ℕ) {names : ℕ → calculus.Slot} {next : ℕ} {things : Kind → ℕ} → SharedSame s s′ → NamesHeld s names next things → NamesHeld s′ names next things
+pub names-same : (s s′ : List ℕ) {names : ℕ → calculus.Slot} {next : ℕ} {things : ObjectKind → ℕ} → SharedSame s s′ → NamesHeld s names next things → NamesHeld s′ names next things
 names-same s s′ {names = names} h N = record {
   constant = ap (λ x. x .kind) (slot-same s s′ 0 h) ∙ N .constant;
   slots = λ n l. subst (λ x. SlotIs x (names n)) (sym (slot-same s s′ (suc n) h)) (N .slots n l);
@@ -185,7 +185,7 @@ module _ (p s : List ℕ) (T : Threads) (ts : List MachineThread) (t tid : ℕ) 
         by-place (no n) = thread-there i th n (sym (set-elsewhere ts t i (running tid d) (λ e. n (sym e))) ∙ h)
 
   -- the thread has gone on to d
-  pub proceeds : (Q : List Procedure) → BodiesStand p Q → (names : ℕ → calculus.Slot) (next : ℕ) (things : Kind → ℕ) → NamesHeld s names next things → (f : Focus) (d : Control) → openCalls d ≤ 64 →
+  pub proceeds : (Q : List Procedure) → BodiesStand p Q → (names : ℕ → calculus.Slot) (next : ℕ) (things : ObjectKind → ℕ) → NamesHeld s names next things → (f : Focus) (d : Control) → openCalls d ≤ 64 →
       ControlAt p (found 2048 p s f .1) t (found 2048 p s f .0) d × SameBut t s (found 2048 p s f .1) →
       Holds p (proceeded p s T t f .1) (proceeded p s T t f .0) (record { machine = record { procedures = Q; threads = goneTo d; names = names; next = next }; things = things })
   unfolding proceeded recorded wentOn settled

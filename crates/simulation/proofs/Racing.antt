@@ -18,7 +18,7 @@ use Rattle.calculus.specs.Expression as calculus
 use Rattle.calculus.specs.Expression.{Value, int, name, read, Redex}
 use Rattle.calculus.specs.State as state
 use Rattle.calculus.specs.State.{unused, identifier, cell, aLock, opened, closed, semaphore, rwlock, readers, writer}
-use Rattle.calculus.specs.Reduction.{_>>=_, _>>_, content}
+use Rattle.calculus.specs.Reduction.{_>>=_, _>>_, cellValue}
 use Rattle.workspace.specs.Layout.{ruleOf, codeOf, printed}
 use Rattle.threads.specs.declared.Threads.{Threads}
 use Rattle.control.specs.declared.Focus.{Focus}
@@ -179,7 +179,7 @@ both-none true = refl
 both-none false = refl
 
 module _ (n : ℕ) (x : Slot) where
-  reads-cell : (sl : state.Slot) → SlotIs x sl → AccessIs (if eqb (x .kind) 2 then Read (suc n) else None) (usesBoth (content sl >> some n) none)
+  reads-cell : (sl : state.Slot) → SlotIs x sl → AccessIs (if eqb (x .kind) 2 then Read (suc n) else None) (usesBoth (cellValue sl >> some n) none)
   reads-cell unused h = rw h (refl, refl)
   reads-cell identifier h = rw h (refl, refl)
   reads-cell (cell v) h = rw (h .0) (refl, refl)
@@ -189,7 +189,7 @@ module _ (n : ℕ) (x : Slot) where
   reads-cell (rwlock N (readers k)) h = rw (h .0) (refl, refl)
   reads-cell (rwlock N writer) h = rw (h .0) (refl, refl)
 
-  writes-cell : (sl : state.Slot) → SlotIs x sl → AccessIs (if eqb (x .kind) 2 then Write (suc n) else None) (usesBoth none (content sl >> some n))
+  writes-cell : (sl : state.Slot) → SlotIs x sl → AccessIs (if eqb (x .kind) 2 then Write (suc n) else None) (usesBoth none (cellValue sl >> some n))
   writes-cell unused h = rw h (refl, refl)
   writes-cell identifier h = rw h (refl, refl)
   writes-cell (cell v) h = rw (h .0) (refl, refl)
@@ -252,7 +252,7 @@ module _ (p s : List ℕ) (row : ℕ) (names : ℕ → state.Slot) (slot-of : (n
   unfolding ofUnary usesOf ifCell uses.reads uses.writes uses.unaryReads
   part-silent σ q o v r quiet-rule no-read =
       silent (readyAt row (q .index) (codeValue v)) (usesOf names (some (redex σ (machine.unaryWord q o v)))) (quiet p s row r (codeValue v) quiet-rule)
-      (ap (λ (z : Option ℕ). z >>= λ n. content (names n) >> some n) (no-read v), refl)
+      (ap (λ (z : Option ℕ). z >>= λ n. cellValue (names n) >> some n) (no-read v), refl)
 
   word-shows : (σ : _) (w : machine.Word) (f : Focus) → WordAt p s row f w → ShowsUse f (redex σ w)
   unfolding ofUnary usesOf ifCell uses.reads uses.unaryReads uses.writes accessAt accessBy ruleOf printed

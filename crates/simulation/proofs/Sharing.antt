@@ -12,7 +12,7 @@ use Rattle.calculus.specs.Expression as calculus
 use Rattle.calculus.specs.Expression.{Value, int, name, read, lock, unlock, post, wait, hold, rdlock, rdunlock, wrlock, wrunlock}
 use Rattle.calculus.specs.State as state
 use Rattle.calculus.specs.State.{unused, identifier, cell, aLock, opened, closed, semaphore, rwlock, readers, writer, update}
-use Rattle.calculus.specs.Reduction.{_>>=_, _>>_, content}
+use Rattle.calculus.specs.Reduction.{_>>=_, _>>_, cellValue}
 use Rattle.calculus.proofs.Laws.Maps.{some-is-not-none}
 use Rattle.workspace.specs.Layout.{ruleOf, codeOf, printed}
 use Rattle.threads.specs.declared.Threads.{Threads}
@@ -79,7 +79,7 @@ unused-useless (hold wrunlock) using-wrunlock = refl
 
 -- a `write` stores in a cell
 abbrev writeUse : state.Slot → Value → Option Use
-writeUse sl w = content sl >>= λ v. some (left (cell w))
+writeUse sl w = cellValue sl >>= λ v. some (left (cell w))
 
 write-used : (x : Slot) (sl : state.Slot) (w : Value) → SlotIs x sl → UseIs (writeUse sl w) (writtenOf x (codeValue w))
 unfolding writtenOf
@@ -149,7 +149,7 @@ module _ (p s : List ℕ) (T : Threads) (R : Replay) (t tid : ℕ) (σ : Env) (K
   write-asks q (int k) w = refl
   write-asks q (name m) w = by-slot (M .names m)
     where
-      by-slot : (sl : state.Slot) → (content sl >> some (leaves M t tid σ K m (cell w))) ≡ (writeUse sl w >>= λ y. some (usedTo M t tid σ K m y))
+      by-slot : (sl : state.Slot) → (cellValue sl >> some (leaves M t tid σ K m (cell w))) ≡ (writeUse sl w >>= λ y. some (usedTo M t tid σ K m y))
       by-slot unused = refl
       by-slot identifier = refl
       by-slot (cell x) = refl

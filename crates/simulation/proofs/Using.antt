@@ -12,7 +12,7 @@ use Rattle.calculus.specs.Expression as calculus
 use Rattle.calculus.specs.Expression.{Value, int, name, read, lock, unlock, post, wait, hold, rdlock, rdunlock, wrlock, wrunlock, choose}
 use Rattle.calculus.specs.State as state
 use Rattle.calculus.specs.State.{opened, closed, readers, writer, unused, identifier, cell, aLock, semaphore, rwlock}
-use Rattle.calculus.specs.Reduction.{_>>=_, _>>_, content, lockState, ifOpened, count, oneLess, rwState, insideAfter}
+use Rattle.calculus.specs.Reduction.{_>>=_, _>>_, cellValue, lockState, ifOpened, count, oneLess, rwState, insideAfter}
 use Rattle.workspace.specs.Layout.{ruleOf, codeOf, printed}
 use Rattle.things.specs.declared.Slot.{Slot}
 use Rattle.things.specs.declared.Used.{Used}
@@ -47,7 +47,7 @@ pub data Using : calculus.Unary → Type 0 where
 abbrev pub useOf : calculus.Unary → state.Slot → Option Use
 useOf calculus.join sl = none
 useOf calculus.ref sl = none
-useOf read sl = content sl >>= λ v. some (gave v)
+useOf read sl = cellValue sl >>= λ v. some (gave v)
 useOf lock sl = lockState sl >>= λ l. ifOpened l >>= λ u. some (left (aLock closed))
 useOf unlock sl = lockState sl >>= λ l. some (left (aLock opened))
 useOf post sl = count sl >>= λ c. some (left (semaphore (suc c)))
@@ -63,7 +63,7 @@ module _ (M : Machine) (i tid : ℕ) (σ : Env) (K : List Frame) where
   abbrev Asked : calculus.Unary → (n : ℕ) → state.Slot → Option Machine
   Asked o n sl = useOf o sl >>= λ u. some (usedTo n u)
 
-  read-asks : (n : ℕ) (sl : state.Slot) → (content sl >>= λ w. some (gives M i tid σ K (M .names) w)) ≡ Asked read n sl
+  read-asks : (n : ℕ) (sl : state.Slot) → (cellValue sl >>= λ w. some (gives M i tid σ K (M .names) w)) ≡ Asked read n sl
   read-asks n unused = refl
   read-asks n identifier = refl
   read-asks n (cell v) = refl

@@ -15,7 +15,7 @@ use Rattle.spec.specs.Choice.{if_then_else_}
 use Rattle.spec.specs.Program.{Program}
 use Rattle.spec.specs.Split.{Map, Split, typeAt, mapAt}
 use Rattle.spec.specs.Ranges.{InRange}
-use Rattle.spec.specs.Maps.{_=ᵐ_, nowhere, sameNumbers}
+use Rattle.spec.specs.Maps.{_=ᵐ_, holdsEverywhere, sameNumbers}
 use Rattle.spec.specs.Kinds.{int, ref, kindOf, sameKind, is, refLocation, content, maps}
 use Rattle.spec.specs.Agreement.{Tree, plain, refTo, sameMaps, sameTree, treeOf, trees, tree, agree}
 use Rattle.spec.specs.declared.TypeNumber.{TypeNumber}
@@ -35,7 +35,7 @@ unfolding sameNumbers
 same-numbers-equal m n h = none-equal (nowhere-none (m =ᵐ n) h)
 
 pub same-numbers-itself : (m : Map) → sameNumbers m m ≡ true
-unfolding sameNumbers nowhere
+unfolding sameNumbers holdsEverywhere
 same-numbers-itself m = rw (equal-none {m = m} {n = m} refl)
 
 same-maps-equal : (ms ns : List Map) → sameMaps ms ns ≡ true → ms ≡ ns

@@ -8,7 +8,7 @@ use Rattle.spec.specs.Choice.{if_then_else_}
 use Rattle.spec.specs.Reading.{Out, stop, on, _>>=_}
 use Rattle.spec.specs.Split.{Split}
 use Rattle.spec.specs.Conditions.{Condition, T, F, A}
-use Rattle.spec.specs.Sites.{Site, Claim, claims, claimsAt, judge, firstFalse, only}
+use Rattle.spec.specs.Sites.{Site, NumberedCondition, claims, claimsAt, judge, firstFalse, only}
 use Rattle.spec.specs.FirstFalse.{Holds, AllHold, Names, type, flow, access, FirstFalse}
 use Rattle.spec.specs.declared.Refusal.{Refusal}
 use Rattle.spec.proofs.Clashes.{true-is-not-false, none-is-not-some, not-true-false}
@@ -33,32 +33,32 @@ holds-judged k i (A b p) h = rw h
 
 -- ------------------------------------------------------------------ a list of claims
 
-pub none-false-all-hold : {t : Unit {0}} (cs : List Claim) → firstFalse cs ≡ on t → AllHold cs
+pub none-false-all-hold : {t : Unit {0}} (cs : List NumberedCondition) → firstFalse cs ≡ on t → AllHold cs
 unfolding firstFalse AllHold
 none-false-all-hold [] h = tt
 none-false-all-hold (c ∷ cs) h =
     let b = bind-goes-on _ _ h in
     (judged-holds _ _ _ (b .1), none-false-all-hold cs (b .2))
 
-pub all-hold-none-false : (cs : List Claim) → AllHold cs → firstFalse cs ≡ on tt
+pub all-hold-none-false : (cs : List NumberedCondition) → AllHold cs → firstFalse cs ≡ on tt
 unfolding firstFalse AllHold
 all-hold-none-false [] h = refl
 all-hold-none-false (c ∷ cs) h = goes-on-bind _ _ (holds-judged _ _ _ (h .0)) (all-hold-none-false cs (h .1))
 
-pub all-hold-parts : (xs ys : List Claim) → AllHold (xs ++ ys) → AllHold xs × AllHold ys
+pub all-hold-parts : (xs ys : List NumberedCondition) → AllHold (xs ++ ys) → AllHold xs × AllHold ys
 unfolding AllHold
 all-hold-parts [] ys h = (tt, h)
 all-hold-parts (x ∷ xs) ys h =
     let r = all-hold-parts xs ys (h .1) in
     ((h .0, r .0), r .1)
 
-pub all-hold-append : (xs ys : List Claim) → AllHold xs → AllHold ys → AllHold (xs ++ ys)
+pub all-hold-append : (xs ys : List NumberedCondition) → AllHold xs → AllHold ys → AllHold (xs ++ ys)
 unfolding AllHold
 all-hold-append [] ys p q = q
 all-hold-append (x ∷ xs) ys p q = (p .0, all-hold-append xs ys (p .1) q)
 
 -- the claims of one sort, of two lists
-pub only-append : (sort : Condition → Bool) (xs ys : List Claim) → only sort (xs ++ ys) ≡ only sort xs ++ only sort ys
+pub only-append : (sort : Condition → Bool) (xs ys : List NumberedCondition) → only sort (xs ++ ys) ≡ only sort xs ++ only sort ys
 unfolding only
 only-append sort [] ys = refl
 only-append sort (c ∷ xs) ys = go (sort (c .condition)) (only-append sort xs ys)
@@ -74,15 +74,15 @@ claims-append S [] ys = refl
 claims-append S (x ∷ xs) ys = rw (claims-append S xs ys, append-assoc (claimsAt S x) (claims S xs) (claims S ys))
 
 -- what is said of lists of claims, and of two lists together exactly when it is said of each
-pub record OfEach (Q : List Claim → Type 0) : Type 0 where
-  pub parts : (xs ys : List Claim) → Q (xs ++ ys) → Q xs × Q ys
-  pub whole : (xs ys : List Claim) → Q xs → Q ys → Q (xs ++ ys)
+pub record OfEach (Q : List NumberedCondition → Type 0) : Type 0 where
+  pub parts : (xs ys : List NumberedCondition) → Q (xs ++ ys) → Q xs × Q ys
+  pub whole : (xs ys : List NumberedCondition) → Q xs → Q ys → Q (xs ++ ys)
 
 pub all-hold-each : OfEach AllHold
 all-hold-each = record { parts = all-hold-parts; whole = all-hold-append }
 
 -- it is said of a step and of the sites behind it, and of two lists of sites
-module _ {Q : List Claim → Type 0} (each : OfEach Q) (S : Split) where
+module _ {Q : List NumberedCondition → Type 0} (each : OfEach Q) (S : Split) where
   pub step-parts : (s : Site) (ss : List Site) → Q (claims S (s ∷ ss)) → Q (claimsAt S s) × Q (claims S ss)
   unfolding claims
   step-parts s ss h = each .parts (claimsAt S s) (claims S ss) h
@@ -108,7 +108,7 @@ judged-false k i (F (some l)) h = (λ n. none-is-not-some (sym n), subst (λ s. 
 judged-false k i (A true p) h = stop-is-not-on (sym h)
 judged-false k i (A false p) h = (λ t. true-is-not-false (sym t), subst (λ s. Names k i (A false p) s) (stop-injective h) access)
 
-pub stopped-first-false : {r : Refusal} (cs : List Claim) → firstFalse cs ≡ stop r → FirstFalse cs r
+pub stopped-first-false : {r : Refusal} (cs : List NumberedCondition) → firstFalse cs ≡ stop r → FirstFalse cs r
 unfolding firstFalse _>>=_ AllHold
 stopped-first-false [] h = stop-is-not-on (sym h)
 stopped-first-false (c ∷ cs) h = go (judge (c .line) (c .number) (c .condition)) refl h (stopped-first-false cs)
@@ -137,10 +137,10 @@ false-judged (type {b}) h = rw (not-true-false b h)
 false-judged flow h = refl
 false-judged (access {b}) h = rw (not-true-false b h)
 
-pub first-false-stopped : {r : Refusal} {all : List Claim} → FirstFalse all r → firstFalse all ≡ stop r
+pub first-false-stopped : {r : Refusal} {all : List NumberedCondition} → FirstFalse all r → firstFalse all ≡ stop r
 unfolding firstFalse AllHold _>>=_
 first-false-stopped {r} f = ap firstFalse (f .parted) ∙ past (f .before) (f .holdBefore)
   where
-    past : (before : List Claim) → AllHold before → firstFalse (before ++ f .here ∷ f .after) ≡ stop r
+    past : (before : List NumberedCondition) → AllHold before → firstFalse (before ++ f .here ∷ f .after) ≡ stop r
     past [] h = ap (λ o. o >>= λ holds. firstFalse (f .after)) (false-judged (f .named) (f .isFalse))
     past (c ∷ cs) h = goes-on-bind _ _ (holds-judged _ _ _ (h .0)) (past cs (h .1))

@@ -8,7 +8,7 @@ use lib.ListN.{getD}
 use Rattle.spec.specs.Choice.{if_then_else_}
 use Rattle.spec.specs.Reading.{on}
 use Rattle.spec.specs.Split.{Split, typeAt, mapAt}
-use Rattle.spec.specs.Maps.{_≥ᵐ_, nowhere}
+use Rattle.spec.specs.Maps.{_≥ᵐ_, holdsEverywhere}
 use Rattle.spec.specs.Kinds.{lock, sameKind, is, firstMap, secondMap}
 use Rattle.spec.specs.Figure5.{_⊒_}
 use Rattle.spec.specs.Accepted.{LocksTakeEnough}
@@ -34,7 +34,7 @@ module _ (S : Split) where
   unfolding takesEnough
   enough-line x h = by-kind (is lock x) refl
     where
-      by-kind : (b : Bool) → is lock x ≡ b → (if b then nowhere (mapAt S (secondMap x) ≥ᵐ mapAt S (firstMap x)) else true) ≡ true
+      by-kind : (b : Bool) → is lock x ≡ b → (if b then holdsEverywhere (mapAt S (secondMap x) ≥ᵐ mapAt S (firstMap x)) else true) ≡ true
       by-kind true e = none-nowhere (mapAt S (secondMap x) ≥ᵐ mapAt S (firstMap x)) (covers-none (h (firstMap x) (secondMap x) (is-of lock x e)))
       by-kind false e = refl
 

@@ -11,20 +11,20 @@ use lib.ListN.{length, getD}
 use borrow.Author.Tests.{eqb-true, leb-true, leb-false, eq-eqb, le-leb}
 use Rattle.spec.specs.Choice.{if_then_else_}
 use Rattle.spec.specs.Split.{Map}
-use Rattle.spec.specs.Maps.{lowest, atLeast, _=ᵐ_, _≥ᵐ_, nowhere, _×ᵐ_, overWhole}
+use Rattle.spec.specs.Maps.{lowest, atLeast, _=ᵐ_, _≥ᵐ_, holdsEverywhere, _×ᵐ_, overWhole}
 use Rattle.spec.specs.Figure5.{_⊒_, none as none⊒, more as more⊒}
 use Rattle.spec.specs.Accepted.{AtMost, none as noneAtMost, more as moreAtMost}
 use Rattle.spec.proofs.Clashes.{true-is-not-false, none-is-not-some, not-true-false}
 
 -- ------------------------------------------------------------------ nothing fails
 
-pub nowhere-none : (o : Option ℕ) → nowhere o ≡ true → o ≡ none
-unfolding nowhere
+pub nowhere-none : (o : Option ℕ) → holdsEverywhere o ≡ true → o ≡ none
+unfolding holdsEverywhere
 nowhere-none none h = refl
 nowhere-none (some l) h = true-is-not-false (sym h)
 
-pub none-nowhere : (o : Option ℕ) → o ≡ none → nowhere o ≡ true
-unfolding nowhere
+pub none-nowhere : (o : Option ℕ) → o ≡ none → holdsEverywhere o ≡ true
+unfolding holdsEverywhere
 none-nowhere o h = rw h
 
 if-none : (t : Bool) (x : Option ℕ) (i : ℕ) → (if t then x else some i) ≡ none → (t ≡ true) × (x ≡ none)

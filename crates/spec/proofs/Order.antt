@@ -8,7 +8,7 @@ use Rattle.spec.specs.Expression.{Step, Expr, leaf, unary, binary, lineO
 use Rattle.spec.specs.Program.{Program}
 use Rattle.spec.specs.Split.{Map, Split}
 use Rattle.spec.specs.Conditions.{Condition, Env, startMap, signature, conditionsOf, procedureConditions}
-use Rattle.spec.specs.Sites.{Site, sites, Claim, numbered, claimsAt, claims, bodySites, claimsOfProcedure, claimsOfProcedures, claimsOf}
+use Rattle.spec.specs.Sites.{Site, sites, NumberedCondition, numbered, claimsAt, claims, bodySites, claimsOfProcedure, claimsOfProcedures, claimsOf}
 use Rattle.spec.specs.WellFormed.{prefix, itemsOf, listing}
 use Rattle.spec.specs.FirstFalse.{byLine, byNumber, EarlierThanAll, InOrder}
 use Rattle.spec.proofs.StepLines.{Rising}
@@ -16,17 +16,17 @@ use Rattle.spec.proofs.StepLines.{Rising}
 -- ------------------------------------------------------------------ one step, and the claims behind it
 
 -- the claims stand on lines from lo on
-unfoldable From : (lo : ℕ) → List Claim → Type 0
+unfoldable From : (lo : ℕ) → List NumberedCondition → Type 0
 From lo [] = Unit {0}
 From lo (c ∷ cs) = (lo ≤ c .line) × From lo cs
 
-from-lower : (lo hi : ℕ) (cs : List Claim) → lo ≤ hi → From hi cs → From lo cs
+from-lower : (lo hi : ℕ) (cs : List NumberedCondition) → lo ≤ hi → From hi cs → From lo cs
 unfolding From
 from-lower lo hi [] l h = tt
 from-lower lo hi (c ∷ cs) l h = (omega (arith, h .0), from-lower lo hi cs l (h .1))
 
-module _ (k : ℕ) (behind : List Claim) (from : From (k + 1) behind) where
-  earlier-than-behind : (i : ℕ) (c : Condition) (cs : List Claim) → From (k + 1) cs → EarlierThanAll (record { line = k; number = i; condition = c }) cs
+module _ (k : ℕ) (behind : List NumberedCondition) (from : From (k + 1) behind) where
+  earlier-than-behind : (i : ℕ) (c : Condition) (cs : List NumberedCondition) → From (k + 1) cs → EarlierThanAll (record { line = k; number = i; condition = c }) cs
   unfolding From EarlierThanAll
   earlier-than-behind i c [] h = tt
   earlier-than-behind i c (d ∷ ds) h = (byLine (omega (arith, h .0)), earlier-than-behind i c ds (h .1))
@@ -56,7 +56,7 @@ Judged = ℕ × List Condition
 abbrev lineOfJudged : Judged → ℕ
 lineOfJudged j = j .0
 
-unfoldable claimsAll : List Judged → List Claim
+unfoldable claimsAll : List Judged → List NumberedCondition
 claimsAll [] = []
 claimsAll (j ∷ js) = numbered (j .0) 1 (j .1) ++ claimsAll js
 

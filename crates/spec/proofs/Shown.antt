@@ -4,7 +4,7 @@ use mathlib.Core.Bool.{Bool, true, false, _&&_}
 use mathlib.Core.Logic.{_↔_}
 use Rattle.spec.specs.Choice.{if_then_else_}
 use Rattle.spec.specs.Split.{Split, typeAt, mapAt}
-use Rattle.spec.specs.Maps.{_≥ᵐ_, nowhere}
+use Rattle.spec.specs.Maps.{_≥ᵐ_, holdsEverywhere}
 use Rattle.spec.specs.Figure5.{_⊒_}
 use Rattle.spec.specs.Agreement.{agree}
 use Rattle.spec.specs.Kinds.{lock, is, secondMap}
@@ -27,7 +27,7 @@ module _ (S : Split) where
   locks-show : (t u : TypeNumber) → is lock (typeAt S t) ≡ true → is lock (typeAt S u) ≡ true → looserLock S (typeAt S t) (typeAt S u) ≡ true → Shown t u
   unfolding looserLock
   locks-show t u x y h =
-      let (first, second) = both-true _ (nowhere (mapAt S (secondMap (typeAt S t)) ≥ᵐ mapAt S (secondMap (typeAt S u)))) h in
+      let (first, second) = both-true _ (holdsEverywhere (mapAt S (secondMap (typeAt S t)) ≥ᵐ mapAt S (secondMap (typeAt S u)))) h in
       looser (is-of lock _ x) (is-of lock _ y) (none-covers (nowhere-none _ first)) (none-covers (nowhere-none _ second))
 
   may-show : (t u : TypeNumber) → mayShow S t u ≡ true → Shown t u

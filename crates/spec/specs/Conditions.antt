@@ -12,7 +12,7 @@ use Rattle.spec.specs.declared.Signature.{Signature}
 unfoldable pub use Rattle.spec.specs.Split.{typeAt, mapAt}
 use Rattle.spec.specs.Kinds.{ref, lock, is as is-of, refLocation, content, firstMap, secondMap}
 use Rattle.spec.specs.Agreement.{agree}
-use Rattle.spec.specs.Maps.{_=ᵐ_, _≥ᵐ_, nowhere, _+ᵐ_, _×ᵐ_, share}
+use Rattle.spec.specs.Maps.{_=ᵐ_, _≥ᵐ_, holdsEverywhere, _+ᵐ_, _×ᵐ_, share}
 use Rattle.spec.specs.declared.TypeNumber.{TypeNumber}
 use Rattle.spec.specs.declared.MapNumber.{MapNumber}
 use Rattle.spec.specs.declared.Location.{Location}
@@ -43,15 +43,15 @@ contains agrees x t = is-of ref x && agrees (content x) t
 
 -- of a step: its word, its number v, and the step or part that an entry names. For e1 a step without parts is taken itself, since its K, in,
 -- out, r and w are those of its own type; no line of the table names another part that its word has not.
-abbrev pub wordOf : Expr → Word
-wordOf (leaf w k v) = Leaf w
-wordOf (unary w k v e₁) = Unary w
-wordOf (binary w k v e₁ e₂) = Binary w
+abbrev pub stepWord : Expr → Word
+stepWord (leaf w k v) = Leaf w
+stepWord (unary w k v e₁) = Unary w
+stepWord (binary w k v e₁ e₂) = Binary w
 
-abbrev pub numberOf : Expr → ℕ
-numberOf (leaf w k v) = v
-numberOf (unary w k v e₁) = v
-numberOf (binary w k v e₁ e₂) = v
+abbrev pub stepNumber : Expr → ℕ
+stepNumber (leaf w k v) = v
+stepNumber (unary w k v e₁) = v
+stepNumber (binary w k v e₁ e₂) = v
 
 abbrev pub nodeOf : Expr → Node → Expr
 nodeOf e step = e
@@ -69,7 +69,7 @@ module _ (S : Split) where
 
   -- of two lock types: the in of the first is nowhere above that of the second, its out nowhere below
   unfoldable pub looserLock : (shown own : TypeLine) → Bool
-  looserLock x y = nowhere (mapAt S (firstMap y) ≥ᵐ mapAt S (firstMap x)) && nowhere (mapAt S (secondMap x) ≥ᵐ mapAt S (secondMap y))
+  looserLock x y = holdsEverywhere (mapAt S (firstMap y) ≥ᵐ mapAt S (firstMap x)) && holdsEverywhere (mapAt S (secondMap x) ≥ᵐ mapAt S (secondMap y))
 
   -- "A var line may show a lock type whose in is nowhere above and whose out is nowhere below those of its let's value; other
   -- agreement is unchanged, including inside refs."
@@ -116,9 +116,9 @@ module _ (S : Split) where
   module _ (Γ : Env) (pre : Map) (e : Expr) where
     abbrev pub typeTerm : TypeTerm → TypeNumber
     typeTerm (type-of p) = type (nodeOf e p)
-    typeTerm type-of-its-let = typeIn Γ (numberOf e)
-    typeTerm result = signature (numberOf e) .result
-    typeTerm argument = signature (numberOf e) .argument
+    typeTerm type-of-its-let = typeIn Γ (stepNumber e)
+    typeTerm result = signature (stepNumber e) .result
+    typeTerm argument = signature (stepNumber e) .argument
 
     abbrev pub mapTerm : MapTerm → Map
     mapTerm entry.pre = pre
@@ -129,8 +129,8 @@ module _ (S : Split) where
     mapTerm out = mapAt S (secondMap (kind (nodeOf e e1)))
     mapTerm r = mapAt S (firstMap (kind (nodeOf e e1)))
     mapTerm entry.w = mapAt S (secondMap (kind (nodeOf e e1)))
-    mapTerm before = mapAt S (signature (numberOf e) .before)
-    mapTerm after = mapAt S (signature (numberOf e) .after)
+    mapTerm before = mapAt S (signature (stepNumber e) .before)
+    mapTerm after = mapAt S (signature (stepNumber e) .after)
 
     -- `agrees` says which types agree, `shown` which type a var line may show for its let's value; p is the location in the type of e1
     module _ (agrees shown : TypeNumber → TypeNumber → Bool) where
@@ -141,14 +141,14 @@ module _ (S : Split) where
       says (p is-c-of q) = T (contains agrees (kind (nodeOf e q)) (type (nodeOf e p)))
       says (l ＝ m) = F (mapTerm l =ᵐ mapTerm m)
       says (l ≧ m) = F (mapTerm l ≥ᵐ mapTerm m)
-      says (N× l ≦ m) = F (mapTerm m ≥ᵐ numberOf e ×ᵐ mapTerm l)
+      says (N× l ≦ m) = F (mapTerm m ≥ᵐ stepNumber e ×ᵐ mapTerm l)
       says (l ⊕ m ＝ n) = F (mapTerm l +ᵐ mapTerm m =ᵐ mapTerm n)
       says (l ＝ m ⊕ n) = F (mapTerm l =ᵐ mapTerm m +ᵐ mapTerm n)
       says post-at-p＞0 = let p = refLocation (kind (nodeOf e e1)) in A (ltb 0 (share (post e) p)) p
       says post-at-p≧D = let p = refLocation (kind (nodeOf e e1)) in A (leb (S .header .denominator) (share (post e) p)) p
 
       unfoldable pub conditionsBy : List Condition
-      conditionsBy = map says (table (wordOf e))
+      conditionsBy = map says (table (stepWord e))
 
   -- the conditions of a step, by document 02's agreement and what it lets a var line show
   unfoldable pub conditionsOf : Env → (pre : Map) → Expr → List Condition

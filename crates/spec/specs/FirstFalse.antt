@@ -7,7 +7,7 @@ use Prim.Native.Nat.{ℕ, _<_}
 use Rattle.spec.specs.Program.{Program}
 use Rattle.spec.specs.Split.{Split}
 use Rattle.spec.specs.Conditions.{Condition, T, F, A}
-use Rattle.spec.specs.Sites.{Claim, claimsOf}
+use Rattle.spec.specs.Sites.{NumberedCondition, claimsOf}
 use Rattle.spec.specs.Accepted.{Judgeable}
 use Rattle.spec.specs.declared.Location.{Location}
 use Rattle.spec.specs.declared.Refusal.{Refusal}
@@ -20,7 +20,7 @@ Holds (T b) = b ≡ true
 Holds (F o) = o ≡ none
 Holds (A b p) = b ≡ true
 
-unfoldable pub AllHold : List Claim → Type 0
+unfoldable pub AllHold : List NumberedCondition → Type 0
 AllHold [] = Unit {0}
 AllHold (c ∷ cs) = Holds (c .condition) × AllHold cs
 
@@ -32,10 +32,10 @@ pub data Names (k i : ℕ) : Condition → Refusal → Type 0 where
   access : {b : Bool} {p : Location} → Names k i (A b p) (AccessFalse k i p)
 
 -- r names a claim of the list that does not hold, and all before it hold
-pub record FirstFalse (all : List Claim) (r : Refusal) : Type 0 where
-  pub before : List Claim
-  pub here : Claim
-  pub after : List Claim
+pub record FirstFalse (all : List NumberedCondition) (r : Refusal) : Type 0 where
+  pub before : List NumberedCondition
+  pub here : NumberedCondition
+  pub after : List NumberedCondition
   pub parted : all ≡ before ++ here ∷ after
   pub holdBefore : AllHold before
   pub isFalse : Holds (here .condition) → ⊥
@@ -44,16 +44,16 @@ pub record FirstFalse (all : List Claim) (r : Refusal) : Type 0 where
 -- ------------------------------------------------------------------ order
 
 -- "conditions by step line, then by number"
-pub data Earlier (c d : Claim) : Type 0 where
+pub data Earlier (c d : NumberedCondition) : Type 0 where
   byLine : c .line < d .line → Earlier c d
   byNumber : c .line ≡ d .line → c .number < d .number → Earlier c d
 
-unfoldable pub EarlierThanAll : Claim → List Claim → Type 0
+unfoldable pub EarlierThanAll : NumberedCondition → List NumberedCondition → Type 0
 EarlierThanAll c [] = Unit {0}
 EarlierThanAll c (d ∷ ds) = Earlier c d × EarlierThanAll c ds
 
 -- each claim is earlier than every one behind it
-unfoldable pub InOrder : List Claim → Type 0
+unfoldable pub InOrder : List NumberedCondition → Type 0
 InOrder [] = Unit {0}
 InOrder (c ∷ cs) = EarlierThanAll c cs × InOrder cs
 

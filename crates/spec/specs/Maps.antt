@@ -28,12 +28,12 @@ unfoldable pub _≥ᵐ_ : Map → Map → Option ℕ
 m ≥ᵐ n = lowest atLeast 0 m n
 
 -- whether nothing is found
-unfoldable pub nowhere : Option ℕ → Bool
-nowhere none = true
-nowhere (some l) = false
+unfoldable pub holdsEverywhere : Option ℕ → Bool
+holdsEverywhere none = true
+holdsEverywhere (some l) = false
 
 unfoldable pub sameNumbers : Map → Map → Bool
-sameNumbers m n = nowhere (m =ᵐ n)
+sameNumbers m n = holdsEverywhere (m =ᵐ n)
 
 -- the shorter map ends the sum: never seen, both have L numbers
 infixl 60 _+ᵐ_

@@ -35,21 +35,21 @@ module _ (S : Split) where
 -- ------------------------------------------------------------------ the first false condition
 
 -- a condition with its number and its line, that of its step or of a `proc` line
-pub record Claim : Type 0 where
+pub record NumberedCondition : Type 0 where
   pub line : ℕ
   pub number : ℕ
   pub condition : Condition
 
-unfoldable pub numbered : (line number : ℕ) → List Condition → List Claim
+unfoldable pub numbered : (line number : ℕ) → List Condition → List NumberedCondition
 numbered k i [] = []
 numbered k i (c ∷ cs) = record { line = k; number = i; condition = c } ∷ numbered k (i + 1) cs
 
 -- "conditions by step line, then by number"; those of a `proc` line stand at that line
 module _ (S : Split) where
-  unfoldable pub claimsAt : Site → List Claim
+  unfoldable pub claimsAt : Site → List NumberedCondition
   claimsAt s = numbered (lineOf (s .step)) 1 (conditionsOf S (s .Γ) (s .pre) (s .step))
 
-  unfoldable pub claims : List Site → List Claim
+  unfoldable pub claims : List Site → List NumberedCondition
   claims [] = []
   claims (s ∷ ss) = claimsAt s ++ claims ss
 
@@ -58,16 +58,16 @@ module _ (S : Split) where
   bodySites g p = sites S ((p .parameter, g .argument) ∷ []) (mapAt S (g .before)) (p .body)
 
   -- of a procedure: the conditions at its `proc` line, then those of its body
-  unfoldable pub claimsOfProcedure : Signature → Procedure → List Claim
+  unfoldable pub claimsOfProcedure : Signature → Procedure → List NumberedCondition
   claimsOfProcedure g p = numbered (p .line) 1 (procedureConditions S g p) ++ claims (bodySites g p)
 
   -- of the procedures from number f on, called or not
-  unfoldable pub claimsOfProcedures : (f : ℕ) → List Procedure → List Claim
+  unfoldable pub claimsOfProcedures : (f : ℕ) → List Procedure → List NumberedCondition
   claimsOfProcedures f [] = []
   claimsOfProcedures f (p ∷ ps) = claimsOfProcedure (signature S f) p ++ claimsOfProcedures (f + 1) ps
 
   -- of a program: its procedures, then its root, whose pre is the start
-  unfoldable pub claimsOf : Program → List Claim
+  unfoldable pub claimsOf : Program → List NumberedCondition
   claimsOf P = claimsOfProcedures 0 (P .procedures) ++ claims (sites S [] (startMap S) (P .root))
 
 -- "Location is 0 for (T), the lowest failing one for (F) [..], p for (A)"
@@ -79,7 +79,7 @@ judge k i (F (some l)) = stop (FlowFalse k i (record { 0 = l }))
 judge k i (A true p) = on tt
 judge k i (A false p) = stop (AccessFalse k i p)
 
-unfoldable pub firstFalse : List Claim → Out (Unit {0})
+unfoldable pub firstFalse : List NumberedCondition → Out (Unit {0})
 firstFalse [] = on tt
 firstFalse (c ∷ cs) = judge (c .line) (c .number) (c .condition) >>= λ holds. firstFalse cs
 
@@ -96,6 +96,6 @@ isFlow (F o) = true
 isFlow (A b p) = true
 
 -- the claims of one sort
-unfoldable pub only : (Condition → Bool) → List Claim → List Claim
+unfoldable pub only : (Condition → Bool) → List NumberedCondition → List NumberedCondition
 only sort [] = []
 only sort (c ∷ cs) = if sort (c .condition) then c ∷ only sort cs else only sort cs

@@ -10,7 +10,7 @@ use Rattle.spec.specs.Reading.{Out, stop, on, _>>=_, demand}
 use Rattle.spec.specs.Expression.{lineOf}
 use Rattle.spec.specs.Program.{Program, program, programLimit}
 use Rattle.spec.specs.Split.{Split, split, splitLimit, mapAt}
-use Rattle.spec.specs.Maps.{_≥ᵐ_, nowhere, overWhole}
+use Rattle.spec.specs.Maps.{_≥ᵐ_, holdsEverywhere, overWhole}
 use Rattle.spec.specs.Kinds.{lock, is, firstMap, secondMap}
 use Rattle.spec.specs.Conditions.{startMap}
 use Rattle.spec.specs.Sites.{claimsOf, firstFalse, isType, only}
@@ -26,7 +26,7 @@ use Rattle.spec.specs.declared.Purpose.the-variants.{Check}
 -- 44, at a type line: "a lock line whose out is below its in at some location"; "lowest such line first"
 module _ (S : Split) where
   unfoldable pub takesEnough : TypeLine → Bool
-  takesEnough x = if is lock x then nowhere (mapAt S (secondMap x) ≥ᵐ mapAt S (firstMap x)) else true
+  takesEnough x = if is lock x then holdsEverywhere (mapAt S (secondMap x) ≥ᵐ mapAt S (firstMap x)) else true
 
   -- of the types from line k on
   unfoldable pub allTakeEnough : (k : ℕ) → List TypeLine → Out (Unit {0})

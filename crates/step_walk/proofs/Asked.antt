@@ -10,7 +10,7 @@ use Rattle.spec.specs.Expression.{Expr, leaf, unary, binary, Procedure}
 use Rattle.spec.specs.Split.{Map, Split}
 use Rattle.spec.specs.declared.Signature.{Signature}
 use Rattle.spec.specs.Conditions.{Condition, T, F, A, Env, conditionsBy, conditionsOf, procedureConditions}
-use Rattle.spec.specs.Sites.{Claim, numbered, judge, firstFalse, isType, only}
+use Rattle.spec.specs.Sites.{NumberedCondition, numbered, judge, firstFalse, isType, only}
 use Rattle.spec.specs.Verdict.{four, returned}
 use Rattle.spec.specs.declared.Purpose.{Purpose}
 use Rattle.spec.specs.declared.Purpose.the-variants.{Check, Fill}
@@ -22,7 +22,7 @@ use Rattle.conditions.specs.Outcome.{firstFalseFrom}
 use Rattle.step_walk.specs.Walk.{refusesTypes, onTypes, counted}
 use Rattle.step_walk.specs.Asked.{asked}
 
-pub asked-append : (purpose : Purpose) (xs ys : List Claim) → asked purpose (xs ++ ys) ≡ asked purpose xs ++ asked purpose ys
+pub asked-append : (purpose : Purpose) (xs ys : List NumberedCondition) → asked purpose (xs ++ ys) ≡ asked purpose xs ++ asked purpose ys
 unfolding asked
 asked-append Check xs ys = refl
 asked-append Fill xs ys = only-append isType xs ys

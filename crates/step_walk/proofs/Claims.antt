@@ -3,7 +3,7 @@ use mathlib.Core.Path.{_≡_, refl, ap, sym, _∙_}
 use mathlib.Core.List.{List, [], _∷_, _++_}
 use Rattle.spec.specs.Reading.{Out, on, _>>=_}
 use Rattle.spec.specs.Split.{Split}
-use Rattle.spec.specs.Sites.{Site, Claim, claimsAt, claims, judge, firstFalse}
+use Rattle.spec.specs.Sites.{Site, NumberedCondition, claimsAt, claims, judge, firstFalse}
 use Rattle.spec.specs.declared.Purpose.{Purpose}
 use Rattle.spec.proofs.Claims.{claims-append as sites-append}
 use Rattle.conditions.specs.Outcome.{both}
@@ -11,7 +11,7 @@ use Rattle.conditions.proofs.FirstFalse.{both-met, both-assoc}
 use Rattle.step_walk.specs.Asked.{asked}
 use Rattle.step_walk.proofs.Asked.{asked-append, asked-none}
 
-first-append : (xs ys : List Claim) → firstFalse (xs ++ ys) ≡ both (firstFalse xs) (firstFalse ys)
+first-append : (xs ys : List NumberedCondition) → firstFalse (xs ++ ys) ≡ both (firstFalse xs) (firstFalse ys)
 unfolding firstFalse both _>>=_
 first-append [] ys = refl
 first-append (c ∷ cs) ys =
@@ -19,10 +19,10 @@ first-append (c ∷ cs) ys =
 
 module _ (purpose : Purpose) where
   -- the first false claim of those that are asked for
-  abbrev pub firstAsked : List Claim → Out (Unit {0})
+  abbrev pub firstAsked : List NumberedCondition → Out (Unit {0})
   firstAsked cs = firstFalse (asked purpose cs)
 
-  pub asked-parts : (xs ys : List Claim) → firstAsked (xs ++ ys) ≡ both (firstAsked xs) (firstAsked ys)
+  pub asked-parts : (xs ys : List NumberedCondition) → firstAsked (xs ++ ys) ≡ both (firstAsked xs) (firstAsked ys)
   asked-parts xs ys = ap firstFalse (asked-append purpose xs ys) ∙ first-append (asked purpose xs) (asked purpose ys)
 
   pub none-asked : firstAsked [] ≡ on tt

@@ -10,7 +10,7 @@ use native.Mathlib.Omega.{arith}
 use lib.ListN.{getElem?}
 use Rattle.calculus.specs.Expression.{Value, Unary, join, ref, read, lock, unlock, post, wait, hold, call, Maker, newtid, newlock, newsem, newrwlock, Redex, letRedex, ifRedex, whileRedex, spawnRedex, writeRedex, unaryRedex, makeRedex, nextWord, choose, Procedure, Program}
 use Rattle.calculus.specs.State.{LockState, opened, closed, Inside, Slot, unused, identifier, cell, aLock, semaphore, rwlock, Thread, State, Move, update}
-use Rattle.calculus.specs.Reduction.{nameOf, ifUnused, ifIdentifier, content, lockState, ifOpened, count, oneLess, rwState, insideAfter, ifEqual, valueOf, wordOf, made, named, unaryReduct, reduct, reduce, orElse, attempt, states, startState}
+use Rattle.calculus.specs.Reduction.{nameOf, ifUnused, ifIdentifier, cellValue, lockState, ifOpened, count, oneLess, rwState, insideAfter, ifEqual, valueOf, wordOf, made, named, unaryReduct, reduct, reduce, orElse, attempt, states, startState}
 use Rattle.calculus.specs.Claim.{Every}
 use Rattle.calculus.proofs.Laws.Maps.{some-injective, bind-is-some, update-other, update-above}
 
@@ -63,7 +63,7 @@ module _ (P : List Procedure) (s : State) (m : Move) (t : Thread) where
   unary-changes-one ref v s′ q = named-changes-one _ s′ cell-is-used q
   unary-changes-one read v s′ q =
       let (n, _, q₁) = bind-is-some (nameOf v) q in
-      let (_, _, q₂) = bind-is-some (content (s .names n)) q₁ in
+      let (_, _, q₂) = bind-is-some (cellValue (s .names n)) q₁ in
       told none-changed q₂
   unary-changes-one lock v s′ q =
       let (n, _, q₁) = bind-is-some (nameOf v) q in
@@ -102,7 +102,7 @@ module _ (P : List Procedure) (s : State) (m : Move) (t : Thread) where
       told none-changed q₂
   reduct-changes-one (writeRedex v w) s′ q =
       let (n, _, q₁) = bind-is-some (nameOf v) q in
-      let (_, _, q₂) = bind-is-some (content (s .names n)) q₁ in
+      let (_, _, q₂) = bind-is-some (cellValue (s .names n)) q₁ in
       told (one-changed n (cell w) cell-is-used) q₂
   reduct-changes-one (unaryRedex o v) s′ q = unary-changes-one o v s′ q
   reduct-changes-one (makeRedex o) s′ q = named-changes-one _ s′ (made-is-used o) q
