@@ -104,25 +104,25 @@ one-name type type = refl
 one-name flow flow = refl
 one-name access access = refl
 
-head-of : {c d : Claim} {cs ds : List Claim} → c ∷ cs ≡ d ∷ ds → c ≡ d
+head-of : {c d : NumberedCondition} {cs ds : List NumberedCondition} → c ∷ cs ≡ d ∷ ds → c ≡ d
 head-of h = cc
 
-tail-of : {c d : Claim} {cs ds : List Claim} → c ∷ cs ≡ d ∷ ds → cs ≡ ds
+tail-of : {c d : NumberedCondition} {cs ds : List NumberedCondition} → c ∷ cs ≡ d ∷ ds → cs ≡ ds
 tail-of h = cc
 
 -- the first false claim is one
-one-here : {a b : Claim} (cs ds xs ys : List Claim) → AllHold xs → AllHold ys → (Holds (a .condition) → ⊥) → (Holds (b .condition) → ⊥) →
+one-here : {a b : NumberedCondition} (cs ds xs ys : List NumberedCondition) → AllHold xs → AllHold ys → (Holds (a .condition) → ⊥) → (Holds (b .condition) → ⊥) →
     xs ++ a ∷ cs ≡ ys ++ b ∷ ds → a ≡ b
 unfolding AllHold
 one-here cs ds [] [] hold hold′ isFalse isFalse′ e = head-of e
-one-here cs ds [] (y ∷ ys) hold hold′ isFalse isFalse′ e = absurd (isFalse (subst (λ (x : Claim). Holds (x .condition)) (sym (head-of e)) (hold′ .0)))
-one-here cs ds (x ∷ xs) [] hold hold′ isFalse isFalse′ e = absurd (isFalse′ (subst (λ (x : Claim). Holds (x .condition)) (head-of e) (hold .0)))
+one-here cs ds [] (y ∷ ys) hold hold′ isFalse isFalse′ e = absurd (isFalse (subst (λ (x : NumberedCondition). Holds (x .condition)) (sym (head-of e)) (hold′ .0)))
+one-here cs ds (x ∷ xs) [] hold hold′ isFalse isFalse′ e = absurd (isFalse′ (subst (λ (x : NumberedCondition). Holds (x .condition)) (head-of e) (hold .0)))
 one-here cs ds (x ∷ xs) (y ∷ ys) hold hold′ isFalse isFalse′ e = one-here cs ds xs ys (hold .1) (hold′ .1) isFalse isFalse′ (tail-of e)
 
-pub one-first : {all all′ : List Claim} {r q : Refusal} → all ≡ all′ → FirstFalse all r → FirstFalse all′ q → r ≡ q
+pub one-first : {all all′ : List NumberedCondition} {r q : Refusal} → all ≡ all′ → FirstFalse all r → FirstFalse all′ q → r ≡ q
 one-first {r = r} same f g =
     let here = one-here (f .after) (g .after) (f .before) (g .before) (f .holdBefore) (g .holdBefore) (f .isFalse) (g .isFalse) (sym (f .parted) ∙ same ∙ g .parted) in
-    one-name (subst (λ (c : Claim). Names (c .line) (c .number) (c .condition) r) here (f .named)) (g .named)
+    one-name (subst (λ (c : NumberedCondition). Names (c .line) (c .number) (c .condition) r) here (f .named)) (g .named)
 
 -- ------------------------------------------------------------------ the first false one
 
