@@ -9,6 +9,7 @@ from checks import HOUSE, check, contents, user_environment
 from header import check_linked, library
 from installing.manual import manual_pages
 
+PROGRAM_PAGES = ["racecheck.1", "racedrill.1", "racefill.1", "racereplay.1"]
 COMMANDS = ["check-release", "explain", "fill", "racecheck", "racedrill", "racefill", "racereplay", "show-race", "triage", "try-orders"]
 
 
@@ -85,7 +86,7 @@ def check_manual(prefix):
         path = prefix / "share" / "man" / "man1" / page
         command = ["man", "--warnings", "-E", "UTF-8", "-l", path]
         done = subprocess.run(command, env=user_environment(MANWIDTH=80), capture_output=True, text=True)
-        wanted = ["NAME", "SYNOPSIS", "DESCRIPTION", "EXIT STATUS", "SEE ALSO"] + ["FILES"] * page.startswith("race")
+        wanted = ["NAME", "SYNOPSIS", "DESCRIPTION", "EXIT STATUS", "SEE ALSO"] + ["FILES"] * (page in PROGRAM_PAGES)
         lacks = [title for title in wanted if f"\n{title}\n" not in done.stdout]
         check(f"man -l {page}", (done.returncode, done.stderr, lacks), (0, "", []))
 
