@@ -1,5 +1,5 @@
-"""Jobs in families, up to 15 threads and 256 steps, each as it should be and with one fault. Every thread has a cell of its own,
-so that no two threads are alike and a search cannot take one for another."""
+"""Jobs in families, up to 15 threads and 256 steps, each as it should be and with one fault. In the first five every thread has
+a cell of its own, or a place, so that a search cannot take one thread for another."""
 
 
 class _Job:
