@@ -12,12 +12,7 @@ from header import check_linked, declared, library
 from installing.manual import manual_pages
 from installing.tool import PROGRAMS
 
-<<<<<<< HEAD
 COMMANDS = ["check-release", "draw-faults", "explain", "fill", "racecheck", "racedrill", "racefill", "racereplay", "show-race", "triage", "try-orders"]
-=======
-PROGRAM_PAGES = ["racecheck.1", "racedrill.1", "racefill.1", "racereplay.1"]
-COMMANDS = ["check-release", "explain", "fill", "racecheck", "racedrill", "racefill", "racereplay", "show-race", "triage", "try-orders"]
->>>>>>> desk
 
 
 def make_house(place, programs):
@@ -161,11 +156,7 @@ def check_manual(prefix):
         path = prefix / "share" / "man" / "man1" / page
         command = ["man", "--warnings", "-E", "UTF-8", "-l", path]
         done = subprocess.run(command, env=user_environment(MANWIDTH=80), capture_output=True, text=True)
-<<<<<<< HEAD
         wanted = ["NAME", "SYNOPSIS", "DESCRIPTION", "EXIT STATUS", "SEE ALSO"] + ["FILES"] * (page[:-2] in PROGRAMS)
-=======
-        wanted = ["NAME", "SYNOPSIS", "DESCRIPTION", "EXIT STATUS", "SEE ALSO"] + ["FILES"] * (page in PROGRAM_PAGES)
->>>>>>> desk
         lacks = [title for title in wanted if f"\n{title}\n" not in done.stdout]
         check(f"man -l {page}", (done.returncode, done.stderr, lacks), (0, "", []))
 
