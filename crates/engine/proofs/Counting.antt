@@ -8,8 +8,8 @@ use borrow.Author.Tests.{ltb-true}
 use lib.Dec.{leb, ltb}
 use lib.ListN.{getD, set}
 use Rattle.spec.specs.Choice.{if_then_else_}
-use Rattle.threads.specs.declared.State.{State}
-use Rattle.threads.specs.declared.State.the-variants.{Running, Finished, Joined}
+use Rattle.replay_theory.specs.declared.Status.{Status}
+use Rattle.replay_theory.specs.declared.Status.the-variants.{Running, Finished, Joined}
 use Rattle.threads.specs.declared.Record.{Record}
 use Rattle.threads.specs.declared.Threads.{Threads}
 use Rattle.threads.specs.declared.Found.{Found}
@@ -40,7 +40,7 @@ either-after : (b : Bool) (A B : Stepped × List ℕ) → FewAfter A → FewAfte
 either-after true A B a b = a
 either-after false A B a b = b
 
-turned-few : (x : State) (T : Threads) (t : ℕ) → Few T → Few (turned x T t)
+turned-few : (x : Status) (T : Threads) (t : ℕ) → Few T → Few (turned x T t)
 unfolding turned
 turned-few x T t h = either (ltb t 16) (record { records = set (T .records) t (record { state = x; tid = getD (T .records) t noRecord .tid }); count = T .count }) T h h
 
