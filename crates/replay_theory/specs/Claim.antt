@@ -2,9 +2,9 @@
 -- lists, and a join takes the lowest finished thread; why the trace stops where it stops, the limits counted over the words reduced and the
 -- calls that are open; and that the race reported is the first. Of what a run keeps beside its state these claims look at the procedures, the
 -- threads' numbers and how many threads there have been, and they say how each goes on. They are proved in proofs/Followed, proofs/Calls and
--- proofs/Reported, and fit one report, one answer and one list of runs alone (Exact). Four parts are implied by the others of their record and
--- are told for the reader: `running` and `putsBody` of a step (proofs/Implied), `callsRun` of the steps done (`calls-run`, proofs/Limits), `races`
--- of the first race (`told-is-race`, proofs/AtMostOneRace).
+-- proofs/Reported, and fit one report, one answer and one list of runs alone (Exact). Three parts are implied by the others of their record and
+-- are told for the reader: `running` and `putsBody` of a step (proofs/Implied), `races` of the first race (`told-is-race`, proofs/AtMostOneRace).
+-- `callsRun` is proved of the runs of a replay (`calls-run`, proofs/Limits); that it follows from the other parts of `Follows` is not shown.
 use Prim.Native.Nat.{ℕ, suc, _+_, _≤_, _<_}
 use mathlib.Core.Path.{_≡_}
 use mathlib.Core.Bool.{Bool, true, false, _&&_}
