@@ -17,16 +17,21 @@ def named_in(page):
         cells = row.split(" | ")
         if cells[0].startswith("**"):
             part = HOUSE / cells[-1]
-            continue
-        folder = part
-        for names, file in NAMED.findall(cells[-1]):
-            if file.startswith("crates/"):
-                path = HOUSE / file
-                folder = part or path.parent
-            else:
-                path = folder / f"{file.removesuffix('.antt')}.antt"
-            for name in re.findall(r"`([^`]+)`", names):
-                yield name, path
+        else:
+            yield from named_in_row(cells[1:] or cells, part)
+
+
+def named_in_row(cells, part=None):
+    """The same of the cells of a row. A file without a path is in the folder of the one before it, or of the part of the page."""
+    folder = part
+    for names, file in (found for cell in cells for found in NAMED.findall(cell)):
+        if file.startswith("crates/"):
+            path = HOUSE / file
+            folder = part or path.parent
+        else:
+            path = folder / f"{file.removesuffix('.antt')}.antt"
+        for name in re.findall(r"`([^`]+)`", names):
+            yield name, path
 
 
 def words_of(path):
