@@ -10,9 +10,9 @@ import plain
 from checks import check
 from blocks import drawn_blocks
 from drawn import Draw
-from racing.confirming import race_lines
-from racing.orders import has_race
-from racing.search import switches_in
+from races.confirming import race_lines
+from races.orders import has_race
+from races.search import switches_in
 from searching import held, objection, searched
 
 LONGEST = 256  # steps of a program sheet

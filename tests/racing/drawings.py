@@ -4,7 +4,7 @@ from pathlib import Path
 
 import known
 from browser import PHONE, check_markup, find_browser, seen_in, without_foot
-from checks import HOUSE, check
+from checks import ROOT, check
 from jobs import make_job, run
 
 # The pages that are opened in a browser.
@@ -47,7 +47,7 @@ def check_pages():
     if browser is None:
         print("racing: no Chromium here, so the pages of tools/show-race were checked by their markup alone")
     with tempfile.TemporaryDirectory() as scratch:
-        jobs = {folder.name: folder for folder in sorted((HOUSE / "examples").glob("*-race"))}
+        jobs = {folder.name: folder for folder in sorted((ROOT / "examples").glob("*-race"))}
         for section in ("ODD", "WAITING"):
             jobs[section] = make_job(Path(scratch) / section, known.programs_of(section)[0])
         jobs["long"] = make_job(Path(scratch) / "long", locked_writes(12))
@@ -61,7 +61,7 @@ def check_pages():
                 check(f"{name}: the page in its folder", without_foot(kept.read_text()) == without_foot(text), True)
             if browser is not None and name in SHOWN:
                 check_in_browser(name, browser, text)
-    check("refill-race keeps its page", (HOUSE / "examples" / "refill-race" / "race.html").exists(), True)
+    check("refill-race keeps its page", (ROOT / "examples" / "refill-race" / "race.html").exists(), True)
     check("the long order is drawn in parts", text.count("<figure>") > 1, True)
 
 

@@ -3,9 +3,9 @@ import resource
 import subprocess
 from typing import NamedTuple
 
-from checks import HOUSE, user_environment
+from checks import ROOT, user_environment
 
-TOOL = HOUSE / "tools" / "show-race"
+TOOL = ROOT / "tools" / "show-race"
 
 
 class Done(NamedTuple):
@@ -20,7 +20,7 @@ def run(*arguments, racereplay=None):
     environment = user_environment(**({} if racereplay is None else {"RACEREPLAY": racereplay}))
     before = _processor_time()
     done = subprocess.run(
-        [TOOL, *map(str, arguments)], env=environment, cwd=HOUSE, stdin=subprocess.DEVNULL, capture_output=True, text=True)
+        [TOOL, *map(str, arguments)], env=environment, cwd=ROOT, stdin=subprocess.DEVNULL, capture_output=True, text=True)
     return Done(done.returncode, done.stdout, done.stderr, _processor_time() - before)
 
 

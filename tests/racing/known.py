@@ -7,9 +7,9 @@ import families
 import losses
 import plain
 from checks import check
-from racing.confirming import halt_lines, race_lines
-from racing.orders import has_odd_halt, has_race, is_stuck
-from racing.search import switches_in
+from races.confirming import halt_lines, race_lines
+from races.orders import has_odd_halt, has_race, is_stuck
+from races.search import switches_in
 from searching import held, objection, searched
 
 MOST = 20_000  # states of a plain search

@@ -1,5 +1,5 @@
-"""A second interpreter and a plain search, written from documents 01 and 02 by substitution and sharing nothing with tools/racing
-and tools/stepping.
+"""A second interpreter and a plain search, written from documents 01 and 02 by substitution and sharing nothing with tools/races
+and tools/interpreter.
 
 Every thread may move at every step; states are told apart by all they hold. It is slow, and meant to be.
 """

@@ -1,13 +1,13 @@
 """The search of tools/show-race on the lines of a program, and what racereplay has against an order."""
-from explaining.names import Names
-from explaining.sheets import Step
+from explanation.names import Names
+from explanation.sheets import Step
 from jobs import sheet_of
-from racing.confirming import Replay
-from racing.budget import Budget, Limits
-from racing.finding import find, hold
-from racing.shown import Shown
-from stepping.machine import ROOM, Machine
-from stepping.program import Steps
+from races.confirming import Replay
+from races.budget import Budget, Limits
+from races.finding import find, hold
+from races.short_order import ShortOrder
+from interpreter.machine import ROOM, Machine
+from interpreter.program import Steps
 
 
 def machine_of(lines):
@@ -25,5 +25,5 @@ def held(lines):
 
 def objection(lines, order, shows, told):
     """What racereplay says instead, if it does not bear out an order that shows something; else empty."""
-    shown = Shown(machine_of(lines), Names(), order, shows)
+    shown = ShortOrder(machine_of(lines), Names(), order, shows)
     return Replay(sheet_of(lines).encode()).objection(told(shown))

@@ -10,13 +10,13 @@ from pathlib import Path
 
 import known
 import plain
-from checks import HOUSE, check
+from checks import ROOT, check
+from interpreter.machine import ROOM
 from jobs import TOOL, make_job, order_in, run, steps_in
-from racing.budget import Budget, Limits
-from racing.search import Search
-from racing.telling import searched
+from races.budget import Budget, Limits
+from races.report import searched
+from races.search import Search
 from searching import machine_of
-from stepping.machine import ROOM
 
 CONFIRMED = "racereplay, which is proved, runs this order and reports this race: "
 SEARCHED = "all of them were searched"
@@ -27,7 +27,7 @@ ENDLESS = ["proc,0", "if,0", "let,1", "call,0", "var,0", "let,2", "call,0", "var
 
 
 def examples():
-    return sorted(folder for folder in (HOUSE / "examples").iterdir() if (folder / "program.txt").exists())
+    return sorted(folder for folder in (ROOT / "examples").iterdir() if (folder / "program.txt").exists())
 
 
 def check_examples():
@@ -76,7 +76,7 @@ def written_in(program, folder):
 def check_refill():
     """The order of the counter school's job: who meets where, after how much."""
     with tempfile.TemporaryDirectory() as scratch:
-        done = run("--trace", Path(scratch) / "trace", HOUSE / "examples" / "refill-race")
+        done = run("--trace", Path(scratch) / "trace", ROOT / "examples" / "refill-race")
         check("refill-race: its order is written", f"The order is in {scratch}/trace, as racereplay reads it." in done.said, True)
     for words in [
         "Pump is about to read level (line 37) while refill is about to write 100 into level (line 70).",
@@ -89,7 +89,7 @@ def check_refill():
 
 def check_lies():
     """What racereplay does not report is not told, but loudly called a disagreement."""
-    race, waiting = HOUSE / "examples" / "join-race", known.programs_of("WAITING")[0]
+    race, waiting = ROOT / "examples" / "join-race", known.programs_of("WAITING")[0]
     with tempfile.TemporaryDirectory() as scratch:
         waits = make_job(Path(scratch) / "job", waiting)
         honest = run(race).said.split(CONFIRMED)[1].split(".")[0]
@@ -126,11 +126,11 @@ def check_bounds():
     with tempfile.TemporaryDirectory() as scratch:
         scratch = Path(scratch)
         for option in ("--states", "--seconds"):
-            done = run(option, 0, HOUSE / "examples" / "refill")
+            done = run(option, 0, ROOT / "examples" / "refill")
             check(f"{option} 0", (done.status, "that proves nothing" in done.said, SEARCHED in done.said), (4, True, False))
-        done = run("--states", 20, HOUSE / "examples" / "refill")
+        done = run("--states", 20, ROOT / "examples" / "refill")
         check("--states 20: the bound is told", (done.status, "20 states" in done.said), (4, True))
-        found = Search(machine_of(steps_in(HOUSE / "examples" / "refill")), Budget(Limits(60, 60)), ROOM).run()
+        found = Search(machine_of(steps_in(ROOT / "examples" / "refill")), Budget(Limits(60, 60)), ROOM).run()
         check("60 states of the search for the fewest switches", "Every order with fewer than" in searched(found)[-1], True)
         done = run(make_job(scratch / "all joined", readers(20, 20)))
         check("20 readers, all joined", (done.status, SEARCHED in done.said), (0, True))
@@ -158,7 +158,7 @@ def check_clock():
 def _said_on_terminal(*arguments):
     """What the tool says on standard error if that is a terminal."""
     ours, its = pty.openpty()
-    done = subprocess.Popen([TOOL, *arguments], cwd=HOUSE, stdin=subprocess.DEVNULL, stdout=subprocess.DEVNULL, stderr=its)
+    done = subprocess.Popen([TOOL, *arguments], cwd=ROOT, stdin=subprocess.DEVNULL, stdout=subprocess.DEVNULL, stderr=its)
     os.close(its)
     said = b""
     while True:
@@ -216,8 +216,8 @@ def check_purge():
     """Calls are told by their procedures' names, in words and on the page."""
     with tempfile.TemporaryDirectory() as scratch:
         page = Path(scratch) / "page.html"
-        done = run("--trace", Path(scratch) / "trace", "--page", page, HOUSE / "examples" / "purge-race")
-        same = (Path(scratch) / "trace").read_bytes() == (HOUSE / "examples" / "purge-race" / "trace.txt").read_bytes()
+        done = run("--trace", Path(scratch) / "trace", "--page", page, ROOT / "examples" / "purge-race")
+        same = (Path(scratch) / "trace").read_bytes() == (ROOT / "examples" / "purge-race" / "trace.txt").read_bytes()
         check("purge-race: the order in its folder", same, True)
         for text in (done.said, page.read_text()):
             check("purge-race: calls are told by name", "calls purge with valve" in text, True)
@@ -248,7 +248,7 @@ def check_files():
     with tempfile.TemporaryDirectory() as scratch:
         folder = Path(scratch) / "job"
         folder.mkdir()
-        shutil.copy(HOUSE / "examples" / "join-race" / "program.txt", folder)
+        shutil.copy(ROOT / "examples" / "join-race" / "program.txt", folder)
         trace = folder / "trace.txt"
         check("the split is not needed", run(folder).status, 1)
         check("the folder afterwards", [file.name for file in folder.iterdir()], ["program.txt"])
@@ -272,7 +272,7 @@ def check_files():
 
 
 def check_errors():
-    join = HOUSE / "examples" / "join"
+    join = ROOT / "examples" / "join"
     with tempfile.TemporaryDirectory() as scratch:
         empty, bad = Path(scratch) / "empty", Path(scratch) / "bad"
         empty.mkdir()
@@ -295,7 +295,7 @@ def check_errors():
             program.write_text(f"#!/bin/sh\n{dead}\n")
             program.chmod(0o755)
             check(f"a racereplay that fails, {dead}", run(join, racereplay=program).status, 2)
-    done = run("--trace", HOUSE / "examples" / "join-race" / "program.txt", HOUSE / "examples" / "join-race")
+    done = run("--trace", ROOT / "examples" / "join-race" / "program.txt", ROOT / "examples" / "join-race")
     check("a trace over the program", (done.status, "a sheet of that name is never written over" in done.error), (2, True))
     check("show-race --help", run("--help").said.count("usage: show-race"), 1)
 
@@ -303,7 +303,7 @@ def check_errors():
 def check_explain():
     """tools/explain names the tool where a well-formed pair is refused, and nowhere else."""
     for name, wanted in [("join-race", True), ("join", False)]:
-        done = subprocess.run([HOUSE / "tools" / "explain", HOUSE / "examples" / name], capture_output=True, text=True)
+        done = subprocess.run([ROOT / "tools" / "explain", ROOT / "examples" / name], capture_output=True, text=True)
         check(f"explain of {name}: names tools/show-race", "tools/show-race" in done.stdout, wanted)
 
 

@@ -3,7 +3,7 @@ import subprocess
 import time
 from pathlib import Path
 
-from checks import HOUSE, check
+from checks import ROOT, check
 from desks import RACE, Desk, page_of
 from jobs import make_job
 from trying_jobs import racereplay
@@ -128,7 +128,7 @@ def check_quiz(browser, scratch):
     for key in ("q", "q", "h", "h", "h"):
         desk.tab.press(key)
     check("quiz: one is shown", desk.until("kind", "race"), True)
-    accepted = Desk(browser, page_of(HOUSE / "examples" / "refill", scratch))
+    accepted = Desk(browser, page_of(ROOT / "examples" / "refill", scratch))
     told = accepted.tab.value(words)
     check("an accepted job has no quiz", told, "racecheck accepts this job with its split: no order races, and that is proved.")
 

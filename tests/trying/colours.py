@@ -2,7 +2,7 @@
 from itertools import combinations
 
 from checks import check
-from explaining.drawing.fills import DARK, THREADS
+from explanation.drawing.fills import DARK, THREADS
 
 INK, WHITE = "#1d2330", "#ffffff"
 READABLE = 4.5  # the contrast of words, by WCAG 2

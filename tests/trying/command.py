@@ -5,11 +5,11 @@ import shutil
 import tempfile
 from pathlib import Path
 
-from checks import HOUSE, check, contents
+from checks import ROOT, check, contents
 from jobs import make_job
 from trying_jobs import racereplay, run
 
-RACE = HOUSE / "examples" / "refill-race"
+RACE = ROOT / "examples" / "refill-race"
 PAGE = "step.html"
 LONG = 12_000  # lines of an order
 
@@ -31,7 +31,7 @@ def check_said():
                   "racecheck refuses this pair (REFUSE,33,70,5,0), and the job can race."]
         shown = "\n    ".join(["    $ tools/try-orders --page refill-race.html examples/refill-race", *wanted])
         shown = shown.replace(str(RACE), "examples/refill-race").replace(str(page), "refill-race.html")
-        check("docs/TRYING.md: what is said", shown in (HOUSE / "docs" / "TRYING.md").read_text(), True)
+        check("docs/TRYING.md: what is said", shown in (ROOT / "docs" / "TRYING.md").read_text(), True)
         check("try-orders of refill-race", (done.status, done.said.splitlines(), done.error), (0, wanted, ""))
         check("refill-race: the page in its folder", (RACE / PAGE).read_text() == page.read_text(), True)
         bare = copied(scratch, "bare", "program.txt")

@@ -2,10 +2,10 @@
 import time
 from pathlib import Path
 
-from checks import HOUSE, check
+from checks import ROOT, check
 from trying_jobs import run
 
-RACE = HOUSE / "examples" / "refill-race"
+RACE = ROOT / "examples" / "refill-race"
 SCREEN, TELEPHONE = 1300, 400
 
 # What the page shows, from inside it.

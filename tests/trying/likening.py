@@ -1,4 +1,4 @@
-"""The steps of the page beside those of tools/stepping and of racereplay, state by state, on drawn programs and traces."""
+"""The steps of the page beside those of tools/interpreter and of racereplay, state by state, on drawn programs and traces."""
 import json
 import random
 import subprocess
@@ -6,20 +6,20 @@ import tempfile
 from collections import Counter
 from pathlib import Path
 
-from checks import HOUSE, answer_in, check
+from checks import ROOT, answer_in, check
 from drawn import Draw
-from explaining.doing import in_words
-from explaining.forms import Range, fault
-from explaining.names import KINDS, Names
-from explaining.sheets import sheet_of, steps_of
+from explanation.forms import Range, fault
+from explanation.names import KINDS, Names
+from explanation.sheets import sheet_of, steps_of
+from explanation.trace_lines import in_words
+from interpreter.happening import happened
+from interpreter.machine import MAKES, ODD, ROOM, START, WAITS, WANTS, Machine, kind, name
+from interpreter.naming import Naming
+from interpreter.program import FINISHED, Steps
+from interpreter.wording import about, step_words
 from jobs import sheet_of as program_of
-from stepping.happening import happened
-from stepping.machine import MAKES, ODD, ROOM, START, WAITS, WANTS, Machine, kind, name
-from stepping.naming import Naming
-from stepping.program import FINISHED, Steps
-from stepping.wording import about, step_words
-from trying import page
-from trying.tool import Job
+from orders import page
+from orders.tool import Job
 
 SCRIPTS = [(page.HERE / f"{name}.js").read_text() for name in page.PURE] + [Path(__file__).with_name("told.js").read_text()]
 NUMERALS = [Range("a number", 0, 10**10)] * 2
@@ -27,7 +27,7 @@ LONGEST, MOST_STEPS = 256, 400
 MANY = 500  # traces of a draw that meet everything
 
 
-# ---- What tools/stepping makes of a trace, in the form of told.js
+# ---- What tools/interpreter makes of a trace, in the form of told.js
 
 
 def value_told(value):
@@ -183,7 +183,7 @@ def seldom():
 def rust_draws(scratch, count, seed):
     """The programs and traces that the second replayer is tried on, those that racereplay does not turn away."""
     command = ["cargo", "run", "--release", "--offline", "--quiet", "--bin", "traces", "--", scratch, str(count), str(seed)]
-    check("orders are drawn", subprocess.run(command, cwd=HOUSE / "tests").returncode, 0)
+    check("orders are drawn", subprocess.run(command, cwd=ROOT / "tests").returncode, 0)
     for number in range(count):
         folder = Path(scratch) / str(number)
         yield (folder / "program.txt").read_bytes(), (folder / "trace.txt").read_bytes()
@@ -270,7 +270,7 @@ def drawn_names(seed):
 
 
 def words_of(program, trace, names):
-    """The steps of a trace in the words of tools/stepping and tools/explaining."""
+    """The steps of a trace in the words of tools/interpreter and tools/explanation."""
     machine = Machine(Steps(steps_of(sheet_of("program.txt", program))))
     state, naming, told = machine.start(), Naming(machine.steps, names), []
     for line in sheet_of("trace.txt", trace).lines:

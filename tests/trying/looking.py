@@ -3,11 +3,11 @@ import json
 import re
 from pathlib import Path
 
-from checks import HOUSE, check
+from checks import ROOT, check
 from desks import RACE, SCREEN, TELEPHONE, Desk, page_of
 from jobs import make_job
 
-EXAMPLES = sorted(folder for folder in (HOUSE / "examples").iterdir() if (folder / "program.txt").exists())
+EXAMPLES = sorted(folder for folder in (ROOT / "examples").iterdir() if (folder / "program.txt").exists())
 LOOKS = Path(__file__).with_name("looks.js").read_text()
 WELL = {"past": [], "small": [], "cut": [], "faint": [], "thin": [], "scrolls": False}
 

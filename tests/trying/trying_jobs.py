@@ -3,7 +3,7 @@ import os
 import subprocess
 from typing import NamedTuple
 
-from checks import HOUSE, user_environment
+from checks import ROOT, user_environment
 
 
 class Done(NamedTuple):
@@ -14,7 +14,7 @@ class Done(NamedTuple):
 
 def run(*arguments, tool="try-orders", **environment):
     done = subprocess.run(
-        [HOUSE / "tools" / tool, *map(str, arguments)], env=user_environment(**environment), cwd=HOUSE,
+        [ROOT / "tools" / tool, *map(str, arguments)], env=user_environment(**environment), cwd=ROOT,
         stdin=subprocess.DEVNULL, capture_output=True, text=True)
     return Done(done.returncode, done.stdout, done.stderr)
 

@@ -2,7 +2,7 @@
 no name among them has two meanings."""
 import re
 
-from checks import HOUSE, check
+from checks import ROOT, check
 
 # The same notion twice, of the sheets and of the calculus, read and written, or of two calls: one meaning, so one name.
 TWICE = {
@@ -28,7 +28,7 @@ DEFINED = re.compile(r"^\s*(?:(?:unfoldable|abbrev) pub|pub data|pub record) (\S
 
 def rows():
     """Each row of the table: what it is for, its files, its lines, and those that define something."""
-    page = (HOUSE / "docs" / "PROMISES.md").read_text().split("\n## What to read\n")[1].split("\n## ")[0]
+    page = (ROOT / "docs" / "PROMISES.md").read_text().split("\n## What to read\n")[1].split("\n## ")[0]
     told = ""
     for cells in (row.split(" | ") for row in re.findall(r"^\| (.*\d) \|$", page, re.M)):
         told = cells[0].strip() or told
@@ -38,7 +38,7 @@ def rows():
 def files_of(cell):
     """`folder`, `folder` without `names`, `folder`: `names`, or `file`; names are those of files without their ending."""
     first, *names = re.findall(r"`([^`]+)`", cell)
-    path = HOUSE / first
+    path = ROOT / first
     if not path.is_dir():
         return [path]
     among = sorted(file for file in path.glob("*.antt") if file.stem != "Lib")
@@ -62,14 +62,14 @@ def check_believed():
     for what, files, lines, defining in table:
         counts = lines_of(files)
         wanted = (lines, defining) if near(lines, counts[0]) and near(defining, counts[1]) else counts
-        check(f"PROMISES.md, lines to read for {what}, {files[0].relative_to(HOUSE)}", (lines, defining), wanted)
+        check(f"PROMISES.md, lines to read for {what}, {files[0].relative_to(ROOT)}", (lines, defining), wanted)
     check_readme_counts(table)
     check_one_meaning([file for _, files, _, _ in table for file in files if file.suffix == ".antt"])
 
 
 def check_readme_counts(table):
     of_check = lines_of([file for what, files, _, _ in table if "every call" in what or "a check" in what for file in files])
-    told = re.search(r"for a check ([\d,]+) lines of definitions, ([\d,]+) with", (HOUSE / "README.md").read_text())
+    told = re.search(r"for a check ([\d,]+) lines of definitions, ([\d,]+) with", (ROOT / "README.md").read_text())
     numbers = [int(number.replace(",", "")) for number in told.groups()] if told else None
     fits = numbers is not None and near(numbers[0], of_check[1]) and near(numbers[1], of_check[0])
     check("README.md, lines to read for a check", numbers, numbers if fits else [of_check[1], of_check[0]])
@@ -79,7 +79,7 @@ def check_one_meaning(files):
     places = {}
     for file in files:
         for name in DEFINED.findall(file.read_text()):
-            places.setdefault(name, set()).add(str(file.relative_to(HOUSE)))
+            places.setdefault(name, set()).add(str(file.relative_to(ROOT)))
     twice = {name for name, found in places.items() if len(found) > 1}
     check("among what must be believed, names with two meanings", sorted(f"{n}: {sorted(places[n])}" for n in twice - set(TWICE)), [])
     check("among what must be believed, names that no longer stand twice", sorted(set(TWICE) - twice), [])

@@ -5,7 +5,7 @@ import subprocess
 import tempfile
 from pathlib import Path
 
-HOUSE = Path(__file__).resolve().parents[2]
+ROOT = Path(__file__).resolve().parents[2]
 
 passed = 0
 failures = []

@@ -6,13 +6,13 @@ import subprocess
 import tempfile
 from pathlib import Path
 
-from checks import HOUSE, check, user_environment
-from installing.completing import completion
-from installing.helping import options_of, tools, words_of
-from installing.manual import commands_page, manual_pages
+from checks import ROOT, check, user_environment
+from installation.completing import completion
+from installation.helping import options_of, tools, words_of
+from installation.manual import commands_page, manual_pages
 from tools import run
 
-PAGE = HOUSE / "docs" / "COMMANDS.md"
+PAGE = ROOT / "docs" / "COMMANDS.md"
 ALONE = {"--help", "--version"}
 STARTED = {
     "racecheck": ("refill", []), "racefill": ("top-up-to-fill", []), "racereplay": ("refill", []), "racedrill": (None, ["0"])}
@@ -20,7 +20,7 @@ STARTED = {
 
 def check_sections():
     """The page has every command; what it says of a tool is what the tool says of itself."""
-    check("COMMANDS.md: the tools' own words (python3 -m installing.manual, in tools, writes them)",
+    check("COMMANDS.md: the tools' own words (python3 -m installation.manual, in tools, writes them)",
           PAGE.read_text() == commands_page(PAGE.read_text()), True)
     check("COMMANDS.md: every command", set(manual_pages()), {*tools(), *STARTED, "racecheck-install"} - {"install"})
     for tool in tools():
@@ -56,11 +56,11 @@ def _completed(script, words):
 
 def check_called(programs):
     """A tool names the others as they are started: by their place in the repository, and by their names once installed."""
-    join = HOUSE / "examples" / "join-race"
+    join = ROOT / "examples" / "join-race"
     done = run("explain", join, RACECHECK=programs[0])
     check("explain in the repository names tools/triage", "tools/triage tells" in done.stdout, True)
     with tempfile.TemporaryDirectory() as scratch:
-        shutil.copytree(HOUSE / "tools", Path(scratch) / "tools", ignore=shutil.ignore_patterns("__pycache__"))
+        shutil.copytree(ROOT / "tools", Path(scratch) / "tools", ignore=shutil.ignore_patterns("__pycache__"))
         (Path(scratch) / "bin").mkdir()
         shutil.copy(programs[0], Path(scratch) / "bin" / "racecheck")
         command, environment = [Path(scratch) / "tools" / "explain", join], user_environment(RACECHECK="")
@@ -76,7 +76,7 @@ def check_limits(programs):
         example, arguments = STARTED[name]
         kilobytes = int(re.search(r"`ulimit -s (\d+)`", sections[name])[1])
         with tempfile.TemporaryDirectory() as scratch:
-            folder = HOUSE / "examples" / example if example else scratch
+            folder = ROOT / "examples" / example if example else scratch
             small = _run([path, *arguments], folder, resource.RLIMIT_STACK, 1024 * kilobytes)
             check(f"{name} with {kilobytes} kilobytes of stack", small.stdout.endswith(b"\n"), True)
             if example and name != "racefill":

@@ -12,13 +12,13 @@ import time
 from collections import Counter
 from pathlib import Path
 
-sys.path.append(str(Path(__file__).resolve().parents[2] / "tools"))
+sys.path.insert(1, str(Path(__file__).resolve().parents[2] / "tools"))
 import checks
 import pairs
-from checks import HOUSE, check
-from racing.budget import Limits
-from racing.orders import trace_text
-from triaging.deciding import Programs, decide
+from checks import ROOT, check
+from diagnosis.deciding import Programs, decide
+from races.budget import Limits
+from races.orders import trace_text
 
 GREAT = 1_000_000_000
 SIZES, PAIRS, SEED = (2, 9, 15), 60, 1  # the share of every run of the tests
@@ -167,7 +167,7 @@ def drawn_pairs(seed):
 
 def known_pairs():
     """Those of the examples, and of families: accepted, or with a fault of the job."""
-    for folder in sorted((HOUSE / "examples").iterdir()):
+    for folder in sorted((ROOT / "examples").iterdir()):
         if (folder / "split.txt").exists():
             yield (folder / "program.txt").read_text(), (folder / "split.txt").read_text()
     for family in (pairs.joined, pairs.locked, pairs.posted, pairs.placed, pairs.purged):

@@ -2,10 +2,10 @@
 import hashlib
 import subprocess
 
-from checks import HOUSE, check, make_pair, user_environment
-from explaining.showing import visible
+from checks import ROOT, check, make_pair, user_environment
+from explanation.formatting import visible
 
-TOOLS = HOUSE / "tools"
+TOOLS = ROOT / "tools"
 TOOL = TOOLS / "check-release"
 # A pair that is accepted, with what the report says below it.
 GOOD = ("P,1|int,0|", "C,1,1,1,1|int,0,0|0|0,0,|", "ACCEPT", [])

@@ -4,7 +4,7 @@ import subprocess
 import tempfile
 from pathlib import Path
 
-from checks import HOUSE, answer_in, check, contents
+from checks import ROOT, answer_in, check, contents
 from pages import fenced
 
 SHEETS = ["program.txt", "split.txt"]
@@ -41,7 +41,7 @@ def check_drill(racedrill, racecheck, what, block):
 
 
 def check_drills(racedrill, racecheck):
-    page = (HOUSE / "docs" / "DRILLS.md").read_text()
+    page = (ROOT / "docs" / "DRILLS.md").read_text()
     blocks = list(fenced(page, "drill"))
     check("DRILLS.md has examples", len(blocks) >= 8, True)
     for line, block in blocks:

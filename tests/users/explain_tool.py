@@ -7,16 +7,16 @@ from collections import Counter
 from pathlib import Path
 
 import browser
-from checks import HOUSE, check, make_pair, user_environment
-from explaining import telling, walk
-from explaining.drawing import page
-from explaining.drawing.holders import SILENT, Telling
-from explaining.findings import explain
-from explaining.refusals import OF_CHECKING, REFUSALS
-from explaining.running import Run, run_in
+from checks import ROOT, check, make_pair, user_environment
+from explanation import report, walk
+from explanation.drawing import page
+from explanation.drawing.holders import SILENT, Telling
+from explanation.findings import explain
+from explanation.refusals import OF_CHECKING, REFUSALS
+from explanation.running import Run, run_in
 from pages import PAGES, examples, pairs_of
 
-TOOL = HOUSE / "tools" / "explain"
+TOOL = ROOT / "tools" / "explain"
 DRAWN = 4000
 # The examples whose pages are opened in a browser: with names and without, accepted and refused.
 SHOWN = {"refill", "refill-race", "loop-race", "canisters-race", "colour-book", "purge", "purge-race"}
@@ -24,7 +24,7 @@ GOOD = ("P,1|int,0|", "C,1,1,1,1|int,0,0|0|0,0,|")
 
 
 def run(binary, *arguments, **how):
-    how = {"stdout": subprocess.PIPE, "cwd": HOUSE, **how}
+    how = {"stdout": subprocess.PIPE, "cwd": ROOT, **how}
     return subprocess.run(
         [TOOL, *map(str, arguments)], env=user_environment(RACECHECK=binary), stdin=subprocess.DEVNULL,
         stderr=subprocess.PIPE, text=True, **how)
@@ -76,7 +76,7 @@ def check_sources(binary):
     """Where a line of the program comes from is told wherever the line is: by each tool, and on each page."""
     with tempfile.TemporaryDirectory() as scratch:
         folder = Path(scratch) / "job"
-        shutil.copytree(HOUSE / "examples" / "refill-race", folder)
+        shutil.copytree(ROOT / "examples" / "refill-race", folder)
         long = "/".join(["a"] * 30) + "/pump.c:12"
         with open(folder / "names.txt", "a") as names:
             names.write(f"line,70,refill.c:88\nline,37,{long}\nline,3,main.c:5\n")
@@ -86,12 +86,12 @@ def check_sources(binary):
             ("explain", ["--replay"], [refill, pump]),
             ("show-race", [], [refill, pump, "made on line 3 [main.c:5]"]), ("triage", [], [refill, pump]),
         ]:
-            done = subprocess.run([HOUSE / "tools" / tool, *arguments, folder], env=user_environment(RACECHECK=binary),
+            done = subprocess.run([ROOT / "tools" / tool, *arguments, folder], env=user_environment(RACECHECK=binary),
                                   capture_output=True, text=True)
             check(f"{tool} {arguments}: where lines come from", [words for words in wanted if words not in done.stdout], [])
         for tool, wanted in [("explain", f"reads, {pump}"), ("show-race", refill), ("try-orders", '"70": "refill.c:88"')]:
             page_file = Path(scratch) / f"{tool}.html"
-            command = [HOUSE / "tools" / tool, "--page", page_file, folder]
+            command = [ROOT / "tools" / tool, "--page", page_file, folder]
             subprocess.run(command, env=user_environment(RACECHECK=binary), capture_output=True)
             check(f"page of {tool}: where lines come from", wanted in page_file.read_text(), True)
 
@@ -102,7 +102,7 @@ def check_sources(binary):
 def faults(explanation, run_there):
     """What an explanation lacks."""
     lacks = [explanation.disagrees] if explanation.disagrees else []
-    text = "\n".join(telling.told(explanation))
+    text = "\n".join(report.told(explanation))
     if not text.startswith(run_there.answer):
         lacks.append("the answer")
     if run_there.answer == "ACCEPT":
@@ -131,7 +131,7 @@ def steps_told(lines):
 def check_pages(binary):
     """Every pair of the two pages, which have an example for each number and each condition."""
     for name in PAGES:
-        for line, program, split, answer in pairs_of((HOUSE / "docs" / name).read_text()):
+        for line, program, split, answer in pairs_of((ROOT / "docs" / name).read_text()):
             with tempfile.TemporaryDirectory() as scratch:
                 folder = Path(scratch) / "pair"
                 make_pair(folder, program, split)
@@ -143,7 +143,7 @@ def check_pages(binary):
 def draw(scratch, count, *options):
     """Drawn pairs as folders, each with its number."""
     command = ["cargo", "run", "--release", "--offline", "--quiet", "--bin", "pairs", "--", *options, scratch, str(count)]
-    check("pairs are drawn", subprocess.run(command, cwd=HOUSE / "tests").returncode, 0)
+    check("pairs are drawn", subprocess.run(command, cwd=ROOT / "tests").returncode, 0)
     return [(number, Path(scratch) / str(number)) for number in range(count)]
 
 
@@ -172,7 +172,7 @@ def check_drawn(binary):
 
 def check_lies():
     """An answer that the numbers do not bear out is told loudly, with a status of its own."""
-    join, join_race = HOUSE / "examples" / "join", HOUSE / "examples" / "join-race"
+    join, join_race = ROOT / "examples" / "join", ROOT / "examples" / "join-race"
     lies = [(join, f"REFUSE,{rest}") for rest in [
         "10,0,0,0", "11,2,0,0", "12,2,0,0", "13,3,0,0", "14,9,0,0", "15,5,0,0", "20,0,0,0", "21,2,0,0", "22,2,0,0", "23,5,0,0",
         "30,2,0,0", "31,2,1,0", "32,2,2,0", "33,15,5,0", "33,99,5,0", "32,8,9,0", "11,99,0,0", "1,0,0,0", "38,0,0,0",
@@ -181,7 +181,7 @@ def check_lies():
     lies += [(join_race, "REFUSE,33,13,5,1"), (join_race, "REFUSE,32,13,4,0")]
     for folder, answer in lies:
         explanation = explain(Run(answer, None), folder)
-        text = "\n".join(telling.told(explanation))
+        text = "\n".join(report.told(explanation))
         check(f"a lie about {folder.name}, {answer}", (text.startswith(answer), "*** DISAGREEMENT" in text), (True, True))
         browser.check_markup(f"a lie about {folder.name}, {answer}: its page", page.text("lie", explanation))
         badge = '"badge refused">DISAGREEMENT<' in page.text("lie", explanation)
@@ -201,7 +201,7 @@ def check_lies():
 
 
 def check_errors(binary):
-    join = HOUSE / "examples" / "join"
+    join = ROOT / "examples" / "join"
     for what, arguments, message in [
         ("an unknown option", ["-x", join], "there is no option -x\nusage: explain"),
         ("two folders", [join, join], f"one argument too many: {join}\nusage: explain"),
@@ -216,7 +216,7 @@ def check_errors(binary):
     done = run(binary, cwd=join)
     check("explain in the current folder", (done.returncode, done.stdout.startswith(".: ACCEPT")), (0, True))
     piped = subprocess.run(
-        f"'{TOOL}' --walk '{HOUSE}/examples/refill' | head -n 1", shell=True, env=user_environment(RACECHECK=binary),
+        f"'{TOOL}' --walk '{ROOT}/examples/refill' | head -n 1", shell=True, env=user_environment(RACECHECK=binary),
         capture_output=True, text=True)
     check("explain, its reader goes away", (piped.stdout.count("\n"), piped.stderr), (1, ""))
     check("explain, no racecheck", run("nowhere", join).returncode, 2)
@@ -231,7 +231,7 @@ def check_errors(binary):
 
 def check_alone():
     """Every number and every answer is told without a pair, in the words of REFUSALS.md."""
-    page_text = (HOUSE / "docs" / "REFUSALS.md").read_text()
+    page_text = (ROOT / "docs" / "REFUSALS.md").read_text()
     for number, refusal in REFUSALS.items():
         for given in (str(number), f"REFUSE,{number},70,5,0"):
             done = run("nowhere", given)
@@ -268,7 +268,7 @@ def check_names(binary):
     """Names are used where they are given; lines of another form are told and passed over."""
     with tempfile.TemporaryDirectory() as scratch:
         folder = Path(scratch) / "pair"
-        shutil.copytree(HOUSE / "examples" / "join-race", folder)
+        shutil.copytree(ROOT / "examples" / "join-race", folder)
         names = ["location,0,Füllstand", "thread,1,pump", "variable,0,<level>", "thread,x,y", "nothing", "variable,1,", "\x07", ""]
         (folder / "names.txt").write_bytes("\n".join(names).encode() + b"\xff")
         done = run(binary, "--walk", "--page", folder / "page.html", folder)
@@ -336,4 +336,4 @@ def check_explain_tool(binary):
     check_sources(binary)
     check_procedures(binary)
     check_drawn(binary)
-    check("the tools leave nothing beside themselves", list((HOUSE / "tools").rglob("__pycache__")), [])
+    check("the tools leave nothing beside themselves", list((ROOT / "tools").rglob("__pycache__")), [])

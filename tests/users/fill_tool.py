@@ -6,13 +6,13 @@ from collections import Counter
 from pathlib import Path
 
 import browser
-from checks import HOUSE, check, contents, make_pair, user_environment
+from checks import ROOT, check, contents, make_pair, user_environment
 from explain_tool import draw, walked
-from explaining import telling
-from explaining.drawing import page
-from explaining.findings import explain
-from explaining.refusals import OF_FILLING, REFUSALS
-from explaining.running import FILLING, Run, run_in
+from explanation import report
+from explanation.drawing import page
+from explanation.findings import explain
+from explanation.refusals import OF_FILLING, REFUSALS
+from explanation.running import FILLING, Run, run_in
 from fillings import TO_FILL, fillings_of
 from pages import PAGES
 
@@ -26,7 +26,7 @@ LARGE = "after line 2 there would be 1,000,000,001 of location 0; a number in a 
 
 def run(tool, racefill, racecheck, *arguments):
     return subprocess.run(
-        [HOUSE / "tools" / tool, *map(str, arguments)], env=user_environment(RACEFILL=racefill, RACECHECK=racecheck), cwd=HOUSE,
+        [ROOT / "tools" / tool, *map(str, arguments)], env=user_environment(RACEFILL=racefill, RACECHECK=racecheck), cwd=ROOT,
         stdin=subprocess.DEVNULL, capture_output=True, text=True)
 
 
@@ -44,7 +44,7 @@ def emptied(program, split):
 
 def lacks(explanation, run_there):
     """What the explanation of a filling lacks."""
-    text = "\n".join(telling.told(explanation))
+    text = "\n".join(report.told(explanation))
     faults = [explanation.disagrees] if explanation.disagrees else []
     if run_there.answer == "UNREAD":
         return faults
@@ -72,7 +72,7 @@ def check_pages(racefill):
     """Every sheet for filling in the pages, and each number that only filling gives."""
     told = {}
     for name in PAGES:
-        for line, fields in fillings_of((HOUSE / "docs" / name).read_text()):
+        for line, fields in fillings_of((ROOT / "docs" / name).read_text()):
             with tempfile.TemporaryDirectory() as scratch:
                 make_pair(Path(scratch) / "pair", fields["program"], fields["split"])
                 explanation = check_explained(racefill, f"docs/{name} line {line}", Path(scratch) / "pair")
@@ -87,9 +87,9 @@ def check_filled(racefill, racecheck):
     """A sheet that can be filled: the walk and the page show it filled."""
     with tempfile.TemporaryDirectory() as scratch:
         file = Path(scratch) / "page.html"
-        done = run("explain", racefill, racecheck, "--walk", "--page", file, HOUSE / "examples" / f"top-up{TO_FILL}")
+        done = run("explain", racefill, racecheck, "--walk", "--page", file, ROOT / "examples" / f"top-up{TO_FILL}")
         check("a sheet that can be filled", (done.returncode, ": FILLED\n" in done.stdout, done.stderr), (0, True, ""))
-        rows = (HOUSE / "examples" / "top-up" / "split.txt").read_text().splitlines()[50:]
+        rows = (ROOT / "examples" / "top-up" / "split.txt").read_text().splitlines()[50:]
         check("a sheet that can be filled: the walk has its rows", [row for row in rows if f" {row} " not in done.stdout], [])
         check("a sheet that can be filled: its page", ">FILLED</div>" in file.read_text(), True)
 
@@ -99,9 +99,9 @@ def check_races(racefill, racecheck):
     for name, line in RACES.items():
         with tempfile.TemporaryDirectory() as scratch:
             for file in ("program.txt", "names.txt"):
-                if (HOUSE / "examples" / name / file).exists():
-                    (Path(scratch) / file).write_bytes((HOUSE / "examples" / name / file).read_bytes())
-            sheets = ((HOUSE / "examples" / name / sheet).read_text() for sheet in ("program.txt", "split.txt"))
+                if (ROOT / "examples" / name / file).exists():
+                    (Path(scratch) / file).write_bytes((ROOT / "examples" / name / file).read_bytes())
+            sheets = ((ROOT / "examples" / name / sheet).read_text() for sheet in ("program.txt", "split.txt"))
             (Path(scratch) / "split.txt").write_text(emptied(*sheets))
             explanation = check_explained(racefill, f"{name} to be filled", Path(scratch))
             check(f"{name} to be filled, the line", explanation.site.line, line)
@@ -111,7 +111,7 @@ def check_races(racefill, racecheck):
             if name == "refill-race":
                 check(f"{name} to be filled, its numbers", "at location 0 (level): the whole, 2/2, is needed, and there is 1/2"
                       in done.stdout, True)
-    check("every example that races is filled", sorted(RACES), sorted(path.name for path in (HOUSE / "examples").glob("*-race")))
+    check("every example that races is filled", sorted(RACES), sorted(path.name for path in (ROOT / "examples").glob("*-race")))
 
 
 def check_drawn(racefill):
@@ -128,8 +128,8 @@ def check_drawn(racefill):
 
 def check_lies():
     """An answer about a sheet for filling that the numbers do not bear out."""
-    folder = HOUSE / "examples" / f"top-up{TO_FILL}"
-    filled = (HOUSE / "examples" / "top-up" / "split.txt").read_bytes()
+    folder = ROOT / "examples" / f"top-up{TO_FILL}"
+    filled = (ROOT / "examples" / "top-up" / "split.txt").read_bytes()
     lies = [Run(f"REFUSE,{number},0,0,0", None, FILLING) for number in (41, 42, 43)]
     lies += [Run("FILLED", None, FILLING, written=sheet) for sheet in (filled[:-1], filled.replace(b"44,", b"45,", 1))]
     for lie in lies:
@@ -141,13 +141,13 @@ def check_lies():
 
 
 def check_in_place(racefill, racecheck):
-    given = (HOUSE / "examples" / f"top-up{TO_FILL}" / "split.txt").read_bytes()
-    filled = (HOUSE / "examples" / "top-up" / "split.txt").read_bytes()
+    given = (ROOT / "examples" / f"top-up{TO_FILL}" / "split.txt").read_bytes()
+    filled = (ROOT / "examples" / "top-up" / "split.txt").read_bytes()
     with tempfile.TemporaryDirectory() as scratch:
         folder = Path(scratch) / "pair"
         folder.mkdir()
         for round_number, kept in [(1, "split-to-fill.txt"), (2, "split-to-fill-2.txt")]:
-            (folder / "program.txt").write_bytes((HOUSE / "examples" / "top-up" / "program.txt").read_bytes())
+            (folder / "program.txt").write_bytes((ROOT / "examples" / "top-up" / "program.txt").read_bytes())
             (folder / "split.txt").write_bytes(given)
             done = run("fill", racefill, racecheck, folder)
             said = f"{folder}: racefill: filled, 41 maps\nracecheck: ACCEPT\nthe given sheet is kept as {kept}\n"
@@ -159,7 +159,7 @@ def check_in_place(racefill, racecheck):
 
 
 def check_new_folder(racefill, racecheck):
-    given, filled = HOUSE / "examples" / f"top-up{TO_FILL}", HOUSE / "examples" / "top-up"
+    given, filled = ROOT / "examples" / f"top-up{TO_FILL}", ROOT / "examples" / "top-up"
     with tempfile.TemporaryDirectory() as scratch:
         folder, before = Path(scratch) / "new", contents(given)
         done = run("fill", racefill, racecheck, given, folder)

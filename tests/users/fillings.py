@@ -1,8 +1,8 @@
 """Sheets for filling, in the pages and in examples/: what racefill writes, byte for byte, and that racecheck accepts it."""
 import subprocess
 
-from checks import HOUSE, answer_in, check, check_pair, check_written, contents, sheet_of
-from explaining.refusals import OF_FILLING
+from checks import ROOT, answer_in, check, check_pair, check_written, contents, sheet_of
+from explanation.refusals import OF_FILLING
 from pages import PAGES, fenced
 
 TO_FILL = "-to-fill"
@@ -28,7 +28,7 @@ def check_pages(racefill, racecheck):
     """Every example of the pages. There is one that is filled, and one for each number that only filling gives."""
     met = set()
     for name in PAGES:
-        for line, fields in fillings_of((HOUSE / "docs" / name).read_text()):
+        for line, fields in fillings_of((ROOT / "docs" / name).read_text()):
             check_filling(racefill, racecheck, f"docs/{name} line {line}", fields)
             met.add(int(fields["answer"].split(",")[1]) if "answer" in fields else 0)
     check("the pages have an example for each answer of filling", ({0} | OF_FILLING) - met, set())
@@ -36,7 +36,7 @@ def check_pages(racefill, racecheck):
 
 def check_examples(racefill):
     """The folder examples/NAME has what racefill writes in examples/NAME-to-fill; that it is accepted is told there."""
-    folders = sorted((HOUSE / "examples").glob("*" + TO_FILL))
+    folders = sorted((ROOT / "examples").glob("*" + TO_FILL))
     check("there are examples to fill", len(folders) >= 1, True)
     for folder in folders:
         filled = folder.with_name(folder.name.removesuffix(TO_FILL))
@@ -49,7 +49,7 @@ def check_examples(racefill):
 
 
 def check_argument(racefill):
-    folder = HOUSE / "examples" / f"top-up{TO_FILL}"
+    folder = ROOT / "examples" / f"top-up{TO_FILL}"
     done = subprocess.run([racefill, "."], cwd=folder, stdin=subprocess.DEVNULL, capture_output=True)
     check("racefill with an argument", (done.stdout, done.stderr), (b"UNREAD\n", USAGE))
 

@@ -6,12 +6,12 @@ import subprocess
 import tempfile
 from pathlib import Path
 
-from checks import HOUSE, check, user_environment
-from installing.shared import COMPILERS, make_shared
+from checks import ROOT, check, user_environment
+from installation.shared import COMPILERS, make_shared
 from racecheck.finding import NAME
 
-HEADER = HOUSE / "include" / "racecheck.h"
-ENTRIES = HOUSE / "crates" / "entries" / "src" / "lib.rt"
+HEADER = ROOT / "include" / "racecheck.h"
+ENTRIES = ROOT / "crates" / "entries" / "src" / "lib.rt"
 C_TYPES = {
     "u32": "uint32_t {0}", "&mut u32": "uint32_t *{0}", "&mut u64": "uint64_t *{0}",
     "&[u8]": "const uint8_t *{0}, size_t {0}_len", "&mut [u8]": "uint8_t *{0}, size_t {0}_len",
@@ -36,7 +36,7 @@ def declared():
 
 
 def library():
-    return Path(os.environ.get("RACECHECK_LIB_DIR") or HOUSE / "target" / "staticlib") / "libentries.a"
+    return Path(os.environ.get("RACECHECK_LIB_DIR") or ROOT / "target" / "staticlib") / "libentries.a"
 
 
 def shared_library(folder):
@@ -58,7 +58,7 @@ def check_linked(compiler, *flags, **environment):
     """A program in C, compiled with the header and linked with the library, as a caller does it."""
     with tempfile.TemporaryDirectory() as scratch:
         program = Path(scratch) / "calls"
-        done = compile_with(compiler, "-std=c11", HOUSE / "tests" / "users" / "calls.c", *flags, "-pthread", "-o", program)
+        done = compile_with(compiler, "-std=c11", ROOT / "tests" / "users" / "calls.c", *flags, "-pthread", "-o", program)
         check("calls in C: compiled and linked", (done.returncode, done.stderr), (0, ""))
         if done.returncode == 0:
             ran = subprocess.run([program], env=user_environment(**environment), capture_output=True, text=True)
@@ -76,4 +76,4 @@ def check_header():
     for language in ("c", "c++"):
         done = compile_with(compiler, "-fsyntax-only", "-x", language, HEADER)
         check(f"the header as {language}", (done.returncode, done.stderr), (0, ""))
-    check_linked(compiler, f"-I{HOUSE / 'include'}", library())
+    check_linked(compiler, f"-I{ROOT / 'include'}", library())

@@ -7,18 +7,18 @@ import sys
 import tempfile
 from pathlib import Path
 
-from checks import HOUSE, check, contents, user_environment
+from checks import ROOT, check, contents, user_environment
 from header import check_linked, declared, library
-from installing.manual import manual_pages
-from installing.tool import PROGRAMS
+from installation.manual import manual_pages
+from installation.tool import PROGRAMS
 
 COMMANDS = ["check-release", "draw-faults", "explain", "fill", "racecheck", "racedrill", "racefill", "racereplay", "show-race", "triage", "try-orders"]
 
 
-def make_house(place, programs):
+def make_repository(place, programs):
     """The repository as it is when all is built, with the given programs."""
     for folder in ("tools", "docs", "examples", "include"):
-        shutil.copytree(HOUSE / folder, place / folder, ignore=shutil.ignore_patterns("__pycache__"))
+        shutil.copytree(ROOT / folder, place / folder, ignore=shutil.ignore_patterns("__pycache__"))
     (place / "target" / "bin").mkdir(parents=True)
     for path in programs:
         shutil.copy(path, place / "target" / "bin")
@@ -26,9 +26,9 @@ def make_house(place, programs):
     shutil.copy(library(), place / "target" / "staticlib")
 
 
-def install(house, *arguments):
+def install(repository, *arguments):
     return subprocess.run(
-        [house / "tools" / "install", *arguments], env=user_environment(), stdin=subprocess.DEVNULL, capture_output=True, text=True)
+        [repository / "tools" / "install", *arguments], env=user_environment(), stdin=subprocess.DEVNULL, capture_output=True, text=True)
 
 
 def run(prefix, command, *arguments, cwd):
@@ -68,7 +68,7 @@ def check_commands(prefix, scratch):
     done = subprocess.run([prefix / "bin" / "explain", "--version"], env=user_environment(), capture_output=True, text=True)
     check("installed: explain by its path", done.returncode, 0)
     pages = {path.name for path in (prefix / "share" / "doc" / "racecheck").glob("*.md")}
-    check("installed: the pages", {path.name for path in (HOUSE / "docs").glob("*.md")} - pages, set())
+    check("installed: the pages", {path.name for path in (ROOT / "docs").glob("*.md")} - pages, set())
 
 
 def check_libraries(prefix):
@@ -93,20 +93,20 @@ def check_libraries(prefix):
 # ---- The archive
 
 
-def check_archive(house, scratch):
+def check_archive(repository, scratch):
     """One file, the same each time, which somebody else unpacks elsewhere and uses with nothing of the kit."""
     files = [scratch / "one.tar.gz", scratch / "two.tar.gz"]
     for file in files:
-        done = install(house, "--archive", file)
+        done = install(repository, "--archive", file)
         check(f"install --archive {file.name}", (done.returncode, done.stderr), (0, ""))
     check("archives of the same files are the same", files[0].read_bytes() == files[1].read_bytes(), True)
-    done = install(house, "--archive", files[0])
+    done = install(repository, "--archive", files[0])
     check("an archive is not written over", (done.returncode, "is there already" in done.stderr), (2, True))
     place = scratch / "elsewhere"
     place.mkdir()
     scratch.chmod(0o755)
     who = another_user(place)
-    house.rename(scratch / "house, put away")
+    repository.rename(scratch / "repository, put away")
 
     def used(*command, cwd=place):
         """A command of somebody who has the archive, and nothing else."""
@@ -126,7 +126,7 @@ def check_archive(house, scratch):
         check(f"unpacked: {command}", (done.returncode, said in done.stdout), (1, True))
     done = used("env", f"PYTHONPATH={place}/racecheck/lib/python", "python3", "-B", "-c", "import racecheck; print(racecheck.drill(0))")
     check("unpacked: the module", done.stdout, "DRILL,1013904223,162,162\n")
-    (scratch / "house, put away").rename(house)
+    (scratch / "repository, put away").rename(repository)
 
 
 def another_user(place):
@@ -161,52 +161,52 @@ def check_manual(prefix):
         check(f"man -l {page}", (done.returncode, done.stderr, lacks), (0, "", []))
 
 
-def check_shared(house):
+def check_shared(repository):
     """In the repository: the library is made where the tools find it, and is not used once the archive is newer."""
-    check("no library in the repository", judged_by(house)[0], "bin/racecheck")
-    done = install(house, "--library")
+    check("no library in the repository", judged_by(repository)[0], "bin/racecheck")
+    done = install(repository, "--library")
     check("install --library", (done.returncode, done.stderr), (0, ""))
-    check("the library of the repository", judged_by(house)[0], "staticlib/libracecheck.so")
-    os.utime(house / "target" / "staticlib" / "libentries.a", (4e9, 4e9))
-    checker, said = judged_by(house)
+    check("the library of the repository", judged_by(repository)[0], "staticlib/libracecheck.so")
+    os.utime(repository / "target" / "staticlib" / "libentries.a", (4e9, 4e9))
+    checker, said = judged_by(repository)
     check("a library that is too old", (checker, "older than the archive" in said), ("bin/racecheck", True))
 
 
-def judged_by(house):
+def judged_by(repository):
     """What check-release of a repository judges by, below its target, and what it says beside."""
     environment = user_environment(RACECHECK="", RACECHECK_LIBRARY="")
-    command = [house / "tools" / "check-release", "--decide", "0", house / "examples", "/dev/stdout"]
+    command = [repository / "tools" / "check-release", "--decide", "0", repository / "examples", "/dev/stdout"]
     done = subprocess.run(command, env=environment, stdin=subprocess.DEVNULL, capture_output=True, text=True)
     return done.stdout.partition("record\tchecker\t")[2].partition("\n")[0].partition("/target/")[2], done.stderr
 
 
-def check_again(house, prefix):
+def check_again(repository, prefix):
     """An installation replaces an older one, spares what is not its own, and says what is not built."""
     before = contents(prefix)
     (prefix / "lib" / "racecheck" / "left over").write_text("of an older version")
-    check("installed again", (install(house, prefix).returncode, contents(prefix) == before), (0, True))
+    check("installed again", (install(repository, prefix).returncode, contents(prefix) == before), (0, True))
     check("installed: nothing left beside", [str(path) for path in prefix.rglob(".*")], [])
     (prefix / "bin" / "fill").unlink()
     (prefix / "bin" / "fill").write_text("somebody else's")
-    done = install(house, prefix)
+    done = install(repository, prefix)
     check("something else is in the way", (done.returncode, "not written over" in done.stderr), (2, True))
     check("something else is spared", (prefix / "bin" / "fill").read_text(), "somebody else's")
-    (house / "target" / "bin" / "racefill").unlink()
-    done = install(house, prefix)
+    (repository / "target" / "bin" / "racefill").unlink()
+    done = install(repository, prefix)
     check("a program that is not built", (done.returncode, "not built: target/bin/racefill (rt check" in done.stderr), (2, True))
 
 
 def check_install(programs):
     with tempfile.TemporaryDirectory() as scratch:
-        house, prefix = Path(scratch) / "house", Path(scratch) / "a prefix"
-        make_house(house, programs)
-        done = install(house, prefix)
+        repository, prefix = Path(scratch) / "repository", Path(scratch) / "a prefix"
+        make_repository(repository, programs)
+        done = install(repository, prefix)
         check("install", (done.returncode, done.stderr), (0, ""))
         work = Path(scratch) / "work"
         work.mkdir()
         check_commands(prefix, work)
         check_libraries(prefix)
         check_manual(prefix)
-        check_archive(house, Path(scratch))
-        check_shared(house)
-        check_again(house, prefix)
+        check_archive(repository, Path(scratch))
+        check_shared(repository)
+        check_again(repository, prefix)

@@ -1,14 +1,14 @@
 """The links of the pages lead somewhere, and the indexes of REFUSALS.md and FORMATS.md leave nothing out."""
 import re
 
-from checks import HOUSE, check
-from explaining.refusals import REFUSALS
-from explaining.words import WORDS
+from checks import ROOT, check
+from explanation.refusals import REFUSALS
+from explanation.words import WORDS
 from pages import PAGES
 
 
 def pages():
-    return [HOUSE / "README.md", *sorted((HOUSE / "docs").rglob("*.md"))]
+    return [ROOT / "README.md", *sorted((ROOT / "docs").rglob("*.md"))]
 
 
 def marks_of(page):
@@ -27,9 +27,9 @@ def check_links():
             path = (page.parent / file) if file else page
             if not path.exists() or (mark and mark not in marks_of(path)):
                 lost.append(target)
-        check(f"{page.relative_to(HOUSE)}, its links", lost, [])
+        check(f"{page.relative_to(ROOT)}, its links", lost, [])
     for name in PAGES:
-        index = (HOUSE / "docs" / name).read_text().partition("\n## Index\n")[2].partition("\n## ")[0]
+        index = (ROOT / "docs" / name).read_text().partition("\n## Index\n")[2].partition("\n## ")[0]
         check(f"{name}, its index has every word", [word for word in WORDS if f"[`{word}`](#" not in index], [])
         if name == "REFUSALS.md":
             numbers = [str(number) for number in REFUSALS if f"[{number}](#{number}-" not in index]

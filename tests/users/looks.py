@@ -9,15 +9,15 @@ from types import SimpleNamespace
 
 import browser
 import large
-from checks import HOUSE, check, make_pair, user_environment
-from explaining.drawing import page
-from explaining.drawing.picture import ROWS_IN_A_PART
-from explaining.findings import explain
-from explaining.names import Names
-from explaining.running import run_in
-from explaining.sheets import Row, Split, Type, read_sheet, steps_of
-from explaining.sites import Sites
-from explaining.touching import Words, cells_of
+from checks import ROOT, check, make_pair, user_environment
+from explanation.drawing import page
+from explanation.drawing.picture import ROWS_IN_A_PART
+from explanation.findings import explain
+from explanation.names import Names
+from explanation.running import run_in
+from explanation.sheets import Row, Split, Type, read_sheet, steps_of
+from explanation.sites import Sites
+from explanation.touching import Words, cells_of
 from pages import examples, pairs_of
 
 MANY = "1013904223"  # the seed of a practice pair with 29 readers
@@ -37,7 +37,7 @@ def check_sums(binary):
     """The refused row has all that is false, uncut: on every example, and on every pair of REFUSALS.md that has a picture."""
     with tempfile.TemporaryDirectory() as scratch:
         folders = [folder for folder in examples() if (folder / "expected").read_text().startswith("REFUSE")]
-        for line, program, split, answer in pairs_of((HOUSE / "docs" / "REFUSALS.md").read_text()):
+        for line, program, split, answer in pairs_of((ROOT / "docs" / "REFUSALS.md").read_text()):
             if re.match("REFUSE,3[123],", answer):
                 folders.append(Path(scratch) / str(line))
                 make_pair(folders[-1], program, split)
@@ -91,7 +91,7 @@ def check_paper(binary, racefill):
         print("users: no Chromium here, so how the pages come out on paper is not tried")
         return
     for name in ("page.html", "race.html"):
-        text = (HOUSE / "examples" / "refill-race" / name).read_text()
+        text = (ROOT / "examples" / "refill-race" / name).read_text()
         check(f"refill-race/{name}: one sheet", browser.sheets_of(found, text), 1)
         foot = re.search(r'<p class="made">Made on \d{4}-\d\d-\d\d at .*program.txt [0-9a-f]{16}', text)
         check(f"refill-race/{name}: its foot", foot is not None, True)
@@ -107,10 +107,10 @@ def check_touches(binary):
         ("colour-book-race", ["book lock is held at 2 of 3 touches, and not where desk writes, line 36", 'class="of-cell bare"']),
         ("purge-race", ["screen writes, line 4: <em>no lock", "no lock is held at any of its touches"]),
     ]:
-        explanation, text = drawn(binary, HOUSE / "examples" / name)
+        explanation, text = drawn(binary, ROOT / "examples" / name)
         check(f"touches of {name}: on the page", [words for words in wanted if words not in unescape(text)], [])
     done = subprocess.run(
-        [HOUSE / "tools" / "explain", "--touches", HOUSE / "examples" / "colour-book-race"], capture_output=True, text=True,
+        [ROOT / "tools" / "explain", "--touches", ROOT / "examples" / "colour-book-race"], capture_output=True, text=True,
         env=user_environment(RACECHECK=binary))
     marked = re.findall("\n +> .*", done.stdout)
     check("explain --touches: the one that lacks it", marked, ["\n  >  desk    writes  line 36  book lock for reading"])

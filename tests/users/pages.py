@@ -1,12 +1,12 @@
 """The examples that are files, and those in docs/REFUSALS.md and docs/FORMATS.md."""
 import re
 
-from checks import HOUSE, answer_in, check, check_pair
-from explaining.refusals import OF_CHECKING, PROGRAM, REFUSALS, SPLIT, USUALLY
-from explaining.sheets import counts_of, read_sheet, split_of, steps_of
-from explaining.showing import fractions
-from explaining.sites import Sites
-from explaining.words import NUMBER_OF, WORDS
+from checks import ROOT, answer_in, check, check_pair
+from explanation.formatting import fractions
+from explanation.refusals import OF_CHECKING, PROGRAM, REFUSALS, SPLIT, USUALLY
+from explanation.sheets import counts_of, read_sheet, split_of, steps_of
+from explanation.sites import Sites
+from explanation.words import NUMBER_OF, WORDS
 
 PAGES = ["REFUSALS.md", "FORMATS.md"]
 
@@ -14,7 +14,7 @@ PAGES = ["REFUSALS.md", "FORMATS.md"]
 
 
 def examples():
-    return sorted(path.parent for path in (HOUSE / "examples").glob("*/expected"))
+    return sorted(path.parent for path in (ROOT / "examples").glob("*/expected"))
 
 
 def check_examples(binary):
@@ -48,16 +48,16 @@ def pairs_of(page):
 
 def check_pages(binary):
     for name in PAGES:
-        page = (HOUSE / "docs" / name).read_text()
+        page = (ROOT / "docs" / name).read_text()
         for line, program, split, answer in pairs_of(page):
             check_pair(binary, f"docs/{name} line {line}", program, split, answer)
         check_tables(name, page)
         linked = re.findall(r"\b(examples/[\w-]+)", page)
-        check(f"docs/{name}, its examples are there", [e for e in linked if not (HOUSE / e / "program.txt").exists()], [])
+        check(f"docs/{name}, its examples are there", [e for e in linked if not (ROOT / e / "program.txt").exists()], [])
 
 
 def check_nothing_left_out():
-    page = (HOUSE / "docs" / "REFUSALS.md").read_text()
+    page = (ROOT / "docs" / "REFUSALS.md").read_text()
     pairs = list(pairs_of(page))
     answers = {answer for _, _, _, answer in pairs}
     check("REFUSALS.md has ACCEPT and UNREAD", {"ACCEPT", "UNREAD"} <= answers, True)
@@ -72,7 +72,7 @@ def check_nothing_left_out():
     check("REFUSALS.md has an example for each condition", failed, every)
 
 
-# ---- What the pages share with the tables of tools/explaining
+# ---- What the pages share with the tables of tools/explanation
 
 
 def rows_of(page, head):
@@ -83,7 +83,7 @@ def rows_of(page, head):
 
 def check_refusals_words():
     """REFUSALS.md says of each answer and each condition what tools/explain says."""
-    page = (HOUSE / "docs" / "REFUSALS.md").read_text()
+    page = (ROOT / "docs" / "REFUSALS.md").read_text()
     told = [row for row in rows_of(page, "| answer | found wrong | look first |") if row[0].isdigit()]
     check("REFUSALS.md, its answers", told, [[str(number), row.found, row.owner] for number, row in REFUSALS.items()])
     helps = [f"What usually helps: {row.helps}." for row in REFUSALS.values()]
@@ -103,7 +103,7 @@ STARTS = {"pre": "before", "post": "after", "s": "s", "post of e1": "what the fi
 
 def check_formats_words():
     """FORMATS.md says of each word's type, parts and map what the tables say."""
-    page = (HOUSE / "docs" / "FORMATS.md").read_text()
+    page = (ROOT / "docs" / "FORMATS.md").read_text()
     wanted = []
     for name, word in WORDS.items():
         starts = [STARTS[start] for start in word.parts.values()]
@@ -125,16 +125,16 @@ def tables(page, kind):
 
 def check_tables(name, page):
     for folder, cells, _ in tables(page, "head"):
-        split = (HOUSE / folder / "split.txt").read_text().splitlines()
+        split = (ROOT / folder / "split.txt").read_text().splitlines()
         check(f"docs/{name}, head of {folder}", [row[:2] for row in cells], [[str(i + 1), split[i]] for i in range(len(cells))])
     for folder, cells, below in tables(page, "walk"):
-        program = read_sheet(HOUSE / folder, PROGRAM)
-        split = split_of(read_sheet(HOUSE / folder, SPLIT), counts_of(program).procedures)
+        program = read_sheet(ROOT / folder, PROGRAM)
+        split = split_of(read_sheet(ROOT / folder, SPLIT), counts_of(program).procedures)
         sites = Sites(steps_of(program), split)
         for row in cells:
             site = sites.at_line(int(row[0]))
             before, after = (fractions(numbers, split) for numbers in (site.pre, site.post))
             wanted = [program.line(site.line).decode(), site.row.text, before, after]
             check(f"docs/{name}, {folder} line {site.line}", row[1:5], wanted)
-        answer = (HOUSE / folder / "expected").read_text().strip()
+        answer = (ROOT / folder / "expected").read_text().strip()
         check(f"docs/{name}, answer of {folder}", re.findall(r"answer is `([^`]*)`", below), [answer])

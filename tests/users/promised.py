@@ -2,7 +2,7 @@
 have the clauses of the calls behind them; and PROOFS.md has no second table of clauses."""
 import re
 
-from checks import HOUSE, check
+from checks import ROOT, check
 from where import named_in_row
 
 # The crates of the offered calls, and that of the entries for C.
@@ -17,8 +17,8 @@ OFFERED = re.compile(r'^pub (?:extern "C" )?fn (\w+)\(.*?^\{$', re.M | re.S)
 
 def contracts():
     """The clauses of each offered call and of each entry for C, by its file and its name."""
-    files = [file for crate in CRATES for file in sorted((HOUSE / "crates" / crate / "src").glob("*.rt"))]
-    found = {(str(file.relative_to(HOUSE)), call[1]): re.findall(r"^    ensures (\w+) \{", call[0], re.M)
+    files = [file for crate in CRATES for file in sorted((ROOT / "crates" / crate / "src").glob("*.rt"))]
+    found = {(str(file.relative_to(ROOT)), call[1]): re.findall(r"^    ensures (\w+) \{", call[0], re.M)
              for file in files for call in OFFERED.finditer(file.read_text())}
     return {place: clauses for place, clauses in found.items() if clauses}
 
@@ -27,7 +27,7 @@ def faults_of(page, promised):
     """What is wrong with the tables of a page, for these contracts."""
     tables = {(file, call): [cells_of(row) for row in rows.splitlines()] for call, file, rows in TABLE.findall(page)}
     calls = {place: clauses for place, clauses in promised.items() if not place[1].startswith("racecheck_")}
-    faults = [f"{call} in {file} has {'no table' if (file, call) in calls else 'a table'}" for file, call in sorted(tables.keys() ^ calls.keys())]
+    faults = [f"{call} in {file}: {'no table' if (file, call) in calls else 'no such call'}" for file, call in tables.keys() ^ calls.keys()]
     for place in sorted(tables.keys() & calls.keys()):
         told = [clause for cells in tables[place] for clause in re.findall(r"`(\w+)`", cells[0])]
         faults += [f"{place[1]}: the page has {sorted(told)}, the source {sorted(calls[place])}"] * (sorted(told) != sorted(calls[place]))
@@ -77,11 +77,11 @@ def spoilt(page, promised):
 
 
 def check_promised():
-    page, promised = (HOUSE / "docs" / "PROMISES.md").read_text(), contracts()
+    page, promised = (ROOT / "docs" / "PROMISES.md").read_text(), contracts()
     check("PROMISES.md, each clause of an offered call once, with its theorem", faults_of(page, promised), [])
     check("the offered calls", sorted(call for _, call in promised if not call.startswith("racecheck_")),
           ["begin", "check", "drill", "fill", "more", "replay", "told"])
     for what, other, contract in spoilt(page, promised):
         check(f"PROMISES.md with {what} is found out", faults_of(other, contract) != [], True)
-    heads = [row for row in re.findall(r"^\|.*\|(?=\n\|---)", (HOUSE / "docs" / "PROOFS.md").read_text(), re.M) if "clause" in row]
+    heads = [row for row in re.findall(r"^\|.*\|(?=\n\|---)", (ROOT / "docs" / "PROOFS.md").read_text(), re.M) if "clause" in row]
     check("PROOFS.md, tables of clauses", heads, [])

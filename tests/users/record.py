@@ -7,11 +7,11 @@ import tempfile
 import time
 from pathlib import Path
 
-from checks import HOUSE, check, make_pair
+from checks import ROOT, check, make_pair
+from common.version import version
 from desk import TOOLS, Desk, body_of, digests_of, make_release, record_of, wanted_body
-from explaining.showing import visible
-from release import GOOD, KINDS, judges
-from starting.version import version
+from explanation.formatting import visible
+from release_tool import GOOD, KINDS, judges
 
 ESCAPE = "red \x1b[31m"
 MANY = 48  # pairs, so that most processes that share them have several
@@ -50,7 +50,7 @@ def check_sums(desk, release, count):
 def check_second_look(desk, binary):
     """A racecheck that accepts everything is not believed."""
     make_pair(desk.scratch / "false" / "race", *(
-        (HOUSE / "examples" / "join-race" / name).read_text().replace("\n", "|") for name in ("program.txt", "split.txt")))
+        (ROOT / "examples" / "join-race" / name).read_text().replace("\n", "|") for name in ("program.txt", "split.txt")))
     make_pair(desk.scratch / "false" / "good", *GOOD[:2])
     make_pair(desk.scratch / "false" / "unbound", *KINDS[3][:2])
     yes = desk.binary("yes", "echo ACCEPT")
@@ -149,7 +149,7 @@ def tools_that(desk, what, line):
     """A copy of the tools whose second look at a pair begins with this line."""
     tools = desk.scratch / what / "tools"
     shutil.copytree(TOOLS, tools)
-    judging = tools / "explaining" / "judging.py"
+    judging = tools / "explanation" / "judging.py"
     head = "def judge(program, split, is_filling=False):\n"
     judging.write_text(judging.read_text().replace(head, f"{head}    {line}\n"))
     return tools
@@ -161,7 +161,7 @@ def check_own_fault(desk, binary):
     done = desk.run("four", "report", tool=tools / "check-release", RACECHECK=binary)
     text = report_text(desk)
     check("a fault of check-release", (done.returncode, text.count("TypeError: broken"), "*** DISAGREEMENT" in text), (2, 4, False))
-    done = desk.run(HOUSE / "examples" / "join-race", tool=tools / "explain", RACECHECK=binary)
+    done = desk.run(ROOT / "examples" / "join-race", tool=tools / "explain", RACECHECK=binary)
     said = ["TypeError: broken" in done.stderr, "DISAGREEMENT" in done.stderr]
     check("a fault of explain", (done.returncode, said), (2, [True, False]))
 
@@ -212,7 +212,7 @@ def check_time(desk, judged):
     """400 pairs of ninety steps by the library: at most 0.4 s of processor, and 0.9 with the second look."""
     release = desk.scratch / "long"
     for number in range(400):
-        shutil.copytree(HOUSE / "examples" / "refill", release / f"job {number}")
+        shutil.copytree(ROOT / "examples" / "refill", release / f"job {number}")
     for option, most in (("--no-recheck", 0.4), ("--recheck", 0.9)):
         before = os.times()
         done = desk.run(option, "long", "report", **judged)

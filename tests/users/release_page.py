@@ -8,10 +8,10 @@ from pathlib import Path
 from urllib.parse import unquote
 
 import browser
-from checks import HOUSE, check, make_pair
+from checks import ROOT, check, make_pair
 from desk import TOOLS, Desk
 from header import shared_library
-from release import GOOD, KINDS
+from release_tool import GOOD, KINDS
 from served import json_of
 
 HOSTILE = "<b onclick=\"x\">&amp; 'it'"
@@ -41,7 +41,7 @@ document.body.append(Object.assign(document.createElement("pre"), {id: "seen", t
 
 def make_examples(release):
     for name in ("join", "join-race", "top-up-to-fill"):
-        shutil.copytree(HOUSE / "examples" / name, release / name)
+        shutil.copytree(ROOT / "examples" / name, release / name)
     make_pair(release / HOSTILE, *KINDS[3][:2])
     make_pair(release / "unread", *KINDS[6][:2])
     for number in range(40):
@@ -111,12 +111,12 @@ def check_alarm(desk):
 
 def check_program_parts(desk, shared):
     """A library and a program that do not answer alike: a disagreement, not a decision."""
-    house = desk.scratch / "house"
-    shutil.copytree(TOOLS, house / "tools")
-    desk.binary("house/target/bin/racecheck", "echo REFUSE,11,1,0,0")
+    repository = desk.scratch / "repository"
+    shutil.copytree(TOOLS, repository / "tools")
+    desk.binary("repository/target/bin/racecheck", "echo REFUSE,11,1,0,0")
     for name in ("racefill", "racereplay"):
-        desk.binary(f"house/target/bin/{name}", "echo UNREAD")
-    done = desk.run("jobs", "report", tool=house / "tools" / "check-release", decide="5", RACECHECK="", RACECHECK_LIBRARY=shared)
+        desk.binary(f"repository/target/bin/{name}", "echo UNREAD")
+    done = desk.run("jobs", "report", tool=repository / "tools" / "check-release", decide="5", RACECHECK="", RACECHECK_LIBRARY=shared)
     text = (desk.scratch / "report").read_text()
     told = done.returncode, "count\tDISAGREEMENT\t3\n" in text, "the library answered REFUSE,33,13,5,0" in text
     check("a library and a program that part", told, (2, True, True))
@@ -124,10 +124,10 @@ def check_program_parts(desk, shared):
 
 def check_fault(desk, environment):
     """A fault of what decides is told with the pair, and its answer stays."""
-    deciding = desk.scratch / "house" / "tools" / "triaging" / "deciding.py"
+    deciding = desk.scratch / "repository" / "tools" / "diagnosis" / "deciding.py"
     kept = deciding.read_text()
     deciding.write_text(kept + "\n\ndef decide(*_):\n    raise TypeError('broken')\n")
-    done = desk.run("jobs", "report", tool=desk.scratch / "house" / "tools" / "check-release", decide="5", **environment)
+    done = desk.run("jobs", "report", tool=desk.scratch / "repository" / "tools" / "check-release", decide="5", **environment)
     text = (desk.scratch / "report").read_text()
     told = done.returncode, text.count("by a fault of check-release: TypeError: broken"), "count\tREFUSE\t3\n" in text
     check("a fault of what decides", told, (2, 3, True))
@@ -136,9 +136,9 @@ def check_fault(desk, environment):
 
 def check_no_programs(desk, shared):
     """Where the programs that decide are not there, the pairs are judged all the same."""
-    shutil.rmtree(desk.scratch / "house" / "target")
+    shutil.rmtree(desk.scratch / "repository" / "target")
     environment = {"RACECHECK": "", "RACECHECK_LIBRARY": shared, "PATH": "/usr/bin:/bin"}
-    done = desk.run("jobs", "report", tool=desk.scratch / "house" / "tools" / "check-release", decide="5", **environment)
+    done = desk.run("jobs", "report", tool=desk.scratch / "repository" / "tools" / "check-release", decide="5", **environment)
     text = (desk.scratch / "report").read_text()
     told = done.returncode, "no decisions: racecheck is not built" in done.stderr, "count\tREFUSE\t3\n" in text
     check("without the programs that decide", (*told, "record\tdecisions\tnone: racecheck is" in text), (2, True, True, True))

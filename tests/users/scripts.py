@@ -11,7 +11,7 @@ import typing
 from pathlib import Path
 
 import racecheck
-from checks import HOUSE, answer_in, check, user_environment
+from checks import ROOT, answer_in, check, user_environment
 from header import HEADER, declared, shared_library
 from pages import examples, fenced
 from racecheck import library
@@ -44,7 +44,7 @@ def check_typed():
 
 def check_page(shared):
     """Each example of the page, as a script of its own."""
-    page = (HOUSE / "docs" / "PYTHON.md").read_text()
+    page = (ROOT / "docs" / "PYTHON.md").read_text()
     scripts, outputs = ([lines for _, lines in fenced(page, kind)] for kind in ("python", "output"))
     check("PYTHON.md has examples", (len(scripts), len(outputs)), (2, 2))
     for number, (lines, output) in enumerate(zip(scripts, outputs)):
@@ -54,7 +54,7 @@ def check_page(shared):
 
 def run(script, **environment):
     return subprocess.run(
-        [sys.executable, "-B", "-c", script], cwd=HOUSE, env=user_environment(PYTHONPATH=HOUSE / "tools", **environment),
+        [sys.executable, "-B", "-c", script], cwd=ROOT, env=user_environment(PYTHONPATH=ROOT / "tools", **environment),
         stdin=subprocess.DEVNULL, capture_output=True, text=True)
 
 
@@ -62,7 +62,7 @@ def check_answers(shared, programs):
     """Every example: the answers are those of the programs."""
     binary, _, racefill, racereplay = programs
     calls = racecheck.Library(str(shared))
-    for folder in [*examples(), HOUSE / "examples" / "top-up-to-fill"]:
+    for folder in [*examples(), ROOT / "examples" / "top-up-to-fill"]:
         program, split = ((folder / name).read_bytes() for name in ("program.txt", "split.txt"))
         check(f"module, check of {folder.name}", f"{calls.check(program, split)}\n".encode(), answer_in(binary, folder))
         filling = calls.fill(program, split)
@@ -70,7 +70,7 @@ def check_answers(shared, programs):
         if (folder / "trace.txt").exists():
             replay = calls.replay(program, (folder / "trace.txt").read_bytes())
             check(f"module, replay of {folder.name}", f"{replay}\n".encode(), answer_in(racereplay, folder))
-    refused = calls.replay((HOUSE / "examples" / "refill" / "program.txt").read_bytes(), b"0,0\n9,0\n")
+    refused = calls.replay((ROOT / "examples" / "refill" / "program.txt").read_bytes(), b"0,0\n9,0\n")
     check("module, a line that cannot be done", str(refused), "REFUSE,47,2,0,0,1")
     check("module, empty texts", str(calls.check(b"", b"")), "REFUSE,11,1,0,0")
     for what, call in [("a text that is none", lambda: calls.check("P,1", b"")), ("no text", lambda: calls.check(None, b"")),
@@ -111,7 +111,7 @@ def check_none(scratch):
     (scratch / "not one.so").write_text("no library")
     done = run("import racecheck; racecheck.check(b'', b'')", RACECHECK_LIBRARY=scratch / "not one.so")
     check("module, no library", (done.returncode, "NoLibrary: not a library of racecheck" in done.stderr), (1, True))
-    done = run("import racecheck.finding as f, racecheck; f.BUILT = f.INSTALLED = f.HOUSE / 'none'; racecheck.check(b'', b'')",
+    done = run("import racecheck.finding as f, racecheck; f.BUILT = f.INSTALLED = f.ROOT / 'none'; racecheck.check(b'', b'')",
                RACECHECK_LIBRARY="")
     check("module, nothing there", (done.returncode, "tools/install makes it" in done.stderr), (1, True))
 

@@ -9,15 +9,15 @@ from datetime import datetime
 from pathlib import Path
 from xml.etree import ElementTree
 
-from checks import HOUSE, check, make_pair
+from checks import ROOT, check, make_pair
 from desk import Desk, digests_of, record_of
-from explaining.showing import visible
+from explanation.formatting import visible
 from pages import rows_of
-from release import GOOD, KINDS, Z
-from releasing.fields import field_name
+from release.fields import field_name
+from release_tool import GOOD, KINDS, Z
 from schema import faults
 
-SCHEMA = json.loads((HOUSE / "docs" / "release.schema.json").read_text())
+SCHEMA = json.loads((ROOT / "docs" / "release.schema.json").read_text())
 JUNIT = Path(__file__).with_name("junit.xsd")
 ESCAPE, ODD = "red \x1b[31m", "<refused> & \"odd\""
 OTHER = "C,1,1,1,1|int,0,0|1|0,0,|"  # accepted too
@@ -70,7 +70,7 @@ def check_schema(given):
 
 def check_told():
     """docs/RELEASES.md tells every field in the schema's words."""
-    page = (HOUSE / "docs" / "RELEASES.md").read_text()
+    page = (ROOT / "docs" / "RELEASES.md").read_text()
     for name in ("the report", "record", "pair", "decision", "manifest", "against"):
         form = SCHEMA["definitions"].get(name, SCHEMA)
         wanted = [[f"`{field}`", one["description"]] for field, one in form["properties"].items() if "description" in one]

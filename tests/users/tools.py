@@ -8,16 +8,16 @@ import tempfile
 import tokenize
 from pathlib import Path
 
-from checks import HOUSE, check, contents, user_environment
-from starting.version import version
+from checks import ROOT, check, contents, user_environment
+from common.version import version
 
 TOOLS = ["check-release", "draw-faults", "explain", "fill", "install", "show-race", "triage", "try-orders"]
 OLD = "import runpy, sys; sys.version_info = (3, 8, 19, 'final', 0); runpy.run_path(sys.argv[1], run_name='__main__')"
 
 
-def run(tool, *arguments, cwd=HOUSE, **environment):
+def run(tool, *arguments, cwd=ROOT, **environment):
     return subprocess.run(
-        [HOUSE / "tools" / tool, *map(str, arguments)], cwd=cwd, env=user_environment(**environment), stdin=subprocess.DEVNULL,
+        [ROOT / "tools" / tool, *map(str, arguments)], cwd=cwd, env=user_environment(**environment), stdin=subprocess.DEVNULL,
         capture_output=True, text=True)
 
 
@@ -34,13 +34,13 @@ def check_help():
 def check_old_python():
     """A Python that is too old is told in words that it can read."""
     for tool in TOOLS:
-        path = HOUSE / "tools" / tool
+        path = ROOT / "tools" / tool
         done = subprocess.run(
-            [sys.executable, "-B", "-c", OLD, path], env=user_environment(PYTHONPATH=HOUSE / "tools"), capture_output=True,
+            [sys.executable, "-B", "-c", OLD, path], env=user_environment(PYTHONPATH=ROOT / "tools"), capture_output=True,
             text=True)
         told = (done.returncode, done.stderr)
         check(f"{tool} under an old Python", told, (2, "Python 3.9 or later is needed; this is 3.8\n"))
-    for path in [*(HOUSE / "tools" / tool for tool in TOOLS), HOUSE / "tools" / "starting" / "__init__.py"]:
+    for path in [*(ROOT / "tools" / tool for tool in TOOLS), ROOT / "tools" / "common" / "__init__.py"]:
         text = path.read_text()
         ast.parse(text, feature_version=(3, 4))
         tokens = [token.string for token in tokenize.generate_tokens(io.StringIO(text).readline)]
@@ -49,11 +49,11 @@ def check_old_python():
 
 def check_dash(binary):
     """A dash is no file's name: nothing of that name is made."""
-    join = HOUSE / "examples" / "join"
+    join = ROOT / "examples" / "join"
     with tempfile.TemporaryDirectory() as scratch:
         for tool, arguments in [
-            ("explain", ["--page", "-", join]), ("explain", ["-"]), ("check-release", [HOUSE / "examples", "-"]),
-            ("check-release", ["--json", "-", HOUSE / "examples"]), ("check-release", ["--manifest", "-", HOUSE / "examples"]),
+            ("explain", ["--page", "-", join]), ("explain", ["-"]), ("check-release", [ROOT / "examples", "-"]),
+            ("check-release", ["--json", "-", ROOT / "examples"]), ("check-release", ["--manifest", "-", ROOT / "examples"]),
             ("show-race", ["--page", "-", join]), ("show-race", ["--trace", "-", join]), ("triage", ["--mended", "-", join]),
             ("try-orders", ["--page", "-", join]), ("try-orders", ["--trace", "-", join]),
         ]:

@@ -7,8 +7,8 @@ import subprocess
 import tempfile
 from pathlib import Path
 
-from checks import HOUSE, check, user_environment
-from triaging.decision import KINDS
+from checks import ROOT, check, user_environment
+from diagnosis.decision import KINDS
 
 ACCEPTED, RACES, FAILED, DISAGREES, UNDECIDED, ROWS, LOADS, PROGRAM_SHEET, SPLIT_SHEET = range(9)
 MENDED = "split-mended.txt"
@@ -29,12 +29,12 @@ def check_triage(binary, racefill, racereplay):
 
 def run(programs, *arguments, tool="triage"):
     return subprocess.run(
-        [HOUSE / "tools" / tool, *map(str, arguments)], env=user_environment(**programs), cwd=HOUSE, stdin=subprocess.DEVNULL,
+        [ROOT / "tools" / tool, *map(str, arguments)], env=user_environment(**programs), cwd=ROOT, stdin=subprocess.DEVNULL,
         capture_output=True, text=True)
 
 
 def examples():
-    return sorted(folder for folder in (HOUSE / "examples").iterdir() if (folder / "split.txt").exists())
+    return sorted(folder for folder in (ROOT / "examples").iterdir() if (folder / "split.txt").exists())
 
 
 def wrecked(example, scratch, *changes):
@@ -42,9 +42,9 @@ def wrecked(example, scratch, *changes):
     folder = Path(scratch) / f"{example}-{len(os.listdir(scratch))}"
     folder.mkdir()
     for name in ("program.txt", "names.txt"):
-        if (HOUSE / "examples" / example / name).exists():
-            shutil.copy(HOUSE / "examples" / example / name, folder)
-    split = (HOUSE / "examples" / example / "split.txt").read_text()
+        if (ROOT / "examples" / example / name).exists():
+            shutil.copy(ROOT / "examples" / example / name, folder)
+    split = (ROOT / "examples" / example / "split.txt").read_text()
     for old, new in changes:
         check(f"{example}: its split has {old!r}", old in split, True)
         split = split.replace(old, new, 1)
@@ -118,7 +118,7 @@ def check_sheets(programs):
 def check_files(programs):
     """Nothing is written over, and a file that cannot be written loses nothing."""
     with tempfile.TemporaryDirectory() as scratch:
-        lines = (HOUSE / "examples" / "join" / "split.txt").read_text().split("\n")
+        lines = (ROOT / "examples" / "join" / "split.txt").read_text().split("\n")
         pair = wrecked("join", scratch, (f"{lines[-2]}\n", "0,1,\n"))
         (pair / MENDED).write_text("mine\n")
         done = run(programs, pair)
@@ -126,7 +126,7 @@ def check_files(programs):
               (ROWS, "mine\n", True))
         done = run(programs, "--mended", "/dev/full", pair)
         check("a mended split that cannot be written", (done.returncode, "is in no file: cannot" in done.stdout), (ROWS, True))
-        done = run(programs, "--trace", "/dev/full", HOUSE / "examples" / "join-race")
+        done = run(programs, "--trace", "/dev/full", ROOT / "examples" / "join-race")
         check("an order that cannot be written", (done.returncode, "is in no file: cannot" in done.stdout), (RACES, True))
 
 
@@ -137,10 +137,10 @@ def check_lies(programs):
         liar.write_text("#!/bin/sh\nif test -s trace.txt; then echo RAN,5; else echo RAN,0; fi\n")
         liar.chmod(0o755)
         trace = Path(scratch) / "trace"
-        done = run({**programs, "RACEREPLAY": liar}, "--trace", trace, HOUSE / "examples" / "join-race")
+        done = run({**programs, "RACEREPLAY": liar}, "--trace", trace, ROOT / "examples" / "join-race")
         check("triage with a lying racereplay", (done.returncode, "can race" in done.stdout), (DISAGREES, False))
         liar.write_text("#!/bin/sh\necho REFUSE,41,0,0,0\n")
-        lines = (HOUSE / "examples" / "join" / "split.txt").read_text().split("\n")
+        lines = (ROOT / "examples" / "join" / "split.txt").read_text().split("\n")
         (Path(scratch) / "pairs").mkdir()
         pair = wrecked("join", Path(scratch) / "pairs", (f"{lines[-2]}\n", "0,1,\n"))
         done = run({**programs, "RACEFILL": liar}, pair)
@@ -149,13 +149,13 @@ def check_lies(programs):
 
 def check_fields(programs):
     """--json has the documented fields, and says what is said otherwise."""
-    page = (HOUSE / "docs" / "REFUSALS.md").read_text()
+    page = (ROOT / "docs" / "REFUSALS.md").read_text()
     rows = re.findall(r"^\| (`.*?) \|", page.split("With `--json`")[1].split("`tools/show-race FOLDER`")[0], re.M)
     documented = [name for row in rows for name in re.findall(r"`(\w+)`", row)]
     with tempfile.TemporaryDirectory() as scratch:
-        lines = (HOUSE / "examples" / "join" / "split.txt").read_text().split("\n")
+        lines = (ROOT / "examples" / "join" / "split.txt").read_text().split("\n")
         wrong = wrecked("join", scratch, (f"{lines[-2]}\n", "0,1,\n"))
-        for folder in (HOUSE / "examples" / "join-race", HOUSE / "examples" / "join", wrong):
+        for folder in (ROOT / "examples" / "join-race", ROOT / "examples" / "join", wrong):
             plain, done = run(programs, folder), run(programs, "--json", folder)
             fields = json.loads(done.stdout)
             check(f"--json of {folder.name}: the documented fields", sorted(fields), sorted(documented))
@@ -169,7 +169,7 @@ def check_fields(programs):
 
 def check_page(programs):
     """docs/REFUSALS.md has every kind of decision with its status and who acts, and the example as it comes out."""
-    page = (HOUSE / "docs" / "REFUSALS.md").read_text()
+    page = (ROOT / "docs" / "REFUSALS.md").read_text()
     for kind, (status, who, _) in KINDS.items():
         rows = [row for row in page.split("\n") if row.startswith("| ") and f"`{kind}`" in row]
         check(f"docs/REFUSALS.md on {kind}", [str(status) in row.split("|")[1] and who.split()[-1] in row for row in rows], [True])

@@ -1,7 +1,7 @@
 """PROMISES.md, PROOFS.md and WHERE.md name definitions and theorems with their files: each stands in the file that is named."""
 import re
 
-from checks import HOUSE, check
+from checks import ROOT, check
 
 PAGES = ["PROMISES.md", "PROOFS.md", "WHERE.md"]
 # Names in backticks, and behind them their file in brackets.
@@ -16,7 +16,7 @@ def named_in(page):
     for row in re.findall(r"^\| (.*) \|$", page, re.M):
         cells = row.split(" | ")
         if cells[0].startswith("**"):
-            part = HOUSE / cells[-1]
+            part = ROOT / cells[-1]
         else:
             yield from named_in_row(cells[1:] or cells, part)
 
@@ -26,7 +26,7 @@ def named_in_row(cells, part=None):
     folder = part
     for names, file in (found for cell in cells for found in NAMED.findall(cell)):
         if file.startswith("crates/"):
-            path = HOUSE / file
+            path = ROOT / file
             folder = part or path.parent
         else:
             path = folder / f"{file.removesuffix('.antt')}.antt"
@@ -40,8 +40,8 @@ def words_of(path):
 
 def check_where():
     for name in PAGES:
-        named = list(named_in((HOUSE / "docs" / name).read_text()))
+        named = list(named_in((ROOT / "docs" / name).read_text()))
         files = {path: words_of(path) for _, path in named}
-        lost = [f"{word} in {path.relative_to(HOUSE)}" for word, path in named if word not in files[path]]
+        lost = [f"{word} in {path.relative_to(ROOT)}" for word, path in named if word not in files[path]]
         check(f"docs/{name} names definitions or theorems", len(named) >= 40, True)
         check(f"docs/{name}, each stands in its file", lost, [])

@@ -5,11 +5,11 @@ import subprocess
 import tempfile
 from pathlib import Path
 
-from checks import HOUSE, check, contents, user_environment
-from starting.command import Failure
-from starting.writing import Output, approve
+from checks import ROOT, check, contents, user_environment
+from common.command import Failure
+from common.writing import Output, approve
 
-EXAMPLES = HOUSE / "examples"
+EXAMPLES = ROOT / "examples"
 SHEETS = ("program.txt", "split.txt", "names.txt", "pair/program.txt", "release/one/split.txt", "link")
 SHEET = "a sheet of that name is never written over"
 READ = "which is read here"
@@ -42,7 +42,7 @@ class Desk:
 
     def run(self, tool, *arguments):
         return subprocess.run(
-            [HOUSE / "tools" / tool, *map(str, arguments)], cwd=self.scratch, env=user_environment(**self.programs),
+            [ROOT / "tools" / tool, *map(str, arguments)], cwd=self.scratch, env=user_environment(**self.programs),
             stdin=subprocess.DEVNULL, capture_output=True, text=True)
 
     def check_refused(self, words, tool, *arguments):

@@ -7,9 +7,9 @@ from typing import Optional
 
 NAME = "libracecheck.so"
 VARIABLE = "RACECHECK_LIBRARY"
-HOUSE = Path(__file__).resolve().parents[2]
-BUILT, ARCHIVE = HOUSE / "target" / "staticlib" / NAME, HOUSE / "target" / "staticlib" / "libentries.a"
-INSTALLED = HOUSE.parent / NAME  # beside an installed house, which has its programs in bin
+ROOT = Path(__file__).resolve().parents[2]
+BUILT, ARCHIVE = ROOT / "target" / "staticlib" / NAME, ROOT / "target" / "staticlib" / "libentries.a"
+INSTALLED = ROOT.parent / NAME  # beside an installed repository, which has its programs in bin
 
 
 class NoLibrary(OSError):
@@ -23,7 +23,7 @@ def find_library() -> Optional[str]:
         return os.path.abspath(named)
     if BUILT.is_file():
         return None if is_stale() else str(BUILT)
-    return str(INSTALLED) if (HOUSE / "bin").is_dir() and INSTALLED.is_file() else None
+    return str(INSTALLED) if (ROOT / "bin").is_dir() and INSTALLED.is_file() else None
 
 
 def is_stale() -> bool:
