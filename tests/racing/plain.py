@@ -90,63 +90,64 @@ def successors(state, at):
     if one[0] == "value":
         return
     (word, v, parts), around = next_word(one)
-
-    def after(new, things=None, threads=None, spawned=None):
-        threads = dict((t[0], t) for t in (threads or state.threads))
+    for choice, (new, changes) in enumerate(reduced(state, word, v, parts)):
+        threads = {thread[0]: thread for thread in changes.get("threads", state.threads)}
         threads[number] = number, identifier, around(new)
         kept = tuple(threads[k] for k in sorted(threads))
-        return State(kept, state.things if things is None else things, spawned or state.spawned, state.procedures)
+        yield choice, State(kept, changes.get("things", state.things), changes.get("spawned", state.spawned), state.procedures)
 
-    def changed(thing, value):
-        return {**state.things, thing: value}
 
-    thing = parts[0][1:3] if parts and parts[0][0] == "value" else None
-    held = state.things.get(thing)
+MAKES = {"newtid": "tid", "newlock": "lock", "newsem": "sem", "newrwlock": "rw", "ref": "cell"}
+
+
+def reduced(state, word, v, parts):
+    """What a word can become, by choice, each with what changes beside it: threads, things, how many were spawned."""
     if word == "let":
-        yield 0, after(put(parts[1], v, parts[0]))
-    elif word == "call":
+        return [(put(parts[1], v, parts[0]), {})]
+    if word == "call":
         variable, body = state.procedures[v]
-        yield 0, after(put(body, variable, parts[0]))
-    elif word == "if":
-        yield 0, after(parts[0])
-        yield 1, after(parts[1])
-    elif word == "while":
-        yield 0, after(("if", 0, (("let", 999, (parts[0], ("while", 0, parts))), ZERO)))
-    elif word in ("newtid", "newlock", "newsem", "newrwlock", "ref"):
-        kind = {"newtid": "tid", "newlock": "lock", "newsem": "sem", "newrwlock": "rw", "ref": "cell"}[word]
+        return [(put(body, variable, parts[0]), {})]
+    if word == "if":
+        return [(part, {}) for part in parts]
+    if word == "while":
+        return [(("if", 0, (("let", 999, (parts[0], ("while", 0, parts))), ZERO)), {})]
+    if word in MAKES:
+        kind = MAKES[word]
         made = kind, state.fresh(kind)
         holds = {"tid": 0, "lock": "open", "sem": 0, "rw": (v, 0, False), "cell": parts and parts[0]}[kind]
-        yield 0, after(("value", *made), changed(made, holds))
-    elif thing is None or thing[0] == "int" or thing not in state.things:
-        return
-    elif word == "read" and thing[0] == "cell":
-        yield 0, after(held)
-    elif word == "write" and thing[0] == "cell":
-        yield 0, after(ZERO, changed(thing, parts[1]))
-    elif word == "spawn" and thing[0] == "tid":
-        yield 0, after(ZERO, None, state.threads + ((state.spawned, thing, parts[1]),), state.spawned + 1)
-    elif word == "join" and thing[0] == "tid":
+        return [(("value", *made), {"things": {**state.things, made: holds}})]
+    thing = parts[0][1:3]
+    return used(state, word, thing, parts) if thing in state.things else []
+
+
+def used(state, word, thing, parts):
+    """The same of a word that is about a thing; nothing if the thing is of another kind, or the thread has to wait."""
+    kind, held = thing[0], state.things[thing]
+    if word == "read" and kind == "cell":
+        return [(held, {})]
+    if word == "spawn" and kind == "tid":
+        return [(ZERO, {"threads": (*state.threads, (state.spawned, thing, parts[1])), "spawned": state.spawned + 1})]
+    if word == "join" and kind == "tid":
         done = [t for t in state.threads if t[1] == thing and t[2][0] == "value"]
-        if done:
-            yield 0, after(ZERO, None, tuple(t for t in state.threads if t is not done[0]))
-    elif word == "lock" and thing[0] == "lock" and held == "open":
-        yield 0, after(ZERO, changed(thing, "closed"))
-    elif word == "unlock" and thing[0] == "lock":
-        yield 0, after(ZERO, changed(thing, "open"))
-    elif word == "post" and thing[0] == "sem":
-        yield 0, after(ZERO, changed(thing, held + 1))
-    elif word == "wait" and thing[0] == "sem" and held > 0:
-        yield 0, after(ZERO, changed(thing, held - 1))
-    elif thing[0] == "rw":
+        return [(ZERO, {"threads": tuple(t for t in state.threads if t is not done[0])})] if done else []
+    holds = parts[1] if word == "write" and kind == "cell" else held_after(word, kind, held)
+    return [] if holds is None else [(ZERO, {"things": {**state.things, thing: holds}})]
+
+
+def held_after(word, kind, held):
+    """What a lock, a semaphore or a read-write lock is after a word, or None if the word cannot be done."""
+    if kind == "lock":
+        return {"lock": "closed" if held == "open" else None, "unlock": "open"}.get(word)
+    if kind == "sem":
+        return {"post": held + 1, "wait": held - 1 if held > 0 else None}.get(word)
+    if kind == "rw":
         places, reading, writing = held
-        if word == "rdlock" and reading < places and not writing:
-            yield 0, after(ZERO, changed(thing, (places, reading + 1, writing)))
-        if word == "rdunlock" and reading > 0:
-            yield 0, after(ZERO, changed(thing, (places, reading - 1, writing)))
-        if word == "wrlock" and reading == 0 and not writing:
-            yield 0, after(ZERO, changed(thing, (places, reading, True)))
-        if word == "wrunlock" and writing:
-            yield 0, after(ZERO, changed(thing, (places, reading, False)))
+        return {
+            "rdlock": (places, reading + 1, writing) if reading < places and not writing else None,
+            "rdunlock": (places, reading - 1, writing) if reading > 0 else None,
+            "wrlock": (places, reading, True) if reading == 0 and not writing else None,
+            "wrunlock": (places, reading, False) if writing else None}.get(word)
+    return None
 
 
 WAITING = {"join": "tid", "lock": "lock", "wait": "sem", "rdlock": "rw", "rdunlock": "rw", "wrlock": "rw", "wrunlock": "rw"}
