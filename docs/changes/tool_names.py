@@ -9,6 +9,7 @@ import ast
 import os
 import re
 import subprocess
+import sys
 
 PACKAGES = {
     "drilling": "faults", "explaining": "explanation", "installing": "installation", "racing": "races", "releasing": "release",
@@ -23,11 +24,9 @@ TESTS = {"tests/users/release.py": "tests/users/release_tool.py", "tests/users/o
 TEST_MODULES = {os.path.basename(old)[:-3]: os.path.basename(new)[:-3] for old, new in TESTS.items()}
 # What of a module is used behind its name, so that `telling.told` is told from a variable of that name.
 USED = {"telling": ("report", "alarm|finding|past_room|searched|told"), "doing": ("trace_lines", "Numbered|about_to|in_words|tried")}
-# Where a word alone says it.
-WORDS = [
-    (r"\bHOUSE\b", "ROOT"), (r"\bmake_house\b", "make_repository"), (r"\bShown\b", "ShortOrder"),
-    (r"\b(this|the) house's (own )?arithmetic\b", "the tool's own arithmetic"), (r"-m installing\.", "-m installation."),
-    (r"\bhouse\b", "repository")]
+# Words, in every file, and in those of tools/ and tests/.
+EVERYWHERE = {r"\b(this|the) house's (own )?arithmetic\b": "the tool's own arithmetic", r"-m installing\.": "-m installation."}
+IN_CODE = {r"\bHOUSE\b": "ROOT", r"\bmake_house\b": "make_repository", r"\bhouse\b": "repository", r"\bShown\b": "ShortOrder"}
 NAMES = "|".join(PACKAGES)
 
 
@@ -45,7 +44,7 @@ def renamed(path, text):
     text = re.sub(rf"\btools/({NAMES})\b(/\w+\.py)?", lambda found: _path(found[1], found[2] or ""), text)
     for old, new in TESTS.items():
         text = text.replace(old.partition("/")[2], new.partition("/")[2])
-    for old, new in WORDS if path.startswith(("tools/", "tests/")) else WORDS[3:5]:
+    for old, new in {**EVERYWHERE, **(IN_CODE if path.startswith(("tools/", "tests/")) else {})}.items():
         text = re.sub(old, new, text)
     if path.endswith((".md", ".html", ".js", ".rs")):
         return text
@@ -110,6 +109,8 @@ def _blocks(text):
 
 
 def main():
+    if not os.path.isdir("tools/explaining"):
+        sys.exit("tools/explaining is not here: the names are new already")
     moved()
     files = subprocess.run(["git", "ls-files", "tools", "tests", "docs", "examples", "README.md"], check=True, capture_output=True, text=True)
     for path in files.stdout.splitlines():
