@@ -3,7 +3,8 @@
 before can be brought over by running it there too, before it is merged.
 
 A package is called after what its tool is about. tools/explain, tools/install and tools/triage are files, so a folder beside them cannot
-have their names. Test modules that stood in the way of a package's name are moved too.
+have their names. Test modules that stood in the way of a package's name are moved too. The stored page has a digest of its script, whose
+comments name a package, so it is made anew: `tools/try-orders --page examples/refill-race/step.html examples/refill-race`.
 """
 import ast
 import os
@@ -46,7 +47,7 @@ def renamed(path, text):
         text = text.replace(old.partition("/")[2], new.partition("/")[2])
     for old, new in {**EVERYWHERE, **(IN_CODE if path.startswith(("tools/", "tests/")) else {})}.items():
         text = re.sub(old, new, text)
-    if path.endswith((".md", ".html", ".js", ".rs")):
+    if path.endswith((".md", ".js")):
         return text
     text = re.sub(rf'(tools"? / )"({NAMES})"', lambda found: f'{found[1]}"{PACKAGES[found[2]]}"', text)
     package = path.split("/")[1] if path.startswith("tools/") and path.count("/") > 1 else None
@@ -112,9 +113,9 @@ def main():
     if not os.path.isdir("tools/explaining"):
         sys.exit("tools/explaining is not here: the names are new already")
     moved()
-    files = subprocess.run(["git", "ls-files", "tools", "tests", "docs", "examples", "README.md"], check=True, capture_output=True, text=True)
+    files = subprocess.run(["git", "ls-files", "tools", "tests", "docs", "README.md"], check=True, capture_output=True, text=True)
     for path in files.stdout.splitlines():
-        if path.startswith("docs/changes/") or not path.endswith((".py", ".md", ".html", ".js")) and not _is_script(path):
+        if path.startswith("docs/changes/") or not path.endswith((".py", ".md", ".js")) and not _is_script(path):
             continue
         with open(path, encoding="utf-8") as file:
             old = file.read()
