@@ -1,11 +1,11 @@
 -- The bytes of a file that was read, and of a line that was written, are a part of their buffer.
 use mathlib.Core.Path.{_≡_, sym, ap, subst, _∙_}
-use mathlib.Core.List.{List}
+use mathlib.Core.List.{List, _++_}
 use mathlib.Core.Option.{some}
 use Prim.Native.Nat.{ℕ, _≤_, _<_}
 use native.Mathlib.Omega.{arith}
 use lib.ListN.{length, take, drop, length-take}
-use lib.Seq.{length-take-le, take-append-seam}
+use lib.Seq.{length-take-le, take-append-seam, take-append-le, take-take}
 use Rattle.writer.specs.Buffer.{Written}
 use Rattle.writer.proofs.Buffer.{overwrite-front}
 use Rattle.files.specs.Files.{Within, textIn, InFront}
@@ -20,6 +20,11 @@ bytes-part {n = n} buffer e w = sym (length-take-le n buffer (bytes-within e w))
 
 pub text-read : {x : Contents} {n : ℕ} (buffer : List ℕ) → x ≡ Bytes n → textIn x buffer ≡ some (take n buffer)
 text-read buffer e = ap (λ (y : Contents). textIn y buffer) e
+
+-- the bytes in front of a part that is read into are as they were
+pub front-kept : (held n : ℕ) (buffer behind : List ℕ) → held ≤ n → n ≤ length buffer → take held (take n buffer ++ behind) ≡ take held buffer
+front-kept held n buffer behind low within =
+    let taken = length-take-le n buffer within in take-append-le held (take n buffer) behind (omega (arith, taken, low)) ∙ take-take held n buffer low
 
 -- a text in front, by its length
 pub front : {text : List ℕ} {n : ℕ} (buffer : List ℕ) → n ≡ length text → take n buffer ≡ text → InFront text n buffer

@@ -13,10 +13,10 @@ use report::write_line;
 pub use retry::write_all;
 ghost use mathlib.Core.Path.{_≡_};
 ghost use Prim.Native.Nat.{_≤_};
-ghost use lib.ListN.{length};
+ghost use lib.ListN.{length, take};
 ghost use Rattle.spec.specs.Text.{bytes};
 ghost use Rattle.report.specs.Line.{outputLine};
-ghost use Rattle.files.specs.Files.{Within, ReadInto};
+ghost use Rattle.files.specs.Files.{Descriptor, Within, NoFewer, ReadInto};
 
 // What reading a file comes to: how many bytes of it stand in the buffer, or that it can't be read.
 pub enum Contents {
@@ -24,10 +24,13 @@ pub enum Contents {
     Unread,
 }
 
-// Reads from a descriptor behind the bytes that the buffer holds, until the file ends, the buffer is full or a read fails.
+// Reads from a descriptor behind the bytes that the buffer holds, until the file ends, the buffer is full or a read fails:
+// counted: what is handed back is how many bytes it holds now, and no fewer than it held;
+// kept: those that it held stand where they stood.
 pub fn fill(fd: i32, buffer: &mut [u8], held: usize) -> Contents
     requires { ⌜ held ≤ length (now buffer) ⌝ }
-    ensures { λ r. ⌜ Within r (length (now (buffer .exit))) ⌝ }
+    ensures counted { λ r. ⌜ Within r (length (now (buffer .exit))) × NoFewer held r ⌝ }
+    ensures kept { λ r. ⌜ take held (now (buffer .exit)) ≡ take held (now (buffer .entry)) ⌝ }
 {
     let mut n = held;
     while n < buffer.len() {
@@ -78,12 +81,15 @@ pub fn read_split(buffer: &mut [u8; 65537]) -> Contents
 // Opens a file that is read as it goes, and hands back a descriptor, or -1.
 fn open_file(name: &[u8]) -> i32
     requires { ⌜ now name ≡ bytes "trace.txt" ⌝ }
+    ensures { λ r. ⌜ Descriptor r ⌝ }
 {
     retry::open(name)
 }
 
-// Opens the trace. It has no limit, and `fill` reads it part by part.
-pub fn open_trace() -> i32 {
+// Opens the trace, and hands back a descriptor, or -1. A trace has no limit, and `fill` reads it part by part.
+pub fn open_trace() -> i32
+    ensures { λ r. ⌜ Descriptor r ⌝ }
+{
     open_file(b"trace.txt")
 }
 

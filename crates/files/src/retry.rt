@@ -3,6 +3,7 @@
 ghost use Prim.Native.Nat.{_≤_};
 ghost use lib.ListN.{length};
 ghost use Rattle.libc.specs.Io.{Status};
+ghost use Rattle.files.specs.Files.{Descriptor};
 
 const TRIES: u32 = 1_000_000;
 
@@ -19,13 +20,25 @@ fn is_over(succeeded: bool) -> bool {
     error != libc::EAGAIN
 }
 
+// A descriptor, or -1: no contract of the kit says that a call which fails answers no other number below 0.
+fn descriptor(fd: i32) -> i32
+    ensures { λ r. ⌜ Descriptor r ⌝ }
+{
+    if fd < 0 {
+        return -1;
+    }
+    fd
+}
+
 // Opens a file for reading, and hands back a descriptor, or -1.
-pub fn open(name: &[u8]) -> i32 {
+pub(crate) fn open(name: &[u8]) -> i32
+    ensures { λ r. ⌜ Descriptor r ⌝ }
+{
     let mut tries = TRIES;
     while 0 < tries {
         let fd = os::open_read(name);
         if is_over(0 <= fd) {
-            return fd;
+            return descriptor(fd);
         }
         tries -= 1;
     }
@@ -33,12 +46,14 @@ pub fn open(name: &[u8]) -> i32 {
 }
 
 // Makes a file that is not there, open for writing, and hands back a descriptor, or -1.
-pub(crate) fn create(name: &[u8]) -> i32 {
+pub(crate) fn create(name: &[u8]) -> i32
+    ensures { λ r. ⌜ Descriptor r ⌝ }
+{
     let mut tries = TRIES;
     while 0 < tries {
         let fd = os::create(name);
         if is_over(0 <= fd) {
-            return fd;
+            return descriptor(fd);
         }
         tries -= 1;
     }

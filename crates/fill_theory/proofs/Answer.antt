@@ -132,7 +132,7 @@ module _ (room buffer : ℕ) (p s : List ℕ) where
 
   -- 41 and 42 decide once all that is judged before them is passed
   pub fillable-decides : (P : Program) (S : Split) → Fillable room p s P S → answered ≡ filledText buffer P S
-  unfolding workspaceSize programLimit splitLimit givenLimit typed typeClaims
+  unfolding workspaceSize programLimit splitLimit typed typeClaims
   fillable-decides P S F =
       locks-decide room buffer p s (F .enough) P S (well-formed-sheets Fill p s (F .judgeable .sheets)) (F .few)
       ∙ goes-on-bind _ _ (enough-taken S (F .judgeable .locks))

@@ -1,4 +1,4 @@
--- The limits of 42, each at its end and one past it. The tests compute, so that no proof repeats a limit.
+-- The limits of 42 and of 43, each at its end and one past it. The tests compute, so that no proof repeats a limit.
 use mathlib.Core.Path.{_≡_}
 use mathlib.Core.Bool.{true}
 use mathlib.Core.List.{List, [], _∷_}
@@ -9,11 +9,14 @@ use borrow.Author.Tests.{le-leb}
 use Rattle.spec.specs.Reading.{stop, on, _>>=_, demand}
 use Rattle.spec.specs.Program.{Program}
 use Rattle.spec.specs.Split.{Map, Split, splitLimit}
-use Rattle.spec.specs.declared.Refusal.the-variants.{TooLarge}
+use Rattle.spec.specs.Workspace.{workspaceSize}
+use Rattle.spec.specs.Verdict.{sheets, locksTakeEnough, startAtMostOne, typed}
+use Rattle.spec.specs.declared.Purpose.the-variants.{Fill}
+use Rattle.spec.specs.declared.Refusal.the-variants.{TooLarge, TooManyMaps}
 use Rattle.written.specs.Sheet.{written}
 use Rattle.fill_theory.specs.Filled.{filled}
 use Rattle.fill_theory.specs.GreatestMaps.{greatestMaps}
-use Rattle.fill_theory.specs.Answer.{numberLimit, mapAtMost, allAtMost, foundOr, filledText}
+use Rattle.fill_theory.specs.Answer.{givenLimit, numberLimit, mapAtMost, allAtMost, foundOr, filledText, fill}
 
 module _ (P : Program) (S : Split) (γ : List Map) (found : greatestMaps P S ≡ some γ) where
   -- in a buffer with room for more, a text of 65,536 bytes is written and one of 65,537 is not
@@ -37,3 +40,14 @@ module _ (P : Program) (S : Split) (γ : List Map) (found : greatestMaps P S ≡
   pub larger-refused : γ ≡ (1000000001 ∷ []) ∷ [] → (buffer : ℕ) → filledText buffer P S ≡ stop TooLarge
   unfolding filledText foundOr _>>=_ demand numberLimit mapAtMost allAtMost
   larger-refused e buffer = rw (found, e)
+
+-- 256 given maps are let through to what is judged behind 43, and 257 are not
+module _ (room buffer : ℕ) (p s : List ℕ) (enough : workspaceSize ≤ room) (P : Program) (S : Split) (reads : sheets Fill p s ≡ on (P, S)) where
+  pub most-given : S .header .maps ≡ 256
+      → fill room buffer p s ≡ (locksTakeEnough S >>= λ locks. startAtMostOne P S >>= λ whole. typed P S >>= λ typesHold. filledText buffer P S)
+  unfolding fill _>>=_ demand givenLimit
+  most-given e = rw (le-leb _ _ enough, reads, e)
+
+  pub more-refused : S .header .maps ≡ 257 → fill room buffer p s ≡ stop TooManyMaps
+  unfolding fill _>>=_ demand givenLimit
+  more-refused e = rw (le-leb _ _ enough, reads, e)

@@ -14,7 +14,7 @@ use Rattle.spec.specs.Workspace.{workspaceSize}
 use Rattle.spec.specs.Verdict.{sheets, locksTakeEnough, startAtMostOne, typed}
 use Rattle.spec.specs.declared.Purpose.the-variants.{Fill}
 use Rattle.spec.specs.declared.Refusal.{Refusal}
-use Rattle.spec.specs.declared.Refusal.the-variants.{ShortWorkspace, NoAfterMaps, TooLarge, TooManyMaps}
+use Rattle.spec.specs.declared.Refusal.the-variants.{ShortWorkspace, NoAfterMaps, TooLarge}
 use Rattle.written.specs.Sheet.{written}
 use Rattle.fill_theory.specs.Filled.{filled}
 use Rattle.fill_theory.specs.GreatestMaps.{greatestMaps}
@@ -58,11 +58,7 @@ module _ (room buffer : ℕ) (p s : List ℕ) where
     sheets-refused r e = rw (le-leb _ _ enough, e)
 
     module _ (P : Program) (S : Split) (reads : sheets Fill p s ≡ on (P, S)) where
-      pub many-maps : 256 < S .header .maps → answered ≡ stop TooManyMaps
-      unfolding fill demand _>>=_ workspaceSize givenLimit
-      many-maps h = rw (le-leb _ _ enough, reads, lt-leb _ _ h)
-
-      pub locks-decide : S .header .maps ≤ 256
+      pub locks-decide : S .header .maps ≤ givenLimit
           → answered ≡ (locksTakeEnough S >>= λ locks. startAtMostOne P S >>= λ whole. typed P S >>= λ typesHold. filledText buffer P S)
-      unfolding fill demand _>>=_ workspaceSize givenLimit
+      unfolding fill demand _>>=_ workspaceSize
       locks-decide few = rw (le-leb _ _ enough, reads, le-leb _ _ few)

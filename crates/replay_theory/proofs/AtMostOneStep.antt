@@ -137,7 +137,7 @@ numbers-alike m k (makes thing) E same = E .numbers
 word-injective : {w u : Redex} → atWord w ≡ atWord u → w ≡ u
 word-injective h = cc
 
-word-reduces : {r r′ : Run} {l : TraceLine} {d : Reduced} (A : LanguageStep r l d r′) → reduct (r .procedures) (r .state) (A .move) (A .thread) (d .word) ≡ some (r′ .state)
+pub word-reduces : {r r′ : Run} {l : TraceLine} {d : Reduced} (A : LanguageStep r l d r′) → reduct (r .procedures) (r .state) (A .move) (A .thread) (d .word) ≡ some (r′ .state)
 unfolding reduce
 word-reduces {r} A = bind-goes-on (wordOf (nextWord (A .thread .body))) _ (ap wordOf (A .next))
     (bind-goes-on (getElem? (r .state .threads) (A .move .thread)) _ (A .there) (A .reduces))

@@ -8,16 +8,15 @@ use native.Mathlib.Omega.{arith}
 use lib.ListN.{getElem?, length, take}
 use Rattle.spec.specs.Text.{Line}
 use Rattle.calculus.specs.Expression.{Program}
-use Rattle.calculus.proofs.Laws.Maps.{some-injective, none-is-not-some}
 use Rattle.replay_theory.specs.Trace.{TraceLine, traceLine}
 use Rattle.replay_theory.specs.Run.{Run, startRun, threadLimit, thingLimit, withinLimits, callLimit, callsWithin, within}
 use Rattle.replay_theory.specs.Replay.{way, returnedFor}
-use Rattle.replay_theory.specs.Claim.{runsAlong, Reduced, CallsRun, Within, StepDone, Stops, allDone, notALine, cannotStep, tooMany, Follows}
+use Rattle.replay_theory.specs.Claim.{runsAlong, Reduced, Within, StepDone, Stops, allDone, notALine, cannotStep, tooMany, Follows}
 use Rattle.replay_theory.specs.declared.Ending.{Ending}
 use Rattle.replay_theory.proofs.Proper.{Proper, start-is-proper, Stepped, step-taken, step-keeps-proper}
 use Rattle.replay_theory.proofs.Complete.{reduced, step-is-the-languages, no-step-exactly}
 use Rattle.replay_theory.proofs.Way.{Goes, isNoLine, isNoStep, isPastLimit, isStep, line-goes}
-use Rattle.replay_theory.proofs.Limits.{Booked, start-booked, step-booked, calls-run, within-is-told, past-is-told}
+use Rattle.replay_theory.proofs.Limits.{Booked, start-booked, step-booked, within-is-told, past-is-told}
 
 -- What the lines from here on come to: the runs so far are rs, by the steps ds, the last of them is r, and the next line is line k.
 record Onward (rs : List Run) (ds : List Reduced) (k : ℕ) (r : Run) (ls : List Line) (w : List Run × Ending) : Type 0 where
@@ -25,7 +24,6 @@ record Onward (rs : List Run) (ds : List Reduced) (k : ℕ) (r : Run) (ls : List
   counted : length steps ≡ length (w .0)
   each : (n : ℕ) → n < length steps → StepDone (r ∷ w .0) ls steps n
   within-each : (n : ℕ) → n ≤ length steps → Within (rs ++ take n (w .0)) (ds ++ take n steps)
-  runs-each : (n : ℕ) (x : Run) → getElem? (r ∷ w .0) n ≡ some x → CallsRun (rs ++ take n (w .0)) (ds ++ take n steps) x
   last : Run
   last-there : getElem? (r ∷ w .0) (length steps) ≡ some last
   stops : Stops (rs ++ w .0) (ds ++ steps) last (getElem? ls (length steps)) (k + length steps) (returnedFor (w .1))
@@ -33,14 +31,6 @@ record Onward (rs : List Run) (ds : List Reduced) (k : ℕ) (r : Run) (ls : List
 -- The same of equal runs and steps.
 same-within : {rs rs′ : List Run} {ds ds′ : List Reduced} → rs ≡ rs′ → ds ≡ ds′ → Within rs ds → Within rs′ ds′
 same-within {rs} {rs′} {ds} a b W = subst (Within rs′) b (subst (λ (xs : List Run). Within xs ds) a W)
-
-same-calls : {rs rs′ : List Run} {ds ds′ : List Reduced} (r : Run) → rs ≡ rs′ → ds ≡ ds′ → CallsRun rs ds r → CallsRun rs′ ds′ r
-same-calls {rs} {rs′} {ds} r a b C = subst (λ (xs : List Reduced). CallsRun rs′ xs r) b (subst (λ (xs : List Run). CallsRun xs ds r) a C)
-
--- The first run of those that are left.
-first-run : (rs : List Run) (ds : List Reduced) (r x : Run) → some r ≡ some x → CallsRun rs ds r → CallsRun (rs ++ []) (ds ++ []) x
-first-run rs ds r x is C =
-    subst (CallsRun (rs ++ []) (ds ++ [])) (some-injective is) (same-calls r (sym (append-nil rs)) (sym (append-nil ds)) C)
 
 same-stops : {rs rs′ : List Run} {ds ds′ : List Reduced} {k k′ : ℕ} (r : Run) (ls : List Line) (i : ℕ) (e : Ending) → rs ≡ rs′ → ds ≡ ds′ → k ≡ k′ →
     Stops rs ds r (getElem? ls i) k (returnedFor e) → Stops rs′ ds′ r (getElem? ls i) k′ (returnedFor e)
@@ -50,14 +40,13 @@ same-stops {rs} {rs′} {ds} {ds′} {k} {k′} r ls i e a b c s =
     (subst (λ (xs : List Run). Stops xs ds r (getElem? ls i) k (returnedFor e)) a s))
 
 -- They stop at once.
-here : {rs : List Run} {ds : List Reduced} {k : ℕ} {r : Run} {ls : List Line} {e : Ending} → Within rs ds → CallsRun rs ds r →
+here : {rs : List Run} {ds : List Reduced} {k : ℕ} {r : Run} {ls : List Line} {e : Ending} → Within rs ds →
     Stops rs ds r (getElem? ls 0) k (returnedFor e) → Onward rs ds k r ls ([], e)
-here {rs} {ds} {k} {r} {ls} {e} W C s = record {
+here {rs} {ds} {k} {r} {ls} {e} W s = record {
   steps = [];
   counted = refl;
   each = λ n l. absurd (omega (arith, l));
   within-each = λ n l. let none-left : 0 ≡ n = omega (arith, l) in subst (λ (m : ℕ). Within (rs ++ take m []) (ds ++ take m [])) none-left at-once;
-  runs-each = only;
   last = r;
   last-there = refl;
   stops = same-stops r ls 0 e (sym (append-nil rs)) (sym (append-nil ds)) (omega arith) s;
@@ -66,13 +55,9 @@ here {rs} {ds} {k} {r} {ls} {e} W C s = record {
     at-once : Within (rs ++ take 0 []) (ds ++ take 0 [])
     at-once = same-within (sym (append-nil rs)) (sym (append-nil ds)) W
 
-    only : (n : ℕ) (x : Run) → getElem? (r ∷ []) n ≡ some x → CallsRun (rs ++ take n []) (ds ++ take n []) x
-    only zero x is = first-run rs ds r x is C
-    only (suc n) x is = none-is-not-some is
-
 -- One step, and then they go on.
 module _ (rs : List Run) (ds : List Reduced) (k : ℕ) (r r′ : Run) (l : Line) (ls : List Line) (t : TraceLine) (shown : traceLine l ≡ some t)
-    (proper : Proper r) (S : Stepped r t r′) (W : Within rs ds) (C : CallsRun rs ds r) (w : List Run × Ending)
+    (proper : Proper r) (S : Stepped r t r′) (W : Within rs ds) (w : List Run × Ending)
     (O : Onward (rs ++ (r′ ∷ [])) (ds ++ (reduced S ∷ [])) (k + 1) r′ ls w) where
   each-done : (n : ℕ) → n < suc (length (O .steps)) → StepDone (r ∷ r′ ∷ w .0) (l ∷ ls) (reduced S ∷ O .steps) n
   each-done zero b = record {
@@ -109,18 +94,12 @@ module _ (rs : List Run) (ds : List Reduced) (k : ℕ) (r r′ : Run) (l : Line)
   within-all (suc n) b =
       same-within (append-assoc rs (r′ ∷ []) (take n (w .0))) (append-assoc ds (reduced S ∷ []) (take n (O .steps))) (O .within-each n (omega (arith, b)))
 
-  runs-all : (n : ℕ) (x : Run) → getElem? (r ∷ r′ ∷ w .0) n ≡ some x → CallsRun (rs ++ take n (r′ ∷ w .0)) (ds ++ take n (reduced S ∷ O .steps)) x
-  runs-all zero x is = first-run rs ds r x is C
-  runs-all (suc n) x is =
-      same-calls x (append-assoc rs (r′ ∷ []) (take n (w .0))) (append-assoc ds (reduced S ∷ []) (take n (O .steps))) (O .runs-each n x is)
-
   onward : Onward rs ds k r (l ∷ ls) (r′ ∷ w .0, w .1)
   onward = record {
     steps = reduced S ∷ O .steps;
     counted = ap suc (O .counted);
     each = each-done;
     within-each = within-all;
-    runs-each = runs-all;
     last = O .last;
     last-there = O .last-there;
     stops = same-stops (O .last) ls (length (O .steps)) (w .1) (append-assoc rs (r′ ∷ []) (w .0)) (append-assoc ds (reduced S ∷ []) (O .steps)) (omega arith)
@@ -130,26 +109,23 @@ module _ (rs : List Run) (ds : List Reduced) (k : ℕ) (r r′ : Run) (l : Line)
 way-onward : (ls : List Line) (rs : List Run) (ds : List Reduced) (k : ℕ) (r : Run) → Proper r → Booked rs ds r → Within rs ds →
     Onward rs ds k r ls (way k r ls)
 unfolding way returnedFor
-way-onward [] rs ds k r proper B W = here W (calls-run rs ds r proper B) allDone
+way-onward [] rs ds k r proper B W = here W allDone
 way-onward (l ∷ ls) rs ds k r proper B W = by-line _ (line-goes k r l (λ r′. way (k + 1) r′ ls)) (λ rs′ ds′ r′. way-onward ls rs′ ds′ (k + 1) r′)
   where
-    C : CallsRun rs ds r
-    C = calls-run rs ds r proper B
-
     by-line : (w : List Run × Ending) → Goes k r l (λ r′. way (k + 1) r′ ls) w →
         ((rs′ : List Run) (ds′ : List Reduced) (r′ : Run) → Proper r′ → Booked rs′ ds′ r′ → Within rs′ ds′ → Onward rs′ ds′ (k + 1) r′ ls (way (k + 1) r′ ls)) →
         Onward rs ds k r (l ∷ ls) w
-    by-line w (isNoLine q) later = here W C (notALine l q)
-    by-line w (isNoStep t q e) later = here W C (cannotStep l t q (no-step-exactly r t proper .0 e))
+    by-line w (isNoLine q) later = here W (notALine l q)
+    by-line w (isNoStep t q e) later = here W (cannotStep l t q (no-step-exactly r t proper .0 e))
     by-line w (isPastLimit t r′ q e b) later =
         let S = step-taken r r′ t e in
-        here W C (tooMany l t (reduced S) r′ q (step-is-the-languages S proper)
+        here W (tooMany l t (reduced S) r′ q (step-is-the-languages S proper)
         (past-is-told (rs ++ (r′ ∷ [])) (ds ++ (reduced S ∷ [])) r′ (step-booked rs ds S proper B) (step-keeps-proper r r′ t proper e) b))
     by-line w (isStep t r′ q e b) later =
         let S = step-taken r r′ t e in
         let B′ = step-booked rs ds S proper B in
         let W′ = within-is-told (rs ++ (r′ ∷ [])) (ds ++ (reduced S ∷ [])) r′ B′ b in
-        onward rs ds k r r′ l ls t q proper S W C (way (k + 1) r′ ls)
+        onward rs ds k r r′ l ls t q proper S W (way (k + 1) r′ ls)
         (later (rs ++ (r′ ∷ [])) (ds ++ (reduced S ∷ [])) r′ (step-keeps-proper r r′ t proper e) B′ W′)
 
 start-within : (p : Program) → within (startRun p) ≡ true
@@ -169,7 +145,6 @@ replay-follows p ls =
       runsCounted = refl;
       each = λ n b. O .each n (omega (arith, b, same));
       within = λ n b. O .within-each n (omega (arith, b, same));
-      callsRun = O .runs-each;
       last = O .last;
       lastThere = subst (λ (n : ℕ). getElem? (runsAlong start ls) n ≡ some (O .last)) same (O .last-there);
       stops = subst (λ (n : ℕ). Stops (runsAlong start ls) (O .steps) (O .last) (getElem? ls n) (suc n) (returnedFor (way 1 start ls .1))) same

@@ -14,7 +14,6 @@ pub mod Pairs
 pub mod Way
 pub mod ThreadCalls
 pub mod OpenCalls
-pub mod Running
 pub mod Limits
 pub mod Followed
 pub mod Answer
@@ -22,6 +21,7 @@ pub mod Reported
 pub mod AtLimits
 pub mod AtMostOneRace
 pub mod AtMostOneStep
+pub mod Running
 pub mod AtMostOneEnd
 pub mod SameCalls
 pub mod AtMostOneWay

@@ -1,4 +1,4 @@
--- What the books of a run count is what its steps have done, so `within` asks what the claim asks; and the open calls run.
+-- What the books of a run count is what its steps have done, so `within` asks what the claim asks.
 use Prim.Native.Nat.{ℕ, suc, _+_, _≤_}
 use mathlib.Core.Path.{_≡_, refl, sym, _∙_, ap, subst}
 use mathlib.Core.Bool.{true, false}
@@ -11,17 +11,15 @@ use Rattle.spec.proofs.Clashes.{true-is-not-false}
 use Rattle.spec.proofs.Tests.{both-true}
 use Rattle.calculus.specs.Expression.{choose, Program}
 use Rattle.calculus.specs.Reduction.{startState}
-use Rattle.calculus.specs.Claim.{Every}
 use Rattle.replay_theory.specs.Trace.{TraceLine}
 use Rattle.replay_theory.specs.Paths.{Path}
 use Rattle.replay_theory.specs.Run.{ObjectKind, cells, locks, rwlocks, semaphores, identifiers, sameKind, Run, startRun, Effect, plain, spawns, joins, opens, makes, sameEffect, effect, threadsAfter, oneMore, thingsAfter, after, threadLimit, thingLimit, withinLimits, callLimit, callsWithin, within}
-use Rattle.replay_theory.specs.Claim.{Reduced, openCallsOf, RunsAt, CallsRun, howMany, Within}
+use Rattle.replay_theory.specs.Claim.{Reduced, openCallsOf, howMany, Within}
 use Rattle.replay_theory.proofs.Proper.{Proper, Stepped}
 use Rattle.replay_theory.proofs.Complete.{reduced}
 use Rattle.replay_theory.proofs.Lists.{length-append}
-use Rattle.replay_theory.proofs.ThreadCalls.{callsFor, none-either-way, calls-there, few-for-each, few-in-all}
+use Rattle.replay_theory.proofs.ThreadCalls.{callsFor, none-either-way, few-for-each, few-in-all}
 use Rattle.replay_theory.proofs.OpenCalls.{step-keeps-open}
-use Rattle.replay_theory.proofs.Running.{AllRun, step-keeps-running, runs-there}
 
 -- ---- One step more
 
@@ -72,11 +70,10 @@ pub record Booked (rs : List Run) (ds : List Reduced) (r : Run) : Type 0 where
   pub threads : r .threads ≡ 1 + howMany spawns ds
   pub things : (k : ObjectKind) → r .things k ≡ howMany (makes k) ds
   pub calls : (i : ℕ) → callsFor i (r .numbers) (r .calls) ≡ openCallsOf i ds rs
-  pub running : AllRun (r .state .threads) (r .calls)
 
 pub start-booked : (p : Program) → Booked (startRun p ∷ []) [] (startRun p)
 unfolding startRun startState howMany openCallsOf callsFor
-start-booked p = record { counted = refl; threads = refl; things = λ k. refl; calls = λ i. none-either-way (eqb i 0); running = (tt, tt) }
+start-booked p = record { counted = refl; threads = refl; things = λ k. refl; calls = λ i. none-either-way (eqb i 0) }
 
 pub step-booked : {r r′ : Run} {l : TraceLine} (rs : List Run) (ds : List Reduced) (S : Stepped r l r′) → Proper r → Booked rs ds r →
     Booked (rs ++ (r′ ∷ [])) (ds ++ (reduced S ∷ [])) r′
@@ -94,14 +91,7 @@ step-booked {r} {r′} rs ds S proper B = record {
       let before = B .things k in
       sym (ap (λ (z : Run). z .things k) (S .is-after)) ∙ omega (arith, more, now-many, before);
   calls = λ i. step-keeps-open S proper ds rs (B .counted) i (B .calls i);
-  running = step-keeps-running S proper (B .running);
 }
-
-pub calls-run : (rs : List Run) (ds : List Reduced) (r : Run) → Proper r → Booked rs ds r → CallsRun rs ds r
-calls-run rs ds r proper B i place t there =
-    subst (Every (RunsAt (t .body))) (B .calls i)
-    (runs-there (r .state .threads) (r .calls) place t (callsFor i (r .numbers) (r .calls)) (B .running) (there .thread)
-    (calls-there 0 (r .threads) i place (r .numbers) (r .calls) (proper .rising) (proper .counted ∙ sym (proper .all-called)) (there .number)))
 
 -- ---- Limits
 

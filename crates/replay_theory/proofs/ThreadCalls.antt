@@ -36,6 +36,20 @@ callsFor i [] calls = []
 callsFor i (n ∷ ns) [] = []
 callsFor i (n ∷ ns) (ps ∷ calls) = if eqb i n then ps else callsFor i ns calls
 
+orNone : Option (List Path) → List Path
+orNone none = []
+orNone (some ps) = ps
+
+calls-looked : (i : ℕ) (ns : List ℕ) (calls : List (List Path)) → callsFor i ns calls ≡ orNone (lookUp i ns calls)
+unfolding callsFor lookUp orNone
+calls-looked i [] calls = refl
+calls-looked i (n ∷ ns) [] = refl
+calls-looked i (n ∷ ns) (ps ∷ calls) = by-cases (eqb i n) (calls-looked i ns calls)
+  where
+    by-cases : (b : Bool) → callsFor i ns calls ≡ orNone (lookUp i ns calls) → (if b then ps else callsFor i ns calls) ≡ orNone (if b then some ps else lookUp i ns calls)
+    by-cases true later = refl
+    by-cases false later = later
+
 -- of these calls, those that are open in a thread
 unfoldable pub openFor : Option Thread → List Path → List Path
 openFor none ps = []
@@ -85,24 +99,22 @@ pub none-either-way : (b : Bool) → _≡_ {A = List Path} (if b then [] else []
 none-either-way true = refl
 none-either-way false = refl
 
--- They stand at the place of the thread.
-pub calls-there : (low high i p : ℕ) (ns : List ℕ) (calls : List (List Path)) → Rising low ns high → length ns ≡ length calls → getElem? ns p ≡ some i →
-    getElem? calls p ≡ some (callsFor i ns calls)
-unfolding callsFor
-calls-there low high i p [] calls r h at = none-is-not-some at
-calls-there low high i p (n ∷ ns) [] r h at = absurd (omega (arith, h))
-calls-there low high i zero (n ∷ ns) (ps ∷ calls) r h at = by-cases (eqb i n) (eq-eqb i n (sym (some-injective at)))
+-- What stands at the place of the thread.
+pub looked-at : {A : Type 0} {x : A} (low high i p : ℕ) (ns : List ℕ) (xs : List A) → Rising low ns high → getElem? ns p ≡ some i → getElem? xs p ≡ some x →
+    lookUp i ns xs ≡ some x
+unfolding lookUp
+looked-at low high i p [] xs r h k = none-is-not-some h
+looked-at low high i p (n ∷ ns) [] r h k = none-is-not-some k
+looked-at {x = x} low high i zero (n ∷ ns) (y ∷ xs) r h k = by-cases (eqb i n) (eq-eqb i n (sym (some-injective h)))
   where
-    by-cases : (b : Bool) → b ≡ true → some ps ≡ some (if b then ps else callsFor i ns calls)
-    by-cases true is = refl
+    by-cases : (b : Bool) → b ≡ true → (if b then some y else lookUp i ns xs) ≡ some x
+    by-cases true is = k
     by-cases false is = true-is-not-false (sym is)
-calls-there low high i (suc p) (n ∷ ns) (ps ∷ calls) r h at =
-    by-cases (eqb i n) refl (calls-there (suc n) high i p ns calls (r .1) (omega (arith, h)) at)
+looked-at {x = x} low high i (suc p) (n ∷ ns) (y ∷ xs) r h k = by-cases (eqb i n) refl (looked-at (suc n) high i p ns xs (r .1) h k)
   where
-    by-cases : (b : Bool) → eqb i n ≡ b → getElem? calls p ≡ some (callsFor i ns calls) →
-        getElem? calls p ≡ some (if b then ps else callsFor i ns calls)
+    by-cases : (b : Bool) → eqb i n ≡ b → lookUp i ns xs ≡ some x → (if b then some y else lookUp i ns xs) ≡ some x
     by-cases true is later =
-        let above = rising-above (suc n) high ns p i (r .1) at in let same = eqb-true i n is in absurd (omega (arith, above, same))
+        let above = rising-above (suc n) high ns p i (r .1) h in let same = eqb-true i n is in absurd (omega (arith, above, same))
     by-cases false is later = later
 
 -- ---- What a step does to the calls of thread i
@@ -171,30 +183,34 @@ taken-looked i j p q (n ∷ ns) (ps ∷ calls) h at =
     by-cases false is z later = later-place (placeOf j ns) z is refl later
 
 -- Without the thread at place f, of those that are left.
-left-looked : {t : Thread} (low high i f : ℕ) (ns : List ℕ) (ts : List Thread) (calls : List (List Path)) → Rising low ns high →
-    lookUp i (remove ns f) ts ≡ some t → callsFor i (remove ns f) (remove calls f) ≡ callsFor i ns calls
-unfolding lookUp callsFor
-left-looked low high i f [] ts calls r h = none-is-not-some h
-left-looked low high i zero (n ∷ ns) ts [] r h = nothing ns
+pub left-looked : {A B : Type 0} {b : B} (low high i f : ℕ) (ns : List ℕ) (ys : List B) (xs : List A) → Rising low ns high →
+    lookUp i (remove ns f) ys ≡ some b → lookUp i (remove ns f) (remove xs f) ≡ lookUp i ns xs
+unfolding lookUp
+left-looked low high i f [] ys xs r h = none-is-not-some h
+left-looked {A = A} low high i zero (n ∷ ns) ys [] r h = nothing ns
   where
-    nothing : (ms : List ℕ) → callsFor i ms [] ≡ []
+    nothing : (ms : List ℕ) → lookUp {A = A} i ms [] ≡ none
     nothing [] = refl
     nothing (m ∷ ms) = refl
-left-looked low high i zero (n ∷ ns) ts (ps ∷ calls) r h = by-cases (eqb i n) refl
+left-looked low high i zero (n ∷ ns) ys (x ∷ xs) r h = by-cases (eqb i n) refl
   where
-    by-cases : (b : Bool) → eqb i n ≡ b → callsFor i ns calls ≡ (if b then ps else callsFor i ns calls)
-    by-cases true is = let same = eqb-true i n is in let above = looked-above (suc n) high i ns ts (r .1) h in absurd (omega (arith, same, above))
+    by-cases : (b : Bool) → eqb i n ≡ b → lookUp i ns xs ≡ (if b then some x else lookUp i ns xs)
+    by-cases true is = let same = eqb-true i n is in let above = looked-above (suc n) high i ns ys (r .1) h in absurd (omega (arith, same, above))
     by-cases false is = refl
-left-looked low high i (suc f) (n ∷ ns) [] calls r h = none-is-not-some h
-left-looked low high i (suc f) (n ∷ ns) (t ∷ ts) [] r h = refl
-left-looked low high i (suc f) (n ∷ ns) (t ∷ ts) (ps ∷ calls) r h =
-    by-cases (eqb i n) h (left-looked (suc n) high i f ns ts calls (r .1))
+left-looked low high i (suc f) (n ∷ ns) [] xs r h = none-is-not-some h
+left-looked low high i (suc f) (n ∷ ns) (y ∷ ys) [] r h = refl
+left-looked {b = z} low high i (suc f) (n ∷ ns) (y ∷ ys) (x ∷ xs) r h = by-cases (eqb i n) h (left-looked (suc n) high i f ns ys xs (r .1))
   where
-    by-cases : {u : Thread} (b : Bool) → (if b then some t else lookUp i (remove ns f) ts) ≡ some u →
-        (lookUp i (remove ns f) ts ≡ some u → callsFor i (remove ns f) (remove calls f) ≡ callsFor i ns calls) →
-        (if b then ps else callsFor i (remove ns f) (remove calls f)) ≡ (if b then ps else callsFor i ns calls)
-    by-cases true z later = refl
-    by-cases false z later = later z
+    by-cases : (b : Bool) → (if b then some y else lookUp i (remove ns f) ys) ≡ some z →
+        (lookUp i (remove ns f) ys ≡ some z → lookUp i (remove ns f) (remove xs f) ≡ lookUp i ns xs) →
+        (if b then some x else lookUp i (remove ns f) (remove xs f)) ≡ (if b then some x else lookUp i ns xs)
+    by-cases true k later = refl
+    by-cases false k later = later k
+
+calls-left : {t : Thread} (high i f : ℕ) (ns : List ℕ) (ts : List Thread) (calls : List (List Path)) → Rising 0 ns high →
+    lookUp i (remove ns f) ts ≡ some t → callsFor i (remove ns f) (remove calls f) ≡ callsFor i ns calls
+calls-left high i f ns ts calls r is =
+    calls-looked i (remove ns f) (remove calls f) ∙ ap orNone (left-looked 0 high i f ns ts calls r is) ∙ sym (calls-looked i ns calls)
 
 joined-looked : (high i f : ℕ) (ns : List ℕ) (ts : List Thread) (calls : List (List Path)) → Rising 0 ns high →
     openFor (lookUp i (remove ns f) ts) (callsFor i (remove ns f) (remove calls f)) ≡ openFor (lookUp i (remove ns f) ts) (callsFor i ns calls)
@@ -204,7 +220,7 @@ joined-looked high i f ns ts calls r = by-cases (lookUp i (remove ns f) ts) refl
     by-cases : (o : Option Thread) → lookUp i (remove ns f) ts ≡ o →
         openFor o (callsFor i (remove ns f) (remove calls f)) ≡ openFor o (callsFor i ns calls)
     by-cases none is = refl
-    by-cases (some t) is = ap (openFor (some t)) (left-looked 0 high i f ns ts calls r is)
+    by-cases (some t) is = ap (openFor (some t)) (calls-left high i f ns ts calls r is)
 
 unfoldable pub isCall : Effect → Bool → Bool
 isCall e b = choose (sameEffect sameKind e opens) b false

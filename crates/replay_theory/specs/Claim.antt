@@ -4,7 +4,6 @@
 -- threads' numbers and how many threads there have been, and they say how each goes on. They are proved in proofs/Followed, proofs/Calls and
 -- proofs/Reported, and fit one report, one answer and one list of runs alone (Exact). Three parts are implied by the others of their record and
 -- are told for the reader: `running` and `putsBody` of a step (proofs/Implied), `races` of the first race (`told-is-race`, proofs/AtMostOneRace).
--- `callsRun` is proved of the runs of a replay (`calls-run`, proofs/Limits); that it follows from the other parts of `Follows` is not shown.
 use Prim.Native.Nat.{ℕ, suc, _+_, _≤_, _<_}
 use mathlib.Core.Path.{_≡_}
 use mathlib.Core.Bool.{Bool, true, false, _&&_}
@@ -121,17 +120,10 @@ pub record Runs (e : Exp) (p : Path) (d : Exp) : Type 0 where
   pub next : nextWord e ≡ nextWord d
   pub path : nextPath e ≡ p ++ nextPath d
 
-abbrev pub RunsAt : Exp → Path → Type 0
-RunsAt e p = (d : Exp) × Runs e p d
-
 -- Then, when b takes the place of the next word, d with b in it stands there, and unless that is a value, it is what runs.
 abbrev pub BodyGoesOn : Type 0
 BodyGoesOn = (b e : Exp) (p : Path) (d : Exp) (w : Redex) → nextWord e ≡ atWord w → Runs e p d →
     (partAt p (plug e b) ≡ some (plug d b)) × (hasFinished (nextWord (plug d b)) ≡ false → Runs (plug e b) p (plug d b))
-
--- What a thread does next, in the last of the runs, the body of each of its open calls does.
-abbrev pub CallsRun : List Run → List Reduced → Run → Type 0
-CallsRun rs ds r = (i place : ℕ) (t : Thread) → Numbered r i place t → Every (RunsAt (t .body)) (openCallsOf i ds rs)
 
 -- ------------------------------------------------------------------ its limits
 
@@ -172,15 +164,14 @@ pub data Stops (rs : List Run) (ds : List Reduced) (r : Run) : Option Line → (
   tooMany : {k : ℕ} (l : Line) (t : TraceLine) (d : Reduced) (r′ : Run) → traceLine l ≡ some t → LanguageStep r t d r′ →
       ¬ Within (rs ++ (r′ ∷ [])) (ds ++ (d ∷ [])) → Stops rs ds r (some l) k (lineNumbers 48 k)
 
--- "It then does exactly the language's step on each line and reports the steps done"; none of these passes a limit, all of them run the open
--- calls, and it stops behind them with that answer.
+-- "It then does exactly the language's step on each line and reports the steps done"; none of these passes a limit, and it stops behind them
+-- with that answer.
 pub record Follows (rs : List Run) (ls : List Line) (steps : ℕ) (answer : Numbers) : Type 0 where
   pub reduced : List Reduced
   pub reducedCounted : length reduced ≡ steps
   pub runsCounted : length rs ≡ suc steps
   pub each : (n : ℕ) → n < steps → StepDone rs ls reduced n
   pub within : (n : ℕ) → n ≤ steps → Within (take (suc n) rs) (take n reduced)
-  pub callsRun : (n : ℕ) (r : Run) → getElem? rs n ≡ some r → CallsRun (take (suc n) rs) (take n reduced) r
   pub last : Run
   pub lastThere : getElem? rs steps ≡ some last
   pub stops : Stops rs reduced last (getElem? ls steps) (suc steps) answer

@@ -1,15 +1,18 @@
 -- That the claims are exact: at most one report fits given runs; one count of steps and one answer; and for a program and a trace one list of
--- runs. That what is handed back fits is claimed of every replay (Claim). These are proved in proofs/AtMostOneRace, AtMostOneEnd, AtMostOneStep
--- and AtMostOneWay.
-use Prim.Native.Nat.{ℕ, _<_}
+-- runs, in which the calls that count as open are those that run. That what is handed back fits is claimed of every replay (Claim). These are
+-- proved in proofs/AtMostOneRace, AtMostOneEnd, AtMostOneStep, AtMostOneWay and Running.
+use Prim.Native.Nat.{ℕ, suc, _<_}
 use mathlib.Core.Path.{_≡_}
 use mathlib.Core.List.{List}
 use mathlib.Core.Option.{some}
-use lib.ListN.{getElem?, length}
+use lib.ListN.{getElem?, length, take}
 use Rattle.spec.specs.Text.{Line}
-use Rattle.calculus.specs.Expression.{Program}
+use Rattle.calculus.specs.Expression.{Exp, Program}
+use Rattle.calculus.specs.State.{Thread}
+use Rattle.calculus.specs.Claim.{Every}
+use Rattle.replay_theory.specs.Paths.{Path}
 use Rattle.replay_theory.specs.Run.{ObjectKind, Run, startRun, makes, effect}
-use Rattle.replay_theory.specs.Claim.{LowestFinished, Follows, RaceTold}
+use Rattle.replay_theory.specs.Claim.{Numbered, LowestFinished, openCallsOf, Runs, Follows, RaceTold}
 use Rattle.replay_theory.specs.declared.FirstRace.{FirstRace}
 use Rattle.replay_theory.specs.declared.Numbers.{Numbers}
 
@@ -56,3 +59,15 @@ module _ {rs ss : List Run} {ls : List Line} {m n : ℕ} {a b : Numbers} (F : Fo
 abbrev pub OneWay : Type 0
 OneWay = (p : Program) (rs ss : List Run) (ls : List Line) (m n : ℕ) (a b : Numbers) → getElem? rs 0 ≡ some (startRun p) → getElem? ss 0 ≡ some (startRun p) →
     (F : Follows rs ls m a) (G : Follows ss ls n b) → SameNames F G → SameWay F G
+
+-- ------------------------------------------------------------------ its open calls
+
+-- Something that stands at the path p in e runs.
+abbrev pub RunsAt : Exp → Path → Type 0
+RunsAt e p = (d : Exp) × Runs e p d
+
+-- What a thread does next, in any of these runs, the body of each of its open calls does.
+abbrev pub OpenCallsRun : Type 0
+OpenCallsRun = (p : Program) (rs : List Run) (ls : List Line) (m : ℕ) (a : Numbers) → getElem? rs 0 ≡ some (startRun p) → (F : Follows rs ls m a) →
+    (n : ℕ) (r : Run) → getElem? rs n ≡ some r → (i place : ℕ) (t : Thread) → Numbered r i place t →
+    Every (RunsAt (t .body)) (openCallsOf i (take n (F .reduced)) (take (suc n) rs))

@@ -33,6 +33,21 @@ loop-again c =
       at-take .take-in .ensures .1,
     )
 
+-- behind the lines of a full buffer that has no room left
+same-length-5 : tie.Need-same-length-5 Inv-loop μ-loop
+same-length-5 c =
+    let at-take = c .before .before .before .before .before .before .before .before .before .before .before in
+    let here = at-take .before .before .before .before .before .before .before .before .before .before .before .before in
+    let long = c .before .before .rest2 .kept .1 .0 ∙ at-take .take-in .kept .1 .0 ∙ here .loop .inv .0 in
+    search needs
+
+same-length-6 : tie.Need-same-length-6 Inv-loop μ-loop
+same-length-6 c =
+    let at-take = c .before .before .before .before .before .before .before .before .before .before .before in
+    let at-fill = at-take .before .before .before .before .before .before .before .before .before in
+    let long = at-take .take-in .kept .1 .1 .1 .0 ∙ at-fill .fill .kept .1 .0 ∙ at-fill .before .before .before .loop .inv .1 in
+    search needs
+
 pub replay-through-spec : {M : Type 1} → statement M
 replay-through-spec =
     tie.close
@@ -54,8 +69,8 @@ replay-through-spec =
     (λ c. search needs)
     (λ c κs. search needs)
     (λ c κs. search needs)
-    (λ c. search needs)
-    (λ c. search needs)
+    same-length-5
+    same-length-6
     (λ c. search needs)
     (λ c. search needs)
     (λ c. search needs)

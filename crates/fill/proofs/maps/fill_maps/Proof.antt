@@ -58,7 +58,8 @@ show-maps-requires c κs =
     let at-loop = c .before .before .before .before in
     let (at-most, Z) = at-loop .loop .inv in
     let G = at-loop .before .before .pre in
-    (Z .behind .long ∙ G .sheets .long, G .sheets .few, G .fewMaps)
+    let few = G .sheets .few in
+    (Z .behind .long ∙ G .sheets .long, omega (arith, few), G .fewMaps)
 
 returns-3 : tie.Need-returns-3 Inv-loop μ-loop
 returns-3 c =
