@@ -36,7 +36,7 @@ fn main() -> ExitCode {
     }
     rows::fill("full sheet of 256 maps, filled", &pairs::fullest_to_fill());
     rows::fill("16 procedures, 256 steps, filled", &called.to_fill());
-    rows::drill("31 readers, drilled", seed_of_most_readers());
+    rows::drill("31 readers, drilled", pairs::seed_of_most_readers());
     replays::rows();
     ExitCode::SUCCESS
 }
@@ -54,9 +54,4 @@ fn growth(what: &str, counts: [usize; 5], pair: impl Fn(usize) -> Pair) {
     for count in counts {
         before = rows::check(&format!("{count} {what}"), &pair(count), before);
     }
-}
-
-/// The first seed with 31 readers, the most.
-fn seed_of_most_readers() -> u32 {
-    (0..).find(|&seed| evidence::drill::readers(evidence::drill::draw(seed)) == 31).expect("some seed has them")
 }

@@ -2,14 +2,15 @@
 //! line `WHO CALL TEXTS [COUNT]` for each call.
 //!
 //! WHO is `product`, `second`, `plain` or, as a control, `squared`, whose cost grows with the square of the steps.
-//! CALL is `check`, `fill` or `replay`. TEXTS names a pair of the benchmark, or what there are COUNT of in a pair
-//! that is made to cost much; for a replay it is `lines`.
+//! CALL is `check`, `fill`, `drill` or `replay`. TEXTS names a pair of the benchmark, or what there are COUNT of in a
+//! pair that is made to cost much; for a drill it is `most-readers`, for a replay `lines`.
 
 use bench::grown::Counts;
 use bench::pairs::{self, Pair};
 use bench::{plain, SECOND};
-use evidence::answer::{REPLAY_SPACE, SPLIT_BYTES, WORK_SPACE};
+use evidence::answer::{PROGRAM_BYTES, REPLAY_SPACE, SPLIT_BYTES, WORK_SPACE};
 use evidence::checking::Checker;
+use evidence::drill::{self, Driller};
 use evidence::filling::{self, Filler};
 use evidence::replaying::Replayer;
 use evidence::{product, second};
@@ -50,7 +51,9 @@ fn asked(line: &str) -> Option<Call> {
     let count = fields.next().map_or(Some(0), |count| count.parse().ok())?;
     match call {
         "check" => Some(check(checker(who)?, pair(texts, count)?)),
+        "fill" if texts == "full" => Some(fill(filler(who)?, pairs::fullest_to_fill())),
         "fill" => Some(fill(filler(who)?, pair(texts, count)?.to_fill())),
+        "drill" if texts == "most-readers" => Some(drill(driller(who)?)),
         "replay" if texts == "lines" => Some(replay(replayer(who)?, count)),
         _ => None,
     }
@@ -91,6 +94,14 @@ fn filler(who: &str) -> Option<Filler> {
     }
 }
 
+fn driller(who: &str) -> Option<Driller> {
+    match who {
+        "product" => product::DRILL,
+        "second" => Some(drill::drill),
+        _ => None,
+    }
+}
+
 fn replayer(who: &str) -> Option<Replayer> {
     match who {
         "product" => product::REPLAY,
@@ -107,6 +118,12 @@ fn check(checker: Checker, Pair { program, split }: Pair) -> Call {
 fn fill(filler: Filler, Pair { program, split }: Pair) -> Call {
     let (mut work, mut out) = (vec![0; WORK_SPACE], vec![0; SPLIT_BYTES]);
     Box::new(move || filler(&program, &split, &mut work, &mut out).number)
+}
+
+fn drill(driller: Driller) -> Call {
+    let seed = pairs::seed_of_most_readers();
+    let (mut program, mut split) = (vec![0; PROGRAM_BYTES], vec![0; SPLIT_BYTES]);
+    Box::new(move || driller(seed, &mut program, &mut split).number)
 }
 
 /// A thread that goes round a loop and calls a procedure each time, which writes a cell. All its choices are 0.

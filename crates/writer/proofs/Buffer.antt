@@ -7,7 +7,7 @@ use native.Mathlib.Nat.{add-zero, zero-add, add-suc, suc-add}
 use native.Mathlib.Omega.{arith}
 use lib.Dec.{leb}
 use lib.ListN.{length, set, drop, length-set, length-append}
-use lib.Seq.{sets, sets-eq, set-out}
+use lib.Seq.{sets, sets-eq, set-out, set-comm}
 use borrow.Author.Tests.{leb-true, leb-false}
 use Rattle.writer.specs.Buffer.{overwrite, counted, Written}
 
@@ -37,6 +37,13 @@ pub overwrite-past : (d : List ℕ) (at : ℕ) (s : List ℕ) → length d ≤ a
 unfolding overwrite
 overwrite-past d at [] h = refl
 overwrite-past d at (b ∷ s) h = rw (set-out d at b h) (overwrite-past d (suc at) s (omega arith))
+
+-- a byte behind a text may be put in front of it in time
+pub overwrite-behind : (d : List ℕ) (at : ℕ) (s : List ℕ) (p b : ℕ) → at + length s ≤ p → overwrite (set d p b) at s ≡ set (overwrite d at s) p b
+unfolding overwrite
+overwrite-behind d at [] p b h = refl
+overwrite-behind d at (c ∷ s) p b h =
+    rw (set-comm d p at b c (λ e. omega arith)) (overwrite-behind (set d at c) (suc at) s p b (omega arith))
 
 -- a place that is counted is as good as the place itself
 overwrite-counted : (d : List ℕ) (at : ℕ) (s : List ℕ) → length d < 18446744073709551616 → overwrite d (counted at) s ≡ overwrite d at s
