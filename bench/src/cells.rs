@@ -31,6 +31,6 @@ pub fn number(number: Option<f64>, places: usize) -> String {
     let Some(number) = number else { return String::new() };
     let digits = format!("{number:.places$}");
     let whole = digits.find('.').unwrap_or(digits.len());
-    let comma = |place: usize| if place > 0 && place < whole && (whole - place) % 3 == 0 { "," } else { "" };
+    let comma = |place: usize| if place > 0 && place < whole && (whole - place).is_multiple_of(3) { "," } else { "" };
     digits.char_indices().map(|(place, digit)| format!("{}{digit}", comma(place))).collect()
 }

@@ -12,9 +12,12 @@ pub struct Check {
     pub doubled: bool,
 }
 
+/// A row that is no row before with more of something.
+type Alone = (&'static str, fn() -> Pair);
+
 /// Every check, made when it is asked for.
 pub fn checks() -> impl Iterator<Item = Check> {
-    let alone: [(&str, fn() -> Pair); 5] = [
+    let alone: [Alone; 5] = [
         ("small, Figure 2 (b)", pairs::small),
         ("full, accepted", pairs::fullest),
         ("full, refused at its last condition", pairs::refused_last),

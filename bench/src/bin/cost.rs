@@ -23,8 +23,12 @@ use std::process::ExitCode;
 /// Those that make a call, where they are there.
 type Callers<F, const N: usize> = [(&'static str, Option<F>); N];
 
-const CHECKERS: Callers<Checker, 4> =
-    [("product", product::CHECK), ("second", Some(SECOND)), ("plain", Some(plain::check)), ("tuned", Some(tuned::check))];
+const CHECKERS: Callers<Checker, 4> = [
+    ("product", product::CHECK),
+    ("second", Some(SECOND)),
+    ("plain", Some(plain::check)),
+    ("tuned", Some(tuned::check)),
+];
 const FILLERS: Callers<Filler, 2> = [("product", product::FILL), ("second", Some(filling::SECOND))];
 const DRILLERS: Callers<Driller, 2> = [("product", product::DRILL), ("second", Some(drill::drill))];
 const REPLAYERS: Callers<Replayer, 2> = [

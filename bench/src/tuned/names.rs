@@ -1,24 +1,35 @@
-//! The words of both sheets, each told by its first eight bytes.
+//! The words of both sheets, each told by its bytes as numbers.
 
+use super::window::{halves, up_to_comma, Window};
 use crate::plain::types::Kind;
 use evidence::words::{Word, WORDS};
 
+/// A word with the comma behind it.
 #[derive(Clone, Copy)]
-pub struct Name<T> {
-    pub spelling: &'static [u8],
-    /// What `up_to_comma` gives where it stands.
-    first: u64,
-    pub told: T,
+struct Name<T> {
+    /// Its first eight bytes, and the others.
+    halves: [u64; 2],
+    length: usize,
+    told: T,
 }
 
-const fn name<T: Copy>(spelling: &'static [u8], told: T) -> Name<T> {
-    let mut first = [0; 8];
+const fn name<T: Copy>(spelling: &[u8], told: T) -> Name<T> {
+    let mut bytes = [[0; 8]; 2];
     let mut place = 0;
-    while place < 8 && place <= spelling.len() {
-        first[place] = if place < spelling.len() { spelling[place] } else { b',' };
+    while place < spelling.len() {
+        bytes[place / 8][place % 8] = spelling[place];
         place += 1;
     }
-    Name { spelling, first: u64::from_le_bytes(first), told }
+    bytes[place / 8][place % 8] = b',';
+    Name { halves: [u64::from_le_bytes(bytes[0]), u64::from_le_bytes(bytes[1])], length: place + 1, told }
+}
+
+impl<T: Copy> Name<T> {
+    /// What it says and its length, if it stands in the window, whose first eight bytes up to a comma are given.
+    fn stands(&self, window: &Window, first: u64) -> Option<(T, usize)> {
+        let stands = self.halves[0] == first && (self.length <= 8 || self.halves[1] == up_to_comma(halves(window)[1]));
+        stands.then_some((self.told, self.length))
+    }
 }
 
 /// The words of the program sheet, each in its place. A free place has the word `freelock`, whose own is elsewhere.
@@ -28,8 +39,11 @@ static WORD_NAMES: [Name<Option<Word>>; 64] = {
     let mut next = 0;
     while next < WORDS.len() {
         let word = name(WORDS[next].spelling().as_bytes(), Some(WORDS[next]));
-        let place = place_of(word.first);
-        assert!(names[place].told.is_none() && place != place_of(freelock.first), "each word has a place of its own");
+        let place = place_of(word.halves[0]);
+        assert!(
+            names[place].told.is_none() && place != place_of(freelock.halves[0]),
+            "each word has a place of its own"
+        );
         names[place] = word;
         next += 1;
     }
@@ -43,9 +57,10 @@ const fn place_of(first: u64) -> usize {
 /// One by which no two words fall on one place.
 const FACTOR: u64 = 0x8AFE_0D91_C585_7993;
 
-pub fn word(first: u64) -> Option<&'static Name<Option<Word>>> {
-    let name = &WORD_NAMES[place_of(first)];
-    (name.first == first).then_some(name)
+/// A word of the program sheet and the comma behind it: which it is, none for `freelock`, and how many bytes they are.
+pub fn word(window: &Window) -> Option<(Option<Word>, usize)> {
+    let first = up_to_comma(halves(window)[0]);
+    WORD_NAMES[place_of(first)].stands(window, first)
 }
 
 /// The words of type lines.
@@ -58,6 +73,8 @@ static KIND_NAMES: [Name<Kind>; 6] = [
     name(b"rwlock", Kind::Rwlock),
 ];
 
-pub fn kind(first: u64) -> Option<&'static Name<Kind>> {
-    KIND_NAMES.iter().find(|name| name.first == first)
+/// The same of a type line.
+pub fn kind(window: &Window) -> Option<(Kind, usize)> {
+    let first = up_to_comma(halves(window)[0]);
+    KIND_NAMES.iter().find_map(|name| name.stands(window, first))
 }

@@ -1,13 +1,16 @@
 //! Fields read eight bytes at once beside fields read byte by byte.
 
-use super::Eights;
+use super::Rest;
 use crate::plain::bytes::Bytes;
 use crate::plain::text::Fields;
 use evidence::words::WORDS;
 
-/// What each way to take a field gives, and what comes next where it gives something.
-fn taken<'a, F: Fields<'a>>(sheet: &'a [u8]) -> [Option<(Option<u32>, bool, Option<()>)>; 5] {
-    let ways: [fn(&mut F) -> Option<Option<u32>>; 5] = [
+/// A way to take a field, and what each way gives, with what comes next where it gives something.
+type Way<F> = fn(&mut F) -> Option<Option<u32>>;
+type Taken = [Option<(Option<u32>, bool, Option<()>)>; 5];
+
+fn taken<'a, F: Fields<'a>>(sheet: &'a [u8]) -> Taken {
+    let ways: [Way<F>; 5] = [
         |fields| Some(fields.word()?.map(|word| word as u32)),
         |fields| Some(Some(fields.kind()? as u32)),
         |fields| fields.field(b',').map(Some),
@@ -20,22 +23,24 @@ fn taken<'a, F: Fields<'a>>(sheet: &'a [u8]) -> [Option<(Option<u32>, bool, Opti
     })
 }
 
-/// Both readers take the same where these bytes come first, then any byte at all, then `rest`.
-fn alike(front: &str, rest: &str) {
-    for byte in 0..=u8::MAX {
-        let sheet = [front.as_bytes(), &[byte], rest.as_bytes()].concat();
-        assert_eq!(taken::<Eights>(&sheet), taken::<Bytes>(&sheet), "{}", sheet.escape_ascii());
+/// Both readers take the same where these bytes come first, then any byte at all, then one of the rests.
+fn alike(front: &str, rests: &[&str]) {
+    for rest in rests {
+        for byte in 0..=u8::MAX {
+            let sheet = [front.as_bytes(), &[byte], rest.as_bytes()].concat();
+            assert_eq!(taken::<Rest>(&sheet), taken::<Bytes>(&sheet), "{}", sheet.escape_ascii());
+        }
     }
 }
 
-/// The sheet ends behind the byte, or within eight bytes of it, or further on.
-const RESTS: [&str; 4] = ["", "1", ",12", "12345678,"];
+/// The sheet ends behind that byte, or within sixteen bytes, or further on.
+const RESTS: [&str; 4] = ["", "1", ",12", "123456789012345,"];
 
 #[test]
 fn numerals_of_every_length() {
     for digits in ["102030405060", "000000000000", "999999999999"] {
         for length in 0..digits.len() {
-            RESTS.map(|rest| alike(&digits[..length], rest));
+            alike(&digits[..length], &RESTS);
         }
     }
 }
@@ -45,9 +50,9 @@ fn words_cut_or_misspelled_in_every_place() {
     let kinds = ["freelock", "tid", "sem", "rwlock"];
     for word in WORDS.map(|word| word.spelling()).into_iter().chain(kinds) {
         for cut in 0..word.len() {
-            RESTS.map(|rest| alike(&word[..cut], rest));
-            alike(&word[..cut], &format!("{},1", &word[cut + 1..]));
+            alike(&word[..cut], &RESTS);
+            alike(&word[..cut], &[&format!("{},1", &word[cut + 1..])]);
         }
-        RESTS.map(|rest| alike(word, rest));
+        alike(word, &RESTS);
     }
 }
