@@ -31,5 +31,10 @@ init
     d_step { cell = 1; writing = false }
 }
 
-/* A race: two threads are about to touch the cell, one of them to write it. */
-ltl no_race { [] !(writing && reading > 0) }
+/* Asked of every state: a race is that two threads are about to touch the cell, one of them to write it. */
+never no_race
+{
+    do
+    :: assert(!(writing && reading > 0))
+    od
+}
