@@ -1,3 +1,0 @@
-//! A program that does nothing: what it costs to start any program.
-
-fn main() {}
