@@ -20,6 +20,7 @@ pub fn field(window: &Window, behind: u8) -> Option<(u32, usize)> {
     if window[1] == behind && window[0].is_ascii_digit() {
         return Some((u32::from(window[0] - b'0'), 2));
     }
+    // What is left begins with another digit than 0.
     if !matches!(window[0], b'1'..=b'9') {
         return None;
     }
@@ -46,7 +47,7 @@ fn eight_or_more(window: &Window, first_eight: u64) -> (u64, usize) {
     (value, length)
 }
 
-/// The highest bit of the first of eight bytes that is no digit, and none below it.
+/// Sets the highest bit of the first of eight bytes that is no digit, and none below it; gives 0 if all are digits.
 fn no_digits(bytes: u64) -> u64 {
     let offsets = bytes ^ each(b'0');
     // With 0x76 more the highest bit of an offset of 10 or more is set. What is carried goes to bytes behind it.
@@ -65,7 +66,7 @@ fn value(bytes: u64, count: usize) -> u64 {
 /// Eight bytes up to the first comma and the comma; all of them if there is none.
 pub fn up_to_comma(bytes: u64) -> u64 {
     let apart = bytes ^ each(b',');
-    // The highest bit of the first byte that is 0 is set, and none below it.
+    // Sets the highest bit of the first byte that is 0, and none below it.
     let comma = apart.wrapping_sub(each(1)) & !apart & each(0x80);
     bytes & (comma ^ comma.wrapping_sub(1))
 }
