@@ -1,6 +1,6 @@
-//! What holds before anything is timed: the product and the plain checker answer alike.
+//! What holds before anything is timed: the product, the plain checker and the tuned one answer alike.
 
-use bench::plain;
+use bench::{plain, tuned};
 use evidence::answer::WORK_SPACE;
 use evidence::checking::{Checker, WorkSpace};
 use evidence::series::SEED;
@@ -8,15 +8,16 @@ use evidence::{draw, known};
 
 const DRAWN: u64 = 5_000;
 
-/// Holds the product against the plain checker on the known pairs and the first drawn ones: the four numbers, and
-/// the work space afterwards.
+/// Holds the product against both checkers on the known pairs and the first drawn ones: the four numbers, and the
+/// work space afterwards.
 pub fn agree(product: Checker) -> Result<(), String> {
     let mut work = WorkSpace::default();
     let mut alike = |program: &[u8], split: &[u8], room| {
-        let [product, plain] = [product, plain::check].map(|checker| work.check(checker, program, split, room));
-        match product == plain {
+        let checkers = [product, plain::check, tuned::check];
+        let [product, plain, tuned] = checkers.map(|checker| work.check(checker, program, split, room));
+        match product == plain && product == tuned {
             true => Ok(()),
-            false => Err(format!("product {product:?}, plain checker {plain:?}")),
+            false => Err(format!("product {product:?}, plain checker {plain:?}, tuned checker {tuned:?}")),
         }
     };
     for known in known::all() {

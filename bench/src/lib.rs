@@ -1,11 +1,16 @@
-//! What the product is compared with and on what: the plain checker, the second checker as the benchmark has it,
-//! and the pairs.
+//! What the product is compared with and on what: the plain checker, the tuned one, the second checker as the
+//! benchmark has it, the pairs and the traces.
 
 #![forbid(unsafe_code)]
 
 pub mod grown;
 pub mod pairs;
 pub mod plain;
+pub mod rows;
+#[cfg(test)]
+mod tests;
+pub mod traces;
+pub mod tuned;
 
 use evidence::answer::WORK_SPACE;
 use evidence::checking::Checker;

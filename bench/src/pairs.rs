@@ -9,7 +9,7 @@ use evidence::draw::unfilled::emptied::{emptied, maps, Kept};
 use evidence::draw::{full, unfilled};
 use evidence::types::Type;
 use evidence::words::Word;
-use evidence::{drill, known, second};
+use evidence::{known, second};
 
 pub struct Pair {
     pub program: Vec<u8>,
@@ -123,9 +123,4 @@ pub fn deepest() -> Pair {
         steps,
         procedures: None,
     })
-}
-
-/// The first seed of the drill with 31 readers, the most.
-pub fn seed_of_most_readers() -> u32 {
-    (0..).find(|&seed| drill::readers(drill::draw(seed)) == 31).expect("some seed has them")
 }

@@ -1,54 +1,65 @@
-//! One line of the benchmark: a text, and who is timed on it.
+//! The rows of the tables, with the titles that the page has: what is timed by the clock and counted in instructions.
 
-use crate::cells::{over, shown};
-use crate::timing::{best, Calls};
-use bench::pairs::Pair;
-use bench::{plain, SECOND};
-use evidence::{drill, filling, product};
+use crate::grown::Counts;
+use crate::pairs::{self, Pair};
+use evidence::drill::{draw, readers};
 
-pub fn heading() {
-    println!(
-        "{:38} {:>7} {:>9} {:>9} {:>9} {:>9} {:>9} {:>9} {:>9} {:>7}",
-        "pair", "bytes", "product", "second", "plain", "p/second", "p/plain", "plain/s", "per byte", "growth"
-    );
+/// A pair to check.
+pub struct Check {
+    pub title: String,
+    pub pair: Pair,
+    /// Whether it is the row before with one count doubled.
+    pub doubled: bool,
 }
 
-/// Times a check by all three; `before` is the product's time in the line above, and its own is returned.
-pub fn check(title: &str, pair: &Pair, before: Option<f64>) -> Option<f64> {
-    let times = best([product::CHECK, Some(SECOND), Some(plain::check)], |check, lent| {
-        check(&pair.program, &pair.split, &mut lent.work)
-    });
-    print(title, pair.bytes(), times, before);
-    times[0]
+/// A row that is no row before with more of something.
+type Alone = (&'static str, fn() -> Pair);
+
+/// Every check, made when it is asked for.
+pub fn checks() -> impl Iterator<Item = Check> {
+    let alone: [Alone; 5] = [
+        ("small, Figure 2 (b)", pairs::small),
+        ("full, accepted", pairs::fullest),
+        ("full, refused at its last condition", pairs::refused_last),
+        ("deepest types", pairs::deepest),
+        ("256 steps, 16 procedures", pairs::with_procedures),
+    ];
+    let alone = alone.into_iter();
+    alone
+        .map(|(title, pair)| Check { title: title.to_string(), pair: pair(), doubled: false })
+        .chain(doubling("steps", 16, |count| pairs::honest(count, 32, 4)))
+        .chain(doubling("maps", 32, |count| pairs::honest(32, count, 4)))
+        .chain(doubling("locations", 1, |count| pairs::honest(32, 256, count)))
+        .chain(doubling("types", 4, |count| grown("types", count)))
+        .chain(doubling("procedures", 1, |count| grown("procedures", count)))
 }
 
-/// Times a filling beside the second filler.
-pub fn fill(title: &str, pair: &Pair) {
-    let times = best([product::FILL, Some(filling::SECOND), None], |fill, lent| {
-        fill(&pair.program, &pair.split, &mut lent.work, &mut lent.split)
-    });
-    print(title, pair.bytes(), times, None);
+/// One count that doubles four times.
+fn doubling(what: &'static str, least: usize, pair: impl Fn(usize) -> Pair) -> impl Iterator<Item = Check> {
+    let titled = move |count| match count {
+        1 => format!("1 {}", what.trim_end_matches('s')),
+        _ => format!("{count} {what}"),
+    };
+    (0..5).map(move |times| {
+        let count = least << times;
+        Check { title: titled(count), pair: pair(count), doubled: times > 0 }
+    })
 }
 
-/// Times the drill of a seed beside the second drill. The bytes are those that it writes.
-pub fn drill(title: &str, seed: u32) {
-    let (program, split) = drill::sheets(drill::readers(drill::draw(seed)));
-    let times =
-        best([product::DRILL, Some(drill::drill), None], |drill, lent| drill(seed, &mut lent.program, &mut lent.split));
-    print(title, program.len() + split.len(), times, None);
+fn grown(what: &str, count: usize) -> Pair {
+    pairs::grown(Counts::with(what, count).expect("a count has a name"))
 }
 
-/// Prints a line of nanoseconds a call; `before` is the product's time in the line above.
-fn print(title: &str, bytes: usize, [product, second, plain]: Calls<f64>, before: Option<f64>) {
-    println!(
-        "{title:38} {bytes:7} {:>9} {:>9} {:>9} {:>9} {:>9} {:>9} {:>9} {:>7}",
-        shown(product, 0),
-        shown(second, 0),
-        shown(plain, 0),
-        shown(over(product, second), 2),
-        shown(over(product, plain), 2),
-        shown(over(plain, second), 2),
-        shown(over(product, Some(bytes as f64)), 3),
-        shown(over(product, before), 2),
-    );
+/// Sheets to be filled in.
+pub fn fillings() -> [(&'static str, Pair); 2] {
+    [
+        ("the full sheet of 256 maps, filled", pairs::fullest_to_fill()),
+        ("256 steps, 16 procedures, filled", pairs::with_procedures().to_fill()),
+    ]
+}
+
+/// The first seed with the most readers.
+pub fn drill() -> (&'static str, u32) {
+    let seed = (0..).find(|&seed| readers(draw(seed)) == 31);
+    ("31 readers, drilled", seed.expect("some seed has them"))
 }

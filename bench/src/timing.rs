@@ -23,14 +23,14 @@ impl Lent {
     }
 }
 
-/// The product's call, the second one and the plain one, as far as they are there.
-pub type Calls<F> = [Option<F>; 3];
-
-/// The best batch of each call, in nanoseconds a call. Each has its batch in turn, so that a busy machine slows
-/// all of them alike. They agree in what they answer and in what they leave behind.
-pub fn best<F: Copy, T: PartialEq>(calls: Calls<F>, run: impl Fn(F, &mut Lent) -> T) -> Calls<f64> {
+/// The best batch of each call that is there, in nanoseconds a call. Each has its batch in turn, so that a busy
+/// machine slows all of them alike. They agree in what they answer and in what they leave behind.
+pub fn best<F: Copy, T: PartialEq, const N: usize>(
+    calls: [Option<F>; N],
+    run: impl Fn(F, &mut Lent) -> T,
+) -> [Option<f64>; N] {
     let mut lent = calls.map(|_| Lent::new());
-    let mut best = [None; 3];
+    let mut best = [None; N];
     for _ in 0..BATCHES {
         for ((call, lent), best) in calls.iter().zip(&mut lent).zip(&mut best) {
             let Some(call) = *call else { continue };

@@ -21,7 +21,7 @@ macro_rules! words {
                 }
             }
 
-            pub fn spelling(self) -> &'static str {
+            pub const fn spelling(self) -> &'static str {
                 match self {
                     $(Word::$word => const { text($spelling) },)*
                 }

@@ -6,6 +6,7 @@
 
 mod binders;
 mod broken;
+pub(crate) mod bytes;
 mod conditions;
 mod lines;
 mod maps;
@@ -13,28 +14,33 @@ mod marks;
 mod program;
 mod space;
 mod split;
-#[cfg(test)]
-mod tests;
-mod text;
-mod types;
+pub(crate) mod text;
+pub(crate) mod types;
 
+use bytes::Bytes;
 use evidence::answer::{Returned, PROGRAM_BYTES, SPLIT_BYTES, WORK_SPACE};
 use space::Space;
+use text::Fields;
 
 /// Judges a pair of sheets.
 pub fn check(program: &[u8], split: &[u8], work: &mut [u32]) -> Returned {
+    check_by::<Bytes>(program, split, work)
+}
+
+/// The same with fields that are read in another way.
+pub(crate) fn check_by<'a, F: Fields<'a>>(program: &'a [u8], split: &'a [u8], work: &mut [u32]) -> Returned {
     let Some(work) = work.get_mut(..WORK_SPACE) else { return Returned::at_line(1, 0) };
-    let returned = first_refusal(program, split, &mut Space::of(work)).err().unwrap_or(Returned::ACCEPT);
+    let returned = first_refusal::<F>(program, split, &mut Space::of(work)).err().unwrap_or(Returned::ACCEPT);
     work.fill(0);
     returned
 }
 
-fn first_refusal(program: &[u8], split: &[u8], space: &mut Space) -> Result<(), Returned> {
+fn first_refusal<'a, F: Fields<'a>>(program: &'a [u8], split: &'a [u8], space: &mut Space) -> Result<(), Returned> {
     at_most(10, program.len(), PROGRAM_BYTES)?;
-    let program = program::read(program, &mut space.lines)?;
+    let program = program::read::<F>(program, &mut space.lines)?;
     binders::bind(&program, &mut space.lines, space.variables)?;
     at_most(20, split.len(), SPLIT_BYTES)?;
-    let head = split::read(split, &program, space)?;
+    let head = split::read::<F>(split, &program, space)?;
     space.types.check_loads(&space.maps, head.types)?;
     conditions::check(&program, &head, space)
 }

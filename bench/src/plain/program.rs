@@ -1,7 +1,7 @@
 //! The program sheet: its lines and their order (refusals 11, 12, 13 and 45).
 
 use super::lines::{refused, Lines};
-use super::text::Text;
+use super::text::{Fields, Text};
 use evidence::answer::{Returned, CONSTANTS, PLACES, PROCEDURES, STEPS, VARIABLES};
 use evidence::words::Word;
 
@@ -21,8 +21,8 @@ struct Head {
 }
 
 /// Reads the whole sheet into the table of lines.
-pub fn read(program: &[u8], lines: &mut Lines) -> Result<Program, Returned> {
-    let mut text = Text::new(program, 10);
+pub fn read<'a, F: Fields<'a>>(program: &'a [u8], lines: &mut Lines) -> Result<Program, Returned> {
+    let mut text = Text::<F>::new(program, 10);
     let head = read_head(&mut text)?;
     let procedures = head.procedures.unwrap_or(0);
     let count = (head.steps + procedures) as usize;
@@ -39,7 +39,7 @@ pub fn read(program: &[u8], lines: &mut Lines) -> Result<Program, Returned> {
 }
 
 /// Reads `P,n` or `P2,n,k`.
-fn read_head(text: &mut Text) -> Result<Head, Returned> {
+fn read_head<'a, F: Fields<'a>>(text: &mut Text<F>) -> Result<Head, Returned> {
     let head = text.line(|line| {
         line.byte(b'P')?;
         let has_procedures = line.byte(b'2').is_some();
@@ -54,7 +54,7 @@ fn read_head(text: &mut Text) -> Result<Head, Returned> {
 }
 
 /// Reads a line `word,v`. The word `freelock` is refused after its v is judged, request (x).
-fn read_line(text: &mut Text, head: &Head) -> Result<(Word, u32), Returned> {
+fn read_line<'a, F: Fields<'a>>(text: &mut Text<F>, head: &Head) -> Result<(Word, u32), Returned> {
     let (word, number) = text.line(|line| Some((read_word(line, head)?, line.field(b'\n')?)))?;
     let (least, most) = word.map_or((0, 0), numbers_of);
     text.in_range((least..=most).contains(&number))?;
@@ -63,11 +63,9 @@ fn read_line(text: &mut Text, head: &Head) -> Result<(Word, u32), Returned> {
 }
 
 /// Takes a word; none for `freelock`. A `P` sheet has no `proc` and no `call`.
-fn read_word(line: &mut Text, head: &Head) -> Option<Option<Word>> {
-    let spelling = line.letters()?;
-    match Word::spelled(spelling) {
+fn read_word<'a>(line: &mut impl Fields<'a>, head: &Head) -> Option<Option<Word>> {
+    match line.word()? {
         Some(Word::Proc | Word::Call) if head.procedures.is_none() => None,
-        None if spelling != b"freelock" => None,
         word => Some(word),
     }
 }

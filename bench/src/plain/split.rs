@@ -3,7 +3,7 @@
 use super::maps::Map;
 use super::program::Program;
 use super::space::Space;
-use super::text::Text;
+use super::text::{Fields, Text};
 use super::types::Kind;
 use evidence::answer::{Returned, LOCATIONS, MAPS, TYPES, WHOLE};
 use evidence::words::Word;
@@ -28,8 +28,8 @@ enum Heading {
 }
 
 /// Reads the whole sheet into its tables, beside its program.
-pub fn read(split: &[u8], program: &Program, space: &mut Space) -> Result<Head, Returned> {
-    let mut text = Text::new(split, 20);
+pub fn read<'a, F: Fields<'a>>(split: &'a [u8], program: &Program, space: &mut Space) -> Result<Head, Returned> {
+    let mut text = Text::<F>::new(split, 20);
     let head = read_head(&mut text)?;
     for own in 0..head.types {
         let (kind, first, second) = read_type(&mut text, &head, own)?;
@@ -54,7 +54,7 @@ pub fn read(split: &[u8], program: &Program, space: &mut Space) -> Result<Head, 
 }
 
 /// Reads `C,D,L,T,M`, which starts with map 0, `C2,D,L,T,M,r`, or `C3` with the fields of `C2`.
-fn read_head(text: &mut Text) -> Result<Head, Returned> {
+fn read_head<'a, F: Fields<'a>>(text: &mut Text<F>) -> Result<Head, Returned> {
     let head = text.line(|line| {
         line.byte(b'C')?;
         let heading = match (line.byte(b'2'), line.byte(b'3')) {
@@ -78,8 +78,8 @@ fn read_head(text: &mut Text) -> Result<Head, Returned> {
 }
 
 /// Reads the line of type number `own`. A lock with one map gives what it takes.
-fn read_type(text: &mut Text, head: &Head, own: u32) -> Result<(Kind, u32, u32), Returned> {
-    let (kind, first, second) = text.line(|line| Some((read_kind(line)?, line.field(b',')?, line.field(b'\n')?)))?;
+fn read_type<'a, F: Fields<'a>>(text: &mut Text<F>, head: &Head, own: u32) -> Result<(Kind, u32, u32), Returned> {
+    let (kind, first, second) = text.line(|line| Some((line.kind()?, line.field(b',')?, line.field(b'\n')?)))?;
     let one_load = kind == Kind::Lock && head.heading != Heading::C3;
     let (firsts, seconds) = match kind {
         Kind::Int => (1, 1),
@@ -92,20 +92,8 @@ fn read_type(text: &mut Text, head: &Head, own: u32) -> Result<(Kind, u32, u32),
     Ok((kind, first, if one_load { first } else { second }))
 }
 
-fn read_kind(line: &mut Text) -> Option<Kind> {
-    match line.letters()? {
-        b"int" => Some(Kind::Int),
-        b"ref" => Some(Kind::Ref),
-        b"lock" => Some(Kind::Lock),
-        b"tid" => Some(Kind::Tid),
-        b"sem" => Some(Kind::Sem),
-        b"rwlock" => Some(Kind::Rwlock),
-        _ => None,
-    }
-}
-
 /// Reads one map line into its row. Its form is judged as a whole before its numbers are.
-fn read_map(text: &mut Text, head: &Head, map: &mut Map) -> Result<(), Returned> {
+fn read_map<'a, F: Fields<'a>>(text: &mut Text<F>, head: &Head, map: &mut Map) -> Result<(), Returned> {
     let last = head.locations as usize - 1;
     *map = Map::default();
     text.line(|line| {
@@ -119,7 +107,7 @@ fn read_map(text: &mut Text, head: &Head, map: &mut Map) -> Result<(), Returned>
 }
 
 /// Reads a procedure's line `before,argument,after,result`.
-fn read_signature(text: &mut Text, head: &Head) -> Result<[u32; 4], Returned> {
+fn read_signature<'a, F: Fields<'a>>(text: &mut Text<F>, head: &Head) -> Result<[u32; 4], Returned> {
     let signature =
         text.line(|line| Some([line.field(b',')?, line.field(b',')?, line.field(b',')?, line.field(b'\n')?]))?;
     let [before, argument, after, result] = signature;
@@ -128,7 +116,7 @@ fn read_signature(text: &mut Text, head: &Head) -> Result<[u32; 4], Returned> {
 }
 
 /// Reads a step's line `t,m,s`. An empty start is the map of nothing behind the others.
-fn read_mark(text: &mut Text, head: &Head, word: Word) -> Result<[u32; 3], Returned> {
+fn read_mark<'a, F: Fields<'a>>(text: &mut Text<F>, head: &Head, word: Word) -> Result<[u32; 3], Returned> {
     let (kind, post, start) =
         text.line(|line| Some((line.field(b',')?, line.field(b',')?, line.field_or_empty(b'\n')?)))?;
     text.in_range(kind < head.types && post < head.maps)?;
