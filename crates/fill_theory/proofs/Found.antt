@@ -17,12 +17,12 @@ use Rattle.fill_theory.specs.declared.Effect.{Effect}
 pub some-injective : {A : Type 0} {a b : A} → _≡_ {A = Option A} (some a) (some b) → a ≡ b
 some-injective h = cc
 
--- the two find something together exactly when the first does and the second does from there. What is found is handed on by its name:
--- a tuple taken apart by `let` would stand in each later goal
-pub on-found : {A B C : Type 0} {b : B} {m : Option A} {f : A → Option B} → (m >>= f) ≡ some b → ((a : A) → m ≡ some a → f a ≡ some b → C) → C
+-- the two find something together exactly when the first does and the second does from there; what follows of it is said of whatever
+-- the first found
+pub bind-through : {A B C : Type 0} {b : B} (m : Option A) (f : A → Option B) → (m >>= f) ≡ some b → ((a : A) → m ≡ some a → f a ≡ some b → C) → C
 unfolding _>>=_
-on-found {m = none} h go = none-is-not-some h
-on-found {m = some a} h go = go a refl h
+bind-through none f h go = none-is-not-some h
+bind-through (some a) f h go = go a refl h
 
 pub finds-bind : {A B : Type 0} {a : A} {o : Option B} (m : Option A) (f : A → Option B) → m ≡ some a → f a ≡ o → (m >>= f) ≡ o
 unfolding _>>=_
