@@ -48,18 +48,28 @@ def put(inside, variable, value):
     return inside[0], inside[1], tuple(put(part, variable, value) for part in inside[2])
 
 
-def strict(word, parts):
-    return {"let": parts[:1], "spawn": parts[:1], "if": (), "while": ()}.get(word, parts)
+STRICT = {"let": 1, "spawn": 1, "if": 0, "while": 0}  # how many parts of a word become values before it reduces; else all
 
 
 def next_word(one):
-    """The word that is to reduce, and how to put something in its place."""
-    word, number, parts = one
-    for place, part in enumerate(strict(word, parts)):
-        if part[0] != "value":
-            found, around = next_word(part)
-            return found, lambda new: (word, number, parts[:place] + (around(new),) + parts[place + 1:])
-    return one, lambda new: new
+    """The word that is to reduce, and the words around it with the place of the part in each, the innermost last."""
+    around = []
+    while True:
+        word, _, parts = one
+        for place, part in enumerate(parts[:STRICT.get(word)]):
+            if part[0] != "value":
+                around.append((one, place))
+                one = part
+                break
+        else:
+            return one, around
+
+
+def put_back(new, around):
+    """The whole, with something in the place of the word that was to reduce."""
+    for (word, number, parts), place in reversed(around):
+        new = word, number, parts[:place] + (new,) + parts[place + 1:]
+    return new
 
 
 ZERO = ("value", "int", 0)
@@ -92,7 +102,7 @@ def successors(state, at):
     (word, v, parts), around = next_word(one)
     for choice, (new, changes) in enumerate(reduced(state, word, v, parts)):
         threads = {thread[0]: thread for thread in changes.get("threads", state.threads)}
-        threads[number] = number, identifier, around(new)
+        threads[number] = number, identifier, put_back(new, around)
         kept = tuple(threads[k] for k in sorted(threads))
         yield choice, State(kept, changes.get("things", state.things), changes.get("spawned", state.spawned), state.procedures)
 
@@ -153,12 +163,12 @@ def held_after(word, kind, held):
 WAITING = {"join": "tid", "lock": "lock", "wait": "sem", "rdlock": "rw", "rdunlock": "rw", "wrlock": "rw", "wrunlock": "rw"}
 
 
-def standing(state, at):
-    """done, ready, waits or odd."""
+def standing(state, at, after):
+    """done, ready, waits or odd, by what the thread's one step can lead to."""
     one = state.threads[at][2]
     if one[0] == "value":
         return "done"
-    if any(True for _ in successors(state, at)):
+    if after:
         return "ready"
     (word, _, parts), _ = next_word(one)
     return "waits" if WAITING.get(word) == parts[0][1] else "odd"
@@ -176,27 +186,35 @@ def race(state):
     return min(pairs) if pairs else None
 
 
+class Met:
+    """A state that the search has come to: the threads that moved last on the way to it, and what each thread's step leads to."""
+
+    def __init__(self):
+        self.lasts, self.after = set(), None
+
+
 def search(lines, most):
     """Fewest switches to a race, or None; whether a thread can halt oddly; whether all can wait. None past `most` states."""
-    heap, turn, seen = [(0, 0, start(lines), None)], 0, set()
-    odd, stuck, told = False, False, set()
+    heap, turn, states, seen = [(0, 0, start(lines), None)], 0, {}, 0
+    odd, stuck = False, False
     while heap:
         switches, _, state, last = heapq.heappop(heap)
-        plain = state.key()
-        if (plain, last) in seen:
+        met = states.setdefault(state.key(), Met())
+        if last in met.lasts:
             continue
-        seen.add((plain, last))
-        if len(seen) > most:
+        met.lasts.add(last)
+        seen += 1
+        if seen > most:
             return None
         if race(state):
             return switches, odd, stuck
-        if plain not in told:
-            told.add(plain)
-            stand = [standing(state, at) for at in range(len(state.threads))]
+        if met.after is None:
+            met.after = [[new for _, new in successors(state, at)] for at in range(len(state.threads))]
+            stand = [standing(state, at, after) for at, after in enumerate(met.after)]
             odd = odd or "odd" in stand
             stuck = stuck or "waits" in stand and set(stand) <= {"waits", "done"}
-        for at, thread in enumerate(state.threads):
-            for _, new in successors(state, at):
+        for thread, after in zip(state.threads, met.after):
+            for new in after:
                 turn += 1
                 heapq.heappush(heap, (switches + (last is not None and thread[0] != last), turn, new, thread[0]))
     return None, odd, stuck

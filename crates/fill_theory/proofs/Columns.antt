@@ -9,7 +9,7 @@ use Rattle.spec.specs.Maps.{share}
 use Rattle.spec.specs.declared.Location.{Location}
 use Rattle.fill_theory.specs.Found.{_>>=_, forEach}
 use Rattle.fill_theory.specs.GreatestMaps.{mapOfStep, mapsOfSteps}
-use Rattle.fill_theory.proofs.Found.{some-injective, bind-finds, finds-bind}
+use Rattle.fill_theory.proofs.Found.{some-injective, bind-through, finds-bind}
 
 -- ------------------------------------------------------------------ something for each number
 
@@ -20,8 +20,8 @@ module _ {A : Type 0} (f : ℕ → Option A) (d : A) where
   unfolding forEach
   each-found l zero all h = (ap length (sym (some-injective h)), λ q i. absurd (omega arith))
   each-found l (suc n) all h =
-      let (a, h₁, h′) = bind-finds _ _ h in
-      let (rest, h₂, e) = bind-finds _ _ h′ in
+      bind-through _ _ h λ a h₁ h′.
+      bind-through _ _ h′ λ rest h₂ e.
       let (long, found) = each-found (l + 1) n rest h₂ in
       let shown = some-injective e in
       (ap length (sym shown) ∙ ap suc long, λ q i. rw (← shown) (go a rest h₁ found q i))

@@ -28,7 +28,7 @@ use Rattle.fill_theory.specs.Flow.{stepsOf, RootsPass}
 use Rattle.fill_theory.specs.Pass.{postsOfRoots}
 use Rattle.fill_theory.specs.FlowOf.{rootsOf}
 use Rattle.fill_theory.specs.GreatestMaps.{postsAt, mapsOfSteps, greatestMaps}
-use Rattle.fill_theory.proofs.Found.{some-injective, bind-finds, finds-bind}
+use Rattle.fill_theory.proofs.Found.{some-injective, bind-through, finds-bind}
 use Rattle.fill_theory.proofs.Along.{at-along}
 use Rattle.fill_theory.proofs.Roots.{roots-counted, roots-pass, roots-greatest, roots-solvable}
 use Rattle.fill_theory.proofs.Kept.{start-map-kept, enough-kept}
@@ -119,7 +119,7 @@ module _ {text : List ℕ} (P : Program) (S : Split) (W : WellFormedProgram text
   found : (γ : List Map) → greatestMaps P S ≡ some γ → Found γ
   unfolding greatestMaps
   found γ h =
-      let (columns, h₁, e) = bind-finds _ _ h in
+      bind-through _ _ h λ columns h₁ e.
       rw (some-injective e) at (made columns h₁)
 
   -- ------------------------------------------------------------------ solvable and greatest

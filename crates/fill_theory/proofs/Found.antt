@@ -17,11 +17,12 @@ use Rattle.fill_theory.specs.declared.Effect.{Effect}
 pub some-injective : {A : Type 0} {a b : A} → _≡_ {A = Option A} (some a) (some b) → a ≡ b
 some-injective h = cc
 
--- the two find something together exactly when the first does and the second does from there
-pub bind-finds : {A B : Type 0} {b : B} (m : Option A) (f : A → Option B) → (m >>= f) ≡ some b → (a : A) × (m ≡ some a) × (f a ≡ some b)
+-- the two find something together exactly when the first does and the second does from there; what follows of it is said of whatever
+-- the first found
+pub bind-through : {A B C : Type 0} {b : B} (m : Option A) (f : A → Option B) → (m >>= f) ≡ some b → ((a : A) → m ≡ some a → f a ≡ some b → C) → C
 unfolding _>>=_
-bind-finds none f h = none-is-not-some h
-bind-finds (some a) f h = (a, refl, h)
+bind-through none f h go = none-is-not-some h
+bind-through (some a) f h go = go a refl h
 
 pub finds-bind : {A B : Type 0} {a : A} {o : Option B} (m : Option A) (f : A → Option B) → m ≡ some a → f a ≡ o → (m >>= f) ≡ o
 unfolding _>>=_

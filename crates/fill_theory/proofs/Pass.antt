@@ -9,7 +9,7 @@ use lib.ListN.{length, length-append}
 use Rattle.fill_theory.specs.Flow.{taking, Flow, alone, after, inTurn, branch, loop, fork, call, steps, Turns, Passes}
 use Rattle.fill_theory.specs.Pass.{forth, back, ownPost, reach, pass}
 use Rattle.fill_theory.specs.declared.Effect.{Effect}
-use Rattle.fill_theory.proofs.Found.{some-injective, bind-finds, demand-met, exact-met, turn-turns, turn-forth}
+use Rattle.fill_theory.proofs.Found.{some-injective, bind-through, demand-met, exact-met, turn-turns, turn-forth}
 use Rattle.fill_theory.proofs.Along.{Along, along-shift, along-append, along-parts, along-own}
 
 pub steps-positive : (f : Flow) → 1 ≤ steps f
@@ -31,34 +31,34 @@ module _ (top : ℕ) where
   pub pass-length : {ps : List ℕ} (pre c : ℕ) (f : Flow) → pass top pre c f ≡ some ps → length ps ≡ steps f
   unfolding pass steps
   pass-length pre c (alone E) h =
-      let (p, _, e) = bind-finds _ _ h in
+      bind-through _ _ h λ p _ e.
       ap length (sym (some-injective e))
   pass-length pre c (after E f) h =
-      let (ps, h₁, h′) = bind-finds _ _ h in
-      let (p, _, e) = bind-finds _ _ h′ in
+      bind-through _ _ h λ ps h₁ h′.
+      bind-through _ _ h′ λ p _ e.
       ap length (sym (some-injective e)) ∙ ap suc (pass-length pre _ f h₁)
   pass-length pre c (inTurn E f g) h =
-      let (ps, h₁, h′) = bind-finds _ _ h in
-      let (qs, h₂, h″) = bind-finds _ _ h′ in
-      let (p, _, e) = bind-finds _ _ h″ in
+      bind-through _ _ h λ ps h₁ h′.
+      bind-through _ _ h′ λ qs h₂ h″.
+      bind-through _ _ h″ λ p _ e.
       ap length (sym (some-injective e)) ∙ omega (arith, length-append ps qs, pass-length pre _ f h₁, pass-length (ownPost ps) _ g h₂)
   pass-length pre c (branch f g) h =
-      let (ps, h₁, h′) = bind-finds _ _ h in
-      let (qs, h₂, e) = bind-finds _ _ h′ in
+      bind-through _ _ h λ ps h₁ h′.
+      bind-through _ _ h′ λ qs h₂ e.
       ap length (sym (some-injective e)) ∙ omega (arith, length-append ps qs, pass-length pre top f h₁, pass-length pre top g h₂)
   pass-length pre c (loop f) h =
-      let (ps, h₁, h′) = bind-finds _ _ h in
-      let (_, _, e) = bind-finds _ _ h′ in
+      bind-through _ _ h λ ps h₁ h′.
+      bind-through _ _ h′ λ _ _ e.
       ap length (sym (some-injective e)) ∙ ap suc (pass-length _ top f h₁)
   pass-length pre c (fork s k f g) h =
-      let (ps, h₁, h′) = bind-finds _ _ h in
-      let (qs, h₂, h″) = bind-finds _ _ h′ in
-      let (_, _, h‴) = bind-finds _ _ h″ in
-      let (p, _, e) = bind-finds _ _ h‴ in
+      bind-through _ _ h λ ps h₁ h′.
+      bind-through _ _ h′ λ qs h₂ h″.
+      bind-through _ _ h″ λ _ _ h‴.
+      bind-through _ _ h‴ λ p _ e.
       ap length (sym (some-injective e)) ∙ omega (arith, length-append ps qs, pass-length pre _ f h₁, pass-length s top g h₂)
   pass-length pre c (call b d f) h =
-      let (ps, h₁, h′) = bind-finds _ _ h in
-      let (_, _, e) = bind-finds _ _ h′ in
+      bind-through _ _ h λ ps h₁ h′.
+      bind-through _ _ h′ λ _ _ e.
       ap length (sym (some-injective e)) ∙ ap suc (pass-length pre b f h₁)
 
   -- what stands in relation to all posts that the pass found stands in relation to the expression's own
@@ -80,49 +80,49 @@ module _ (top : ℕ) where
   pub pass-passes : (a : ℕ → ℕ) (i pre c : ℕ) (f : Flow) {ps : List ℕ} → pass top pre c f ≡ some ps → Along _≡_ a i ps → Passes a i pre f
   unfolding pass reach Passes Along
   pass-passes a i pre c (alone E) h w =
-      let (p, t, e) = bind-finds _ _ h in
+      bind-through _ _ h λ p t e.
       let w′ = rw (← some-injective e) at w in
       turns-along refl (w′ .0) (turn-turns _ pre t)
   pass-passes a i pre c (after E f) h w =
-      let (ps, h₁, h′) = bind-finds _ _ h in
-      let (p, t, e) = bind-finds _ _ h′ in
+      bind-through _ _ h λ ps h₁ h′.
+      bind-through _ _ h′ λ p t e.
       let w′ = rw (← some-injective e) at w in
       (pass-passes a (i + 1) pre _ f h₁ (w′ .1), turns-along (own-found _≡_ a (i + 1) pre _ f ps h₁ (w′ .1)) (w′ .0) (turn-turns _ (ownPost ps) t))
   pass-passes a i pre c (inTurn E f g) h w =
-      let (ps, h₁, h′) = bind-finds _ _ h in
-      let (qs, h₂, h″) = bind-finds _ _ h′ in
-      let (p, t, e) = bind-finds _ _ h″ in
+      bind-through _ _ h λ ps h₁ h′.
+      bind-through _ _ h′ λ qs h₂ h″.
+      bind-through _ _ h″ λ p t e.
       let w′ = rw (← some-injective e) at w in
       let (o₁, w₁, w₂) = both-found _≡_ a (i + 1) pre _ f ps h₁ qs (w′ .1) in
       let o₂ = own-found _≡_ a _ (ownPost ps) _ g qs h₂ w₂ in
       (pass-passes a (i + 1) pre _ f h₁ w₁, rw o₁ (pass-passes a _ (ownPost ps) _ g h₂ w₂), turns-along o₂ (w′ .0) (turn-turns _ (ownPost qs) t))
   pass-passes a i pre c (branch f g) h w =
-      let (ps, h₁, h′) = bind-finds _ _ h in
-      let (qs, h₂, e) = bind-finds _ _ h′ in
+      bind-through _ _ h λ ps h₁ h′.
+      bind-through _ _ h′ λ qs h₂ e.
       let w′ = rw (← some-injective e) at w in
       let (o₁, w₁, w₂) = both-found _≡_ a (i + 1) pre top f ps h₁ qs (w′ .1) in
       let o₂ = own-found _≡_ a _ pre top g qs h₂ w₂ in
       (pass-passes a (i + 1) pre top f h₁ w₁, pass-passes a _ pre top g h₂ w₂, omega (arith, w′ .0), omega (arith, w′ .0))
   pass-passes a i pre c (loop f) h w =
-      let (ps, h₁, h′) = bind-finds _ _ h in
-      let (_, d, e) = bind-finds _ _ h′ in
+      bind-through _ _ h λ ps h₁ h′.
+      bind-through _ _ h′ λ _ d e.
       let w′ = rw (← some-injective e) at w in
       let o = own-found _≡_ a (i + 1) _ top f ps h₁ (w′ .1) in
       let kept = demand-met _ (ownPost ps) d in
       (rw (w′ .0) (pass-passes a (i + 1) _ top f h₁ (w′ .1)), omega (arith, w′ .0), omega (arith, w′ .0, kept))
   pass-passes a i pre c (fork s k f g) h w =
-      let (ps, h₁, h′) = bind-finds _ _ h in
-      let (qs, h₂, h″) = bind-finds _ _ h′ in
-      let (_, d, h‴) = bind-finds _ _ h″ in
-      let (p, t, e) = bind-finds _ _ h‴ in
+      bind-through _ _ h λ ps h₁ h′.
+      bind-through _ _ h′ λ qs h₂ h″.
+      bind-through _ _ h″ λ _ d h‴.
+      bind-through _ _ h‴ λ p t e.
       let w′ = rw (← some-injective e) at w in
       let (o₁, w₁, w₂) = both-found _≡_ a (i + 1) pre _ f ps h₁ qs (w′ .1) in
       let o₂ = own-found _≡_ a _ s top g qs h₂ w₂ in
       let paid = demand-met k (ownPost qs) d in
       (pass-passes a (i + 1) pre _ f h₁ w₁, pass-passes a _ s top g h₂ w₂, omega arith, turns-along o₁ (w′ .0) (turn-turns _ (ownPost ps) t))
   pass-passes a i pre c (call b d f) h w =
-      let (ps, h₁, h′) = bind-finds _ _ h in
-      let (_, x, e) = bind-finds _ _ h′ in
+      bind-through _ _ h λ ps h₁ h′.
+      bind-through _ _ h′ λ _ x e.
       let w′ = rw (← some-injective e) at w in
       (pass-passes a (i + 1) pre b f h₁ (w′ .1), own-found _≡_ a (i + 1) pre b f ps h₁ (w′ .1) ∙ exact-met (ownPost ps) b x, w′ .0)
 
@@ -131,33 +131,33 @@ module _ (top : ℕ) where
   pub pass-own : {ps : List ℕ} (pre c : ℕ) (f : Flow) → pass top pre c f ≡ some ps → ownPost ps ≡ reach top pre c f
   unfolding pass reach ownPost
   pass-own pre c (alone E) h =
-      let (p, t, e) = bind-finds _ _ h in
+      bind-through _ _ h λ p t e.
       ap ownPost (sym (some-injective e)) ∙ turn-forth E pre t
   pass-own pre c (after E f) h =
-      let (ps, h₁, h′) = bind-finds _ _ h in
-      let (p, t, e) = bind-finds _ _ h′ in
+      bind-through _ _ h λ ps h₁ h′.
+      bind-through _ _ h′ λ p t e.
       ap ownPost (sym (some-injective e)) ∙ turn-forth E (ownPost ps) t ∙ ap (forth E) (pass-own pre _ f h₁)
   pass-own pre c (inTurn E f g) h =
-      let (ps, h₁, h′) = bind-finds _ _ h in
-      let (qs, h₂, h″) = bind-finds _ _ h′ in
-      let (p, t, e) = bind-finds _ _ h″ in
+      bind-through _ _ h λ ps h₁ h′.
+      bind-through _ _ h′ λ qs h₂ h″.
+      bind-through _ _ h″ λ p t e.
       let last = pass-own (ownPost ps) _ g h₂ ∙ ap (λ (x : ℕ). reach top x (back E c) g) (pass-own pre _ f h₁) in
       ap ownPost (sym (some-injective e)) ∙ turn-forth E (ownPost qs) t ∙ ap (forth E) last
   pass-own pre c (branch f g) h =
-      let (ps, h₁, h′) = bind-finds _ _ h in
-      let (qs, h₂, e) = bind-finds _ _ h′ in
+      bind-through _ _ h λ ps h₁ h′.
+      bind-through _ _ h′ λ qs h₂ e.
       ap ownPost (sym (some-injective e)) ∙ ap₂ (λ (x y : ℕ). min c (min x y)) (pass-own pre top f h₁) (pass-own pre top g h₂)
   pass-own pre c (loop f) h =
-      let (ps, h₁, h′) = bind-finds _ _ h in
-      let (_, _, e) = bind-finds _ _ h′ in
+      bind-through _ _ h λ ps h₁ h′.
+      bind-through _ _ h′ λ _ _ e.
       ap ownPost (sym (some-injective e))
   pass-own pre c (fork s k f g) h =
-      let (ps, h₁, h′) = bind-finds _ _ h in
-      let (qs, h₂, h″) = bind-finds _ _ h′ in
-      let (_, _, h‴) = bind-finds _ _ h″ in
-      let (p, t, e) = bind-finds _ _ h‴ in
+      bind-through _ _ h λ ps h₁ h′.
+      bind-through _ _ h′ λ qs h₂ h″.
+      bind-through _ _ h″ λ _ _ h‴.
+      bind-through _ _ h‴ λ p t e.
       ap ownPost (sym (some-injective e)) ∙ turn-forth (taking s) (ownPost ps) t ∙ ap (forth (taking s)) (pass-own pre _ f h₁)
   pass-own pre c (call b d f) h =
-      let (ps, h₁, h′) = bind-finds _ _ h in
-      let (_, _, e) = bind-finds _ _ h′ in
+      bind-through _ _ h λ ps h₁ h′.
+      bind-through _ _ h′ λ _ _ e.
       ap ownPost (sym (some-injective e))

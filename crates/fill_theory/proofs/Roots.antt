@@ -8,7 +8,7 @@ use native.Mathlib.Omega.{arith}
 use lib.ListN.{length, getD, length-append}
 use Rattle.fill_theory.specs.Flow.{steps, Root, stepsOf, RootsPass}
 use Rattle.fill_theory.specs.Pass.{ownPost, postsOfRoots}
-use Rattle.fill_theory.proofs.Found.{some-injective, bind-finds, finds-bind, demand-met, met-demand}
+use Rattle.fill_theory.proofs.Found.{some-injective, bind-through, finds-bind, demand-met, met-demand}
 use Rattle.fill_theory.proofs.Along.{Along, along-shift, along-append, along-parts, along-own, along-at, at-along}
 use Rattle.fill_theory.proofs.Pass.{steps-positive}
 use Rattle.fill_theory.proofs.Greatest.{posts-counted, posts-pass, posts-greatest}
@@ -17,9 +17,9 @@ pub roots-counted : (rs : List Root) {ps : List ℕ} → postsOfRoots rs ≡ som
 unfolding postsOfRoots stepsOf
 roots-counted [] h = ap length (sym (some-injective h))
 roots-counted (r ∷ rs) h =
-    let (ps, h₁, h′) = bind-finds _ _ h in
-    let (_, _, h″) = bind-finds _ _ h′ in
-    let (qs, h₂, e) = bind-finds _ _ h″ in
+    bind-through _ _ h λ ps h₁ h′.
+    bind-through _ _ h′ λ _ _ h″.
+    bind-through _ _ h″ λ qs h₂ e.
     ap length (sym (some-injective e)) ∙ omega (arith, length-append ps qs, posts-counted (r .pre) (r .flow) h₁, roots-counted rs h₂)
 
 -- the own post of a flow is the first of its posts
@@ -31,9 +31,9 @@ pub roots-pass : (a : ℕ → ℕ) (i : ℕ) (rs : List Root) {ps : List ℕ} �
 unfolding postsOfRoots RootsPass
 roots-pass a i [] h w = tt
 roots-pass a i (r ∷ rs) h w =
-    let (ps, h₁, h′) = bind-finds _ _ h in
-    let (_, d, h″) = bind-finds _ _ h′ in
-    let (qs, h₂, e) = bind-finds _ _ h″ in
+    bind-through _ _ h λ ps h₁ h′.
+    bind-through _ _ h′ λ _ d h″.
+    bind-through _ _ h″ λ qs h₂ e.
     let counted = posts-counted (r .pre) (r .flow) h₁ in
     let (first, others) = along-parts _≡_ a i ps qs (rw (← some-injective e) at w) in
     let own = own-post _≡_ a i r ps counted first in

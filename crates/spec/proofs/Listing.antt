@@ -10,7 +10,7 @@ use Rattle.spec.specs.Expression.{Step, Expr, leaf, unary, binary, size,
 use Rattle.spec.specs.WellFormed.{prefix, IndexesFrom, itemsOf, listing, NumberedFrom}
 use Rattle.spec.specs.declared.Word.{Word}
 use Rattle.spec.specs.declared.Word.the-variants.{Leaf, Unary, Binary}
-use Rattle.spec.proofs.Outcomes.{stop-is-not-on, on-injective, bind-goes-on, goes-on-bind}
+use Rattle.spec.proofs.Outcomes.{stop-is-not-on, on-injective, bind-through, goes-on-bind}
 
 -- ------------------------------------------------------------------ how many steps an expression has
 
@@ -161,15 +161,15 @@ pub structure-lists : {ps : List Procedure} {root : Expr} (last k i : ℕ) (item
     → Listed k i items ps root
 unfolding structure
 structure-lists last zero i items h =
-    let ((e, rest), h₁, r₁) = bind-goes-on _ _ h in
-    let (done, h₂, r₂) = bind-goes-on _ _ r₁ in
+    bind-through _ _ h λ (e, rest) h₁ r₁.
+    bind-through _ _ r₁ λ done h₂ r₂.
     let (all, indexes) = listed-expression last i items h₁ in
     subst (λ (r : List Procedure × Expr). Listed 0 i items (r .0) (r .1)) (on-injective r₂) (root-lists i items rest e all (none-left rest h₂) indexes)
 structure-lists last (suc k) i [] h = stop-is-not-on h
 structure-lists last (suc k) i (step s ∷ items) h = stop-is-not-on h
 structure-lists last (suc k) i (proc x l ∷ items) h =
-    let ((e, rest), h₁, r₁) = bind-goes-on _ _ h in
-    let ((ps, root), h₂, r₂) = bind-goes-on _ _ r₁ in
+    bind-through _ _ h λ (e, rest) h₁ r₁.
+    bind-through _ _ r₁ λ (ps, root) h₂ r₂.
     let (all, indexes) = listed-expression last i items h₁ in
     subst (λ (r : List Procedure × Expr). Listed (suc k) i (proc x l ∷ items) (r .0) (r .1)) (on-injective r₂)
     (procedure-lists k i x l items rest e ps root all indexes (structure-lists last k (i + size e) rest h₂))

@@ -7,7 +7,7 @@ use Rattle.spec.specs.Text.{Line, closed, unclosed, Field, fields}
 use Rattle.spec.specs.Reading.{Out, stop, on, _>>=_, Seen, right, wrong, SheetName, Place, passed, nextLine, readLine, readLines, begin, noneLeft, end}
 use Rattle.spec.specs.WellFormed.{Shows, nothing, line}
 use Rattle.spec.specs.declared.Refusal.{Refusal}
-use Rattle.spec.proofs.Outcomes.{stop-is-not-on, on-injective, bind-goes-on, goes-on-bind}
+use Rattle.spec.proofs.Outcomes.{stop-is-not-on, on-injective, bind-through, goes-on-bind}
 
 -- ------------------------------------------------------------------ one line after the other
 
@@ -78,8 +78,8 @@ pub all-shown : {A : Type 0} {as′ : List A} {p : Place} (sheet : SheetName) (r
 unfolding readLines
 all-shown sheet [] place h = subst (λ r. Shows [] (place .rest) (r .0) (r .1 .rest)) (on-injective h) nothing
 all-shown sheet (read ∷ reads) place h =
-    let (r₁, h₁, h₂) = bind-goes-on _ _ h in
-    let (r₂, h₃, h₄) = bind-goes-on _ _ h₂ in
+    bind-through _ _ h λ r₁ h₁ h₂.
+    bind-through _ _ h₂ λ r₂ h₃ h₄.
     let b = next-begins sheet read place h₁ in
     let shown = line (b .shown) (all-shown sheet reads (r₁ .1) h₃) in
     subst (λ r. Shows (read ∷ reads) (place .rest) (r .0) (r .1 .rest)) (on-injective h₄)

@@ -19,7 +19,7 @@ use Rattle.spec.specs.declared.Role.{Role}
 use Rattle.spec.specs.declared.Role.the-variants.{Binds, Uses, Calls, Neither}
 use Rattle.spec.proofs.Clashes.{true-is-not-false}
 use Rattle.spec.proofs.Tests.{eqb-sym}
-use Rattle.spec.proofs.Outcomes.{stop-is-not-on, bind-goes-on, goes-on-bind, on-injective}
+use Rattle.spec.proofs.Outcomes.{stop-is-not-on, bind-through, goes-on-bind, on-injective}
 
 -- ------------------------------------------------------------------ variables bound one after the other
 
@@ -106,13 +106,13 @@ module _ (count : ℕ) where
       let (used, new) = step-walk _ (k .line) v inside bound b h in
       (used, λ vs news. rw (binding-append (role (Leaf w)) v [] vs) (new vs news))
   walk (unary w k v e) inside bound b h =
-      let (c, h₁, h₂) = bind-goes-on _ _ h in
+      bind-through _ _ h λ c h₁ h₂.
       let (used, new) = step-walk _ (k .line) v inside bound c h₁ in
       let (used₁, new₁) = walk e inside c b h₂ in
       ((used, used₁), λ vs news. rw (binding-append (role (Unary w)) v (binders e) vs) (new _ (new₁ vs news)))
   walk (binary w k v e₁ e₂) inside bound b h =
-      let (c, h₁, h′) = bind-goes-on _ _ h in
-      let (d, h₂, h₃) = bind-goes-on _ _ h′ in
+      bind-through _ _ h λ c h₁ h′.
+      bind-through _ _ h′ λ d h₂ h₃.
       let (used, new) = step-walk _ (k .line) v inside bound c h₁ in
       let (used₁, new₁) = walk e₁ inside c d h₂ in
       let (used₂, new₂) = walk e₂ (binding (role (Binary w)) v inside) d b h₃ in (
@@ -153,8 +153,8 @@ module _ (count : ℕ) where
   unfolding scopes allBinders AllUsedInside StepInside binding
   walk-all [] root bound b h = walk root [] bound b h
   walk-all (p ∷ ps) root bound b h =
-      let (c, h₁, h′) = bind-goes-on _ _ h in
-      let (d, h₂, h₃) = bind-goes-on _ _ h′ in
+      bind-through _ _ h λ c h₁ h′.
+      bind-through _ _ h′ λ d h₂ h₃.
       let (_, new) = step-walk Binds (p .line) (p .parameter) [] bound c h₁ in
       let (used₁, new₁) = walk (p .body) (p .parameter ∷ []) c d h₂ in
       let (used₂, new₂) = walk-all ps root d b h₃ in (

@@ -15,7 +15,7 @@ use Rattle.spec.specs.Verdict.{sheets, four, returned, onConditions}
 use Rattle.spec.specs.declared.Purpose.{Purpose}
 use Rattle.spec.specs.declared.Refusal.{Refusal}
 use Rattle.spec.specs.declared.Refusal.the-variants.{LongProgram, LongSplit}
-use Rattle.spec.proofs.Outcomes.{on-injective, bind-on, bind-bind, bind-alike, bind-goes-on, goes-on-bind, demand-goes-on, goes-on-demand}
+use Rattle.spec.proofs.Outcomes.{on-injective, bind-on, bind-bind, bind-alike, bind-through, goes-on-bind, demand-goes-on, goes-on-demand}
 use Rattle.spec.proofs.WellFormed.{program-well-formed, well-formed-program, split-well-formed, well-formed-split}
 use Rattle.spec.proofs.EarlyRefusals.{Early, early-bind, early-demand, program-early, split-early}
 
@@ -31,10 +31,10 @@ module _ (purpose : Purpose) (p s : List ℕ) where
   pub sheets-well-formed : {P : Program} {S : Split} → sheets purpose p s ≡ on (P, S) → WellFormedSheets purpose p s P S
   unfolding sheets
   sheets-well-formed h =
-      let (fits, small, h₁) = bind-goes-on _ _ h in
-      let (P, reads, h₂) = bind-goes-on _ _ h₁ in
-      let (fits′, small′, h₃) = bind-goes-on _ _ h₂ in
-      let (S, splits, h₄) = bind-goes-on _ _ h₃ in
+      bind-through _ _ h λ fits small h₁.
+      bind-through _ _ h₁ λ P reads h₂.
+      bind-through _ _ h₂ λ fits′ small′ h₃.
+      bind-through _ _ h₃ λ S splits h₄.
       let formed : WellFormedSheets purpose p s P S = record {
         program = program-well-formed p (leb-true _ _ (demand-goes-on _ _ small)) reads;
         split = split-well-formed purpose P s (leb-true _ _ (demand-goes-on _ _ small′)) splits;

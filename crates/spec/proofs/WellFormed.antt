@@ -11,7 +11,7 @@ use Rattle.spec.specs.Program.{Counts, Program, program, programLimit, c
 use Rattle.spec.specs.Split.{Split, split, splitLimit, headerLine, rowLine}
 use Rattle.spec.specs.WellFormed.{Shows, firstItemLine, WellFormedProgram, WellFormedSplit}
 use Rattle.spec.specs.declared.Purpose.{Purpose}
-use Rattle.spec.proofs.Outcomes.{on-injective, bind-goes-on, bind-through, goes-on-bind}
+use Rattle.spec.proofs.Outcomes.{on-injective, bind-through, goes-on-bind}
 use Rattle.spec.proofs.Reading.{next-begins, all-shown, begun, ended, shown-length, read-next, read-all}
 use Rattle.spec.proofs.StepLines.{item-lines-counted}
 use Rattle.spec.proofs.Listing.{Listed, structure-lists, listing-structured, listing-length}
@@ -74,13 +74,13 @@ pub split-well-formed : {S : Split} (purpose : Purpose) (P : Program) (text : Li
     → split purpose P text ≡ on S → WellFormedSplit purpose P text S
 unfolding split
 split-well-formed purpose P text fits h =
-    let (top, h₁, r₁) = bind-goes-on _ _ h in
-    let (Hp, h₂, r₂) = bind-goes-on _ _ r₁ in
-    let (tp, h₃, r₃) = bind-goes-on _ _ r₂ in
-    let (mp, h₄, r₄) = bind-goes-on _ _ r₃ in
-    let (gp, h₅, r₅) = bind-goes-on _ _ r₄ in
-    let (rp, h₆, r₆) = bind-goes-on _ _ r₅ in
-    let (done, h₇, r₇) = bind-goes-on _ _ r₆ in
+    bind-through _ _ h λ top h₁ r₁.
+    bind-through _ _ r₁ λ Hp h₂ r₂.
+    bind-through _ _ r₂ λ tp h₃ r₃.
+    bind-through _ _ r₃ λ mp h₄ r₄.
+    bind-through _ _ r₄ λ gp h₅ r₅.
+    bind-through _ _ r₅ λ rp h₆ r₆.
+    bind-through _ _ r₆ λ done h₇ r₇.
     let b = next-begins splitSheet (headerLine purpose) top h₂ in
     subst (WellFormedSplit purpose P text) (on-injective r₇) (record {
       fits = fits;

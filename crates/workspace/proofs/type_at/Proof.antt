@@ -6,7 +6,7 @@ use Rattle.workspace.proofs.type_at.Tie as tie
 -- all three are read at once, or each by itself
 returns : tie.Need-returns
 unfolding typeAt
-returns c = cc
+returns c = rw (c .type-of .ensures, c .before .before .before .before .before .index .ensures .0)
 
 pub type-at-spec : {M : Type 1} → statement M
 unfolding typeAt
@@ -33,4 +33,4 @@ type-at-spec =
     (λ c. search needs)
     (λ c κs. search needs)
     (λ c κs. search needs)
-    (λ c. cc))
+    (λ c. rw (c .type-of2 .ensures, c .before .at3 .ensures, c .before .before .at2 .ensures, c .before .before .before .at .ensures, c .before .before .before .before .before .index .ensures .0)))
