@@ -9,8 +9,8 @@ use Rattle.workspace.specs.Layout.{valuesAt, endsAt, procFirstsAt}
 use Rattle.control.specs.Layout.{continuationsAt, secondPart, finish, leave, proceduresAt, environmentsAt, keptValuesAt, openCallsAt}
 use Rattle.control.specs.Shapes.{shapeAt, isWrite}
 use Rattle.control.specs.declared.Focus.{Focus}
-use Rattle.control.specs.declared.shapes.Shape.{Shape}
-use Rattle.control.specs.declared.shapes.Shape.the-variants.{Variable, Constant, Maker, While, OnePart, Call, Let, If, Spawn, Write}
+use Rattle.workspace.specs.declared.Shape.{Shape}
+use Rattle.workspace.specs.declared.Shape.the-variants.{Variable, Constant, Maker, While, OnePart, Call, Let, If, Spawn, Write}
 
 unfoldable pub variable : (s : List ℕ) (r x : ℕ) → ℕ
 variable s r x = getD s (environmentsAt + 256 * r + x) 0

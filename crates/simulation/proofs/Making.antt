@@ -24,7 +24,7 @@ use Rattle.calculus.proofs.Laws.Maps.{update-other}
 use Rattle.workspace.specs.Layout.{ruleOf, printed}
 use Rattle.threads.specs.declared.Threads.{Threads}
 use Rattle.control.specs.Layout.{thingCountsAt, nextValueAt, thingKindsAt, thingFirstsAt, thingSecondsAt, spaceSize}
-use Rattle.control.specs.Shapes.{shapeOf, shapeAt, isWrite}
+use Rattle.control.specs.Shapes.{shapeAt, isWrite}
 use Rattle.control.specs.Control.{continuation, returning, stoppedAt, readyAt}
 use Rattle.things.specs.declared.Slot.{Slot}
 use Rattle.control.specs.declared.Focus.{Focus}
@@ -251,14 +251,14 @@ makerSlot (newrwlock N) = slot 5 N 0
 
 module _ (p s : List ℕ) (row c : ℕ) {q : Position} {v : ℕ} where
   pub maker-acts : (o : calculus.Maker) → MakerNumber o v → RowOf p q (Leaf (makerWord o)) v → acted p s (stoppedAt row (q .index)) c ≡ newThing p s row (q .index) (makerSlot o)
-  unfolding acted actedBy wordUsed effected subject operand usedBy madeOf shapeAt shapeOf isWrite ruleOf printed
+  unfolding acted actedBy wordUsed effected subject operand usedBy madeOf shapeAt isWrite ruleOf printed
   maker-acts newtid n r = rw (r .code) (rw (r .code))
   maker-acts newlock n r = rw (r .code) (rw (r .code))
   maker-acts newsem n r = rw (r .code) (rw (r .code))
   maker-acts (newrwlock N) n r = rw (r .code) (rw (r .code, r .number, n))
 
   pub ref-acts : (w : ℕ) → RowOf p q (Unary Ref) v → acted p s (readyAt row (q .index) w) c ≡ newThing p s row (q .index) (slot 2 w 0)
-  unfolding acted actedBy wordUsed effected subject operand usedBy madeOf shapeAt shapeOf isWrite ruleOf printed
+  unfolding acted actedBy wordUsed effected subject operand usedBy madeOf shapeAt isWrite ruleOf printed
   ref-acts w r = rw (r .code) (rw (r .code))
 
 pub maker-kind : (o : calculus.Maker) → makerSlot o .kind ≡ kindCode (kindMade o)

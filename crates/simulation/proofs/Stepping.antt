@@ -20,13 +20,13 @@ use Rattle.calculus.specs.State as state
 use Rattle.calculus.specs.State.{Part, first, second, unused, identifier, cell, aLock, opened, closed, semaphore, rwlock, readers, writer}
 use Rattle.calculus.specs.Reduction.{_>>=_, _>>_, ifIdentifier, made}
 use Rattle.calculus.proofs.Laws.Maps.{none-is-not-some, some-is-not-none}
-use Rattle.workspace.specs.Layout.{ruleOf, codeOf, printed}
+use Rattle.workspace.specs.Layout.{ruleOf, codeOf, printed, shapeOf}
 use Rattle.threads.specs.declared.Record.{Record}
 use Rattle.threads.specs.declared.Threads.{Threads}
 use Rattle.threads.specs.Threads.{isRunning, runs}
 use Rattle.control.specs.Layout.{finish}
 use Rattle.control.specs.declared.Focus.{Focus}
-use Rattle.control.specs.Shapes.{shapeOf, shapeAt, isWrite, isIf}
+use Rattle.control.specs.Shapes.{shapeAt, isWrite, isIf}
 use Rattle.control.specs.Control.{continuation, second as secondAt, readyAt, stoppedAt, unrolledAt}
 use Rattle.things.specs.declared.Slot.{Slot}
 use Rattle.things.specs.declared.Used.the-variants as used
@@ -80,11 +80,11 @@ identified x (rwlock N writer) h = is-none refl (rw (h .0)) (rw (h .0))
 
 module _ (p s : List ℕ) (row c : ℕ) {q : Position} {n : ℕ} (v : ℕ) where
   join-acts : RowOf p q (Unary Join) n → acted p s (readyAt row (q .index) v) c ≡ effected p s row (q .index) v (joinedOf (slotAt s v))
-  unfolding acted actedBy wordUsed subject operand usedBy shapeAt shapeOf isWrite ruleOf printed
+  unfolding acted actedBy wordUsed subject operand usedBy shapeAt isWrite ruleOf printed
   join-acts r = rw (r .code) (rw (r .code))
 
   spawn-acts : RowOf p q (Binary Spawn) n → acted p s (readyAt row (q .index) v) c ≡ effected p s row (q .index) v (spawnedOf (slotAt s v))
-  unfolding acted actedBy wordUsed subject operand usedBy shapeAt shapeOf isWrite ruleOf printed
+  unfolding acted actedBy wordUsed subject operand usedBy shapeAt isWrite ruleOf printed
   spawn-acts r = rw (r .code) (rw (r .code))
 
 -- ------------------------------------------------------------------ choices
@@ -216,7 +216,7 @@ module _ (p s : List ℕ) (T : Threads) (R : Replay) (t tid : ℕ) (σ : Env) (K
       (rw same (part-goes p s T R t tid σ K H low row inside values 0 q F o u v r (roomy-value v) there)) c)
 
   at-if : (q : Position) {v : ℕ} → RowOf p q (Binary If) v → mayChoose p (stoppedAt row (q .index)) 1 ≡ true
-  unfolding mayChoose shapeAt isIf shapeOf ruleOf printed
+  unfolding mayChoose shapeAt isIf ruleOf printed
   at-if q r = rw (r .code)
 
   at-unrolled : (q : Position) → mayChoose p (unrolledAt row (q .index)) 1 ≡ true
@@ -224,14 +224,14 @@ module _ (p s : List ℕ) (T : Threads) (R : Replay) (t tid : ℕ) (σ : Env) (K
   at-unrolled q = refl
 
   maker-no-if : (o : calculus.Maker) → isIf (shapeOf (ruleOf (codeOf (Leaf (makerWord o))))) ≡ false
-  unfolding isIf shapeOf ruleOf printed
+  unfolding isIf ruleOf printed
   maker-no-if calculus.newtid = refl
   maker-no-if calculus.newlock = refl
   maker-no-if calculus.newsem = refl
   maker-no-if (calculus.newrwlock N) = refl
 
   word-goes : (w : machine.Word) (f : Focus) → WordAt p s row f w → Frames p s t row (placeOf p s w) (continuation p (placeOf p s w)) K → There w → (c : ℕ) → WordLine w f c
-  unfolding partChosen effect unaryEffect thingsAfter isIf shapeOf ruleOf printed
+  unfolding partChosen effect unaryEffect thingsAfter isIf ruleOf printed
   word-goes (letWord q x v e) f (z, r, S) F there c =
       subst (λ (g : Focus). WordLine (letWord q x v e) g c) (sym z)
       (plain p s T R t (redex σ (letWord q x v e)) (λ part. stepWord M t tid σ K part (letWord q x v e)) (readyAt row (q .index) (codeValue v)) (λ c. refl) refl (no-if q (Binary Let) r refl)
