@@ -5,7 +5,7 @@ use mathlib.Core.List.{List}
 use lib.ListN.{getD}
 use Rattle.workspace.specs.Layout.{wordsAt, ruleOf, shapeOf}
 use Rattle.workspace.specs.declared.Shape.{Shape}
-use Rattle.workspace.specs.declared.Shape.the-variants.{Variable, Constant, Maker, While, OnePart, Call, Let, If, Spawn, Write}
+use Rattle.workspace.specs.declared.Shape.the-variants.{Variable, Constant, NoPart, While, OnePart, Call, Let, If, Spawn, Write}
 
 -- the shape of step k
 unfoldable pub shapeAt : (p : List ℕ) (k : ℕ) → Shape
@@ -14,7 +14,7 @@ shapeAt p k = shapeOf (ruleOf (getD p (wordsAt + k) 0))
 unfoldable pub isWrite : Shape → Bool
 isWrite Variable = false
 isWrite Constant = false
-isWrite Maker = false
+isWrite NoPart = false
 isWrite While = false
 isWrite OnePart = false
 isWrite Call = false
@@ -26,7 +26,7 @@ isWrite Write = true
 unfoldable pub isIf : Shape → Bool
 isIf Variable = false
 isIf Constant = false
-isIf Maker = false
+isIf NoPart = false
 isIf While = false
 isIf OnePart = false
 isIf Call = false

@@ -27,7 +27,7 @@ fn link_parts(program: &mut [u32], s: Shape, k: u32, c: u32, second: u32)
     match s {
         Shape::Variable => {}
         Shape::Constant => {}
-        Shape::Maker => {}
+        Shape::NoPart => {}
         Shape::While => join(program, k + 1, k),
         Shape::OnePart => join(program, k + 1, k),
         Shape::Call => join(program, k + 1, k),

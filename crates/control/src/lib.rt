@@ -150,7 +150,7 @@ fn entered_by(s: Shape, row: u32, k: u32, c: u32, x: u32) -> Focus
     match s {
         Shape::Variable => returning(row, c, x),
         Shape::Constant => returning(row, c, 0),
-        Shape::Maker => stopped_at(row, k),
+        Shape::NoPart => stopped_at(row, k),
         Shape::While => stopped_at(row, k),
         Shape::OnePart => entering(row, behind(k)),
         Shape::Call => entering(row, behind(k)),

@@ -9,7 +9,7 @@ pub fn is_write(s: Shape) -> bool
     match s {
         Shape::Variable => false,
         Shape::Constant => false,
-        Shape::Maker => false,
+        Shape::NoPart => false,
         Shape::While => false,
         Shape::OnePart => false,
         Shape::Call => false,
@@ -26,7 +26,7 @@ pub fn is_if(s: Shape) -> bool
     match s {
         Shape::Variable => false,
         Shape::Constant => false,
-        Shape::Maker => false,
+        Shape::NoPart => false,
         Shape::While => false,
         Shape::OnePart => false,
         Shape::Call => false,

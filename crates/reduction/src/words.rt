@@ -200,7 +200,7 @@ pub fn reduce(program: &[u32], space: &mut [u32], f: Focus, choice: u32) -> Act
     match control::shape_at(program, k) {
         Shape::Variable => Act::Stuck,
         Shape::Constant => Act::Stuck,
-        Shape::Maker => use_word(program, space, f),
+        Shape::NoPart => use_word(program, space, f),
         Shape::While => Act::Go(around(program, f, choice)),
         Shape::OnePart => use_word(program, space, f),
         Shape::Call => Act::Go(call(program, space, f)),

@@ -24,7 +24,7 @@ use Rattle.control.specs.Shapes.{isWrite}
 use Rattle.control.specs.Control.{variable, kept, calledFrom, continuation, second, entering, returning, stoppedAt, readyAt, doneWith, enteredBy}
 use Rattle.control.proofs.Turns.{found-stop}
 use Rattle.machine.specs.Environment.{Env}
-use Rattle.machine.specs.Control.{Frame, letFrame, spawnFrame, writeFirst, writeSecond, unaryFrame, againFrame, markFrame, letWord, ifWord, whileWord, spawnWord, writeWord, unaryWord, makeWord, againWord, Control, done, at, seekPart, seek, return, enter, runPart, marks}
+use Rattle.machine.specs.Control.{Frame, letFrame, spawnFrame, writeFirst, writeSecond, unaryFrame, againFrame, markFrame, letWord, ifWord, whileWord, spawnWord, writeWord, unaryWord, nullaryWord, againWord, Control, done, at, seekPart, seek, return, enter, runPart, marks}
 use Rattle.simulation.proofs.Held.{codeValue, partWord, PartNumber, Row, RowOf, Stands, Values, FrameAt, stepOf, rowBehind, Frames, ControlAt}
 use Rattle.simulation.proofs.Turning.{row-of, by-position, behind-is, go, enters, to-first, to-second, to-other, to-end, to-caller, SameBut, RowIn, same-but-one}
 
@@ -269,13 +269,13 @@ module _ (p : List ℕ) (t : ℕ) (small : t < 16) (σ : Env) (row : ℕ) (s₀ 
       (enters p row (m - 1) k s r ∙ ap (λ (z : ℕ). go p row (m - 1) s (returning row c z)) (R .values x (omega (arith, r .small .0)))) (next (σ x) k (m - 1) s (omega (arith, fuel)) R)
   seek-simulated (leaf Int q v) c k r K κ n m s fuel R next =
       takes-turn (κ (int v)) m s (entering row k) (go p row (m - 1) s (returning row c 0)) (omega (arith, fuel)) (enters p row (m - 1) k s r) (next (int v) k (m - 1) s (omega (arith, fuel)) R)
-  seek-simulated (leaf Newtid q v) c k r K κ n m s fuel R next = stops (at σ (makeWord q calculus.newtid) K) k r (λ x. refl) m s (omega (arith, fuel))
+  seek-simulated (leaf Newtid q v) c k r K κ n m s fuel R next = stops (at σ (nullaryWord q calculus.newtid) K) k r (λ x. refl) m s (omega (arith, fuel))
       ((R .values, (ap (stoppedAt row) (sym (r .index)), v, row-of r, tt), by-position r (λ c k. Frames p s t row k c K) (R .frames)), R .same)
-  seek-simulated (leaf Newlock q v) c k r K κ n m s fuel R next = stops (at σ (makeWord q calculus.newlock) K) k r (λ x. refl) m s (omega (arith, fuel))
+  seek-simulated (leaf Newlock q v) c k r K κ n m s fuel R next = stops (at σ (nullaryWord q calculus.newlock) K) k r (λ x. refl) m s (omega (arith, fuel))
       ((R .values, (ap (stoppedAt row) (sym (r .index)), v, row-of r, tt), by-position r (λ c k. Frames p s t row k c K) (R .frames)), R .same)
-  seek-simulated (leaf Newsem q v) c k r K κ n m s fuel R next = stops (at σ (makeWord q calculus.newsem) K) k r (λ x. refl) m s (omega (arith, fuel))
+  seek-simulated (leaf Newsem q v) c k r K κ n m s fuel R next = stops (at σ (nullaryWord q calculus.newsem) K) k r (λ x. refl) m s (omega (arith, fuel))
       ((R .values, (ap (stoppedAt row) (sym (r .index)), v, row-of r, tt), by-position r (λ c k. Frames p s t row k c K) (R .frames)), R .same)
-  seek-simulated (leaf Newrwlock q v) c k r K κ n m s fuel R next = stops (at σ (makeWord q (calculus.newrwlock v)) K) k r (λ x. refl) m s (omega (arith, fuel))
+  seek-simulated (leaf Newrwlock q v) c k r K κ n m s fuel R next = stops (at σ (nullaryWord q (calculus.newrwlock v)) K) k r (λ x. refl) m s (omega (arith, fuel))
       ((R .values, (ap (stoppedAt row) (sym (r .index)), v, row-of r, refl), by-position r (λ c k. Frames p s t row k c K) (R .frames)), R .same)
   seek-simulated (unary While q v e) c k (r, S) K κ n m s fuel R next = stops (at σ (whileWord q e) K) k r (λ x. refl) m s (omega (arith, fuel))
       ((R .values, (ap (stoppedAt row) (sym (r .index)), v, row-of r, by-position r (λ c k. Stands p k (k + 1) e) S), by-position r (λ c k. Frames p s t row k c K) (R .frames)), R .same)

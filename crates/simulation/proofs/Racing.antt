@@ -277,7 +277,7 @@ module _ (p s : List ℕ) (row : ℕ) (names : ℕ → state.Slot) (slot-of : (n
   word-shows σ (machine.unaryWord q (calculus.hold calculus.wrlock) v) f (z, n, r, N) = subst (λ (g : Focus). ShowsUse g (redex σ (machine.unaryWord q (calculus.hold calculus.wrlock) v))) (sym z) (part-silent σ q (calculus.hold calculus.wrlock) v r (λ x y h. rw h) (λ x. refl))
   word-shows σ (machine.unaryWord q (calculus.hold calculus.wrunlock) v) f (z, n, r, N) = subst (λ (g : Focus). ShowsUse g (redex σ (machine.unaryWord q (calculus.hold calculus.wrunlock) v))) (sym z) (part-silent σ q (calculus.hold calculus.wrunlock) v r (λ x y h. rw h) (λ x. refl))
   word-shows σ (machine.unaryWord q (calculus.call called) v) f (z, n, r, N) = subst (λ (g : Focus). ShowsUse g (redex σ (machine.unaryWord q (calculus.call called) v))) (sym z) (part-silent σ q (calculus.call called) v r (λ x y h. refl) (λ x. refl))
-  word-shows σ (machine.makeWord q o) f (z, n, r, N) = subst (λ (g : Focus). ShowsUse g (redex σ (machine.makeWord q o))) (sym z) (refl, refl)
+  word-shows σ (machine.nullaryWord q o) f (z, n, r, N) = subst (λ (g : Focus). ShowsUse g (redex σ (machine.nullaryWord q o))) (sym z) (refl, refl)
   word-shows σ (machine.unrolledWord q e) f (z, n, r, S) = subst (λ (g : Focus). ShowsUse g (redex σ (machine.unrolledWord q e))) (sym z) (refl, refl)
   word-shows σ (machine.againWord q v e) f (z, n, r, S) = subst (λ (g : Focus). ShowsUse g (redex σ (machine.againWord q v e))) (sym z) (silent (readyAt row (q .index) (codeValue v)) (usesBoth none none) (quiet p s row r (codeValue v) (λ x y h. refl)) (refl, refl))
 

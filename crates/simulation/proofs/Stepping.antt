@@ -41,11 +41,11 @@ use Rattle.replay_theory.specs.Run.{cells, kindMade, partOfIf, noChoice, partCh
 use Rattle.replay_theory.specs.Replay.{Outcome, limited}
 use Rattle.machine.specs.Environment.{Env}
 use Rattle.machine.specs.Control as machine
-use Rattle.machine.specs.Control.{Frame, letWord, ifWord, whileWord, spawnWord, writeWord, unaryWord, makeWord, unrolledWord, againWord, Control, done, at, redex, marks, openCalls}
+use Rattle.machine.specs.Control.{Frame, letWord, ifWord, whileWord, spawnWord, writeWord, unaryWord, nullaryWord, unrolledWord, againWord, Control, done, at, redex, marks, openCalls}
 use Rattle.machine.specs.State.{MachineThread, Machine, running}
 use Rattle.machine.specs.Step.{step, stepUnary, stepWord}
 use Rattle.machine.specs.Replay.{Replay, statusOf, wordOf, within, stepped as steppedOn}
-use Rattle.simulation.proofs.Held.{codeValue, partWord, makerWord, RowOf, Stands, Values, Frames, WordAt, placeOf}
+use Rattle.simulation.proofs.Held.{codeValue, partWord, noPartWord, RowOf, Stands, Values, Frames, WordAt, placeOf}
 use Rattle.simulation.proofs.Holds.{SlotIs, Holds}
 use Rattle.simulation.proofs.Proceeding.{place-below}
 use Rattle.simulation.proofs.Using.{Using, using-read, using-lock, using-unlock, using-post, using-wait, using-rdlock, using-rdunlock, using-wrlock, using-wrunlock, slotOf, Roomy}
@@ -223,7 +223,7 @@ module _ (p s : List ℕ) (T : Threads) (R : Replay) (t tid : ℕ) (σ : Env) (K
   unfolding mayChoose
   at-unrolled q = refl
 
-  maker-no-if : (o : calculus.Maker) → isIf (shapeOf (ruleOf (codeOf (Leaf (makerWord o))))) ≡ false
+  maker-no-if : (o : calculus.Nullary) → isIf (shapeOf (ruleOf (codeOf (Leaf (noPartWord o))))) ≡ false
   unfolding isIf ruleOf printed
   maker-no-if calculus.newtid = refl
   maker-no-if calculus.newlock = refl
@@ -274,11 +274,11 @@ module _ (p s : List ℕ) (T : Threads) (R : Replay) (t tid : ℕ) (σ : Env) (K
       subst (λ (h : Focus). WordLine (unaryWord q (call g) v) h c) (sym z)
       (plain p s T R t (redex σ (unaryWord q (call g) v)) (λ part. stepWord M t tid σ K part (unaryWord q (call g) v)) (readyAt row (q .index) (codeValue v)) (λ c. refl) refl (no-if q (Unary Call) r refl)
       (call-goes p s T R t tid σ K H low row inside few values q g v r N F there) c)
-  word-goes (makeWord q o) f (z, n, r, N) F there c =
-      subst (λ (g : Focus). WordLine (makeWord q o) g c) (sym z)
-      (plain p s T R t (redex σ (makeWord q o)) (λ part. stepWord M t tid σ K part (makeWord q o)) (stoppedAt row (q .index)) (λ c. refl) refl (no-if q (Leaf (makerWord o)) r (maker-no-if o))
+  word-goes (nullaryWord q o) f (z, n, r, N) F there c =
+      subst (λ (g : Focus). WordLine (nullaryWord q o) g c) (sym z)
+      (plain p s T R t (redex σ (nullaryWord q o)) (λ part. stepWord M t tid σ K part (nullaryWord q o)) (stoppedAt row (q .index)) (λ c. refl) refl (no-if q (Leaf (noPartWord o)) r (maker-no-if o))
       (rw (maker-acts p s row 0 o N r)
-      (making-goes p s T R t tid σ K H low row inside values (makeWord q o) (stoppedAt row (q .index)) (q .index) (r .below) F there (kindMade o) (makerSlot o) (made o) (maker-kind o) (maker-slot o))) c)
+      (making-goes p s T R t tid σ K H low row inside values (nullaryWord q o) (stoppedAt row (q .index)) (q .index) (r .below) F there (kindMade o) (makerSlot o) (made o) (maker-kind o) (maker-slot o))) c)
   word-goes (unrolledWord q e) f (z, n, r, S) F there c =
       subst (λ (g : Focus). WordLine (unrolledWord q e) g c) (sym z)
       (either p s T R t (redex σ (unrolledWord q e)) (λ part. stepWord M t tid σ K part (unrolledWord q e)) (unrolledAt row (q .index)) (λ c. refl) (at-unrolled q)
