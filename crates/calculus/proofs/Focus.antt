@@ -3,13 +3,13 @@ use Prim.Native.Nat.{ℕ, _≤_}
 use mathlib.Core.Path.{_≡_, refl, sym, ap, _∙_}
 use mathlib.Core.Option.{none}
 use native.Mathlib.Nat.{le-trans}
-use Rattle.calculus.specs.Expression.{Value, Unary, Maker, Exp, value, letIn, if, while, spawn, write, unary, make, Redex, letRedex, ifRedex, whileRedex, spawnRedex, writeRedex, unaryRedex, makeRedex, Next, isValue, atVariable, atWord, nextWord, ifValue, plug}
+use Rattle.calculus.specs.Expression.{Value, Unary, Nullary, Exp, value, letIn, if, while, spawn, write, unary, nullary, Redex, letRedex, ifRedex, whileRedex, spawnRedex, writeRedex, unaryRedex, nullaryRedex, Next, isValue, atVariable, atWord, nextWord, ifValue, plug}
 use Rattle.calculus.specs.Capability.{Cap, _≥ᶜ_}
 use Rattle.calculus.specs.Figure5.{Ty, intType, refType, tidType, Signatures, Env, bind}
 use Rattle.calculus.proofs.Laws.Maps.{none-is-not-some}
 use Rattle.calculus.proofs.Laws.Order.{Pays, ≥-trans, ≥-refl, pays-weakens}
 use Rattle.calculus.proofs.Laws.NextWord.{word-injective, word-is-no-value, variable-is-no-value, variable-is-no-word, next-is-value, once-is-word, once-is-variable}
-use Rattle.calculus.proofs.Typing.{ValueTyped, UnaryTyped, MakerTyped, Typed, value-typed, var-typed, let-typed, if-typed, while-typed, spawn-typed, write-typed, unary-typed, make-typed, unary-weakens, maker-weakens, typing-weakens}
+use Rattle.calculus.proofs.Typing.{ValueTyped, UnaryTyped, NullaryTyped, Typed, value-typed, var-typed, let-typed, if-typed, while-typed, spawn-typed, write-typed, unary-typed, nullary-typed, unary-weakens, nullary-weakens, typing-weakens}
 use Rattle.calculus.proofs.Substitution.{_⊆_, ⊆-refl, value-grows, typing-grows}
 
 -- ---- Values
@@ -38,7 +38,7 @@ pub data RedexTyped (D : ℕ) (S : Signatures) (N Γ : Env) (Ψ Φ : Cap) : Rede
       ValueTyped N v (refType ρ σ) → ValueTyped N w σ → D ≤ Ψ ρ → Ψ ≥ᶜ Φ → RedexTyped D S N Γ Ψ Φ (writeRedex v w) intType
   unary-redex-typed : {o : Unary} {v : Value} {σ τ : Ty} →
       ValueTyped N v σ → UnaryTyped D S o σ Ψ τ Φ → RedexTyped D S N Γ Ψ Φ (unaryRedex o v) τ
-  make-redex-typed : {o : Maker} {τ : Ty} → MakerTyped o Ψ τ Φ → RedexTyped D S N Γ Ψ Φ (makeRedex o) τ
+  nullary-redex-typed : {o : Nullary} {τ : Ty} → NullaryTyped o Ψ τ Φ → RedexTyped D S N Γ Ψ Φ (nullaryRedex o) τ
 
 redex-weakens : {D : ℕ} {S : Signatures} {N Γ : Env} {Ψ Ψ′ Φ : Cap} {τ : Ty} {r : Redex} → Ψ′ ≥ᶜ Ψ → RedexTyped D S N Γ Ψ Φ r τ →
     RedexTyped D S N Γ Ψ′ Φ r τ
@@ -48,7 +48,7 @@ redex-weakens a (while-redex-typed e g h) = while-redex-typed e (≥-trans a g) 
 redex-weakens a (spawn-redex-typed t e h) = spawn-redex-typed t e (pays-weakens h a ≥-refl)
 redex-weakens a (write-redex-typed {ρ = ρ} t u g h) = write-redex-typed t u (le-trans g (a .at ρ)) (≥-trans a h)
 redex-weakens a (unary-redex-typed t o) = unary-redex-typed t (unary-weakens o a ≥-refl)
-redex-weakens a (make-redex-typed o) = make-redex-typed (maker-weakens o a ≥-refl)
+redex-weakens a (nullary-redex-typed o) = nullary-redex-typed (nullary-weakens o a ≥-refl)
 
 -- The next word r of e, typed with what e has before, and its place: whatever has the word's type and leaves what the word
 -- leaves may stand there, also when more names are known and another capability is held.
@@ -122,7 +122,7 @@ focus (unary-typed {o = o} {e = e} a b) q =
     (λ v n z. let (_, t, g) = typed-is-value a n in
     whole (unary o e) (unary-redex-typed t (unary-weakens b g ≥-refl)) (word-injective z) (λ e′. ap (place e′) n))
     (λ n. inside (unary o e) e (λ d. unary o d) (focus a n) (λ N′ Ψ′ e′ s k. unary-typed k b) (λ e′. ap (place e′) n))
-focus (make-typed {o = o} b) q = whole (make o) (make-redex-typed b) (word-injective q) (λ e′. refl)
+focus (nullary-typed {o = o} b) q = whole (nullary o) (nullary-redex-typed b) (word-injective q) (λ e′. refl)
 
 -- A typed expression with no free variable does not come to one.
 pub closed-has-no-variable : {D : ℕ} {S : Signatures} {N Γ : Env} {Ψ Φ : Cap} {e : Exp} {τ : Ty} {x : ℕ} → ((y : ℕ) → Γ y ≡ none) →
@@ -140,4 +140,4 @@ closed-has-no-variable c (write-typed {e₁ = e₁} {e₂ = e₂} a b g h) q =
     (λ v z. once-is-variable (nextWord e₂) _ z (λ w y. variable-is-no-word y refl) (closed-has-no-variable c b)) (closed-has-no-variable c a)
 closed-has-no-variable c (unary-typed {e = e} a o) q =
     once-is-variable (nextWord e) _ q (λ v z. variable-is-no-word z refl) (closed-has-no-variable c a)
-closed-has-no-variable c (make-typed o) q = variable-is-no-word q refl
+closed-has-no-variable c (nullary-typed o) q = variable-is-no-word q refl

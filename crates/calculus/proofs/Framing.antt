@@ -1,11 +1,11 @@
 -- What is typed stays typed with more held before and as much more left: the body of a procedure runs beside what its caller keeps back.
 use Prim.Native.Nat.{ℕ}
 use native.Mathlib.Omega.{arith}
-use Rattle.calculus.specs.Expression.{HoldWord, Unary, Maker, Exp}
+use Rattle.calculus.specs.Expression.{HoldWord, Unary, Nullary, Exp}
 use Rattle.calculus.specs.Capability.{Cap}
 use Rattle.calculus.specs.Figure5.{Ty, Signatures, Env}
 use Rattle.calculus.proofs.Laws.Order.{_+ᶜ_, ≥-frames, gains-frames, pays-frames}
-use Rattle.calculus.proofs.Typing.{HoldTyped, rdlock-typed, rdunlock-typed, wrlock-typed, wrunlock-typed, UnaryTyped, join-typed, ref-typed, read-typed, lock-typed, unlock-typed, post-typed, wait-typed, hold-typed, call-typed, MakerTyped, newtid-typed, newlock-typed, newsem-typed, newrwlock-typed, Typed, value-typed, var-typed, let-typed, if-typed, while-typed, spawn-typed, write-typed, unary-typed, make-typed}
+use Rattle.calculus.proofs.Typing.{HoldTyped, rdlock-typed, rdunlock-typed, wrlock-typed, wrunlock-typed, UnaryTyped, join-typed, ref-typed, read-typed, lock-typed, unlock-typed, post-typed, wait-typed, hold-typed, call-typed, NullaryTyped, newtid-typed, newlock-typed, newsem-typed, newrwlock-typed, Typed, value-typed, var-typed, let-typed, if-typed, while-typed, spawn-typed, write-typed, unary-typed, nullary-typed}
 
 module _ (F : Cap) where
   hold-frames : {Ψr Ψw : Cap} {w : HoldWord} {Ψ Φ : Cap} → HoldTyped Ψr Ψw w Ψ Φ → HoldTyped Ψr Ψw w (Ψ +ᶜ F) (Φ +ᶜ F)
@@ -29,11 +29,11 @@ module _ (F : Cap) where
       call-typed {Ψ = Ψ +ᶜ F} {Ψkeep = Ψkeep +ᶜ F} {Φ = Φ +ᶜ F} s (record { at = λ ρ. omega (arith, h .at ρ) })
       (record { at = λ ρ. omega (arith, k .at ρ) })
 
-  maker-frames : {o : Maker} {τ : Ty} {Ψ Φ : Cap} → MakerTyped o Ψ τ Φ → MakerTyped o (Ψ +ᶜ F) τ (Φ +ᶜ F)
-  maker-frames (newtid-typed h) = newtid-typed (≥-frames F h)
-  maker-frames (newlock-typed g h) = newlock-typed g (pays-frames F h)
-  maker-frames (newsem-typed h) = newsem-typed (≥-frames F h)
-  maker-frames (newrwlock-typed g h) = newrwlock-typed g (pays-frames F h)
+  nullary-frames : {o : Nullary} {τ : Ty} {Ψ Φ : Cap} → NullaryTyped o Ψ τ Φ → NullaryTyped o (Ψ +ᶜ F) τ (Φ +ᶜ F)
+  nullary-frames (newtid-typed h) = newtid-typed (≥-frames F h)
+  nullary-frames (newlock-typed g h) = newlock-typed g (pays-frames F h)
+  nullary-frames (newsem-typed h) = newsem-typed (≥-frames F h)
+  nullary-frames (newrwlock-typed g h) = newrwlock-typed g (pays-frames F h)
 
   pub typing-frames : {D : ℕ} {S : Signatures} {N Γ : Env} {Ψ Φ : Cap} {e : Exp} {τ : Ty} → Typed D S N Γ Ψ e τ Φ →
       Typed D S N Γ (Ψ +ᶜ F) e τ (Φ +ᶜ F)
@@ -45,4 +45,4 @@ module _ (F : Cap) where
   typing-frames (spawn-typed e₁ e₂ h) = spawn-typed (typing-frames e₁) e₂ (pays-frames F h)
   typing-frames (write-typed e₁ e₂ g h) = write-typed (typing-frames e₁) (typing-frames e₂) (omega (arith, g)) (≥-frames F h)
   typing-frames (unary-typed e o) = unary-typed (typing-frames e) (unary-frames o)
-  typing-frames (make-typed o) = make-typed (maker-frames o)
+  typing-frames (nullary-typed o) = nullary-typed (nullary-frames o)

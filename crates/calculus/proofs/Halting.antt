@@ -16,7 +16,7 @@ use Rattle.calculus.proofs.Laws.Maps.{some-is-not-none, bind-goes-on}
 use Rattle.calculus.proofs.Laws.NextWord.{next-is-value}
 use Rattle.calculus.proofs.Laws.Questions.{equal-is-told}
 use Rattle.calculus.proofs.Typing.{ValueTyped, name-typed, OwnLock, own-lock, UnaryTyped, join-typed, ref-typed, read-typed, lock-typed, unlock-typed, post-typed, wait-typed, hold-typed, call-typed}
-use Rattle.calculus.proofs.Focus.{RedexTyped, let-redex-typed, if-redex-typed, while-redex-typed, spawn-redex-typed, write-redex-typed, unary-redex-typed, make-redex-typed, focus, closed-has-no-variable}
+use Rattle.calculus.proofs.Focus.{RedexTyped, let-redex-typed, if-redex-typed, while-redex-typed, spawn-redex-typed, write-redex-typed, unary-redex-typed, nullary-redex-typed, focus, closed-has-no-variable}
 use Rattle.calculus.proofs.Bodies.{BodiesTyped}
 use Rattle.calculus.proofs.Pool.{member}
 use Rattle.calculus.proofs.Invariant.{identifier-there, cell-there, lock-there, semaphore-there, rwlock-there, WellTyped}
@@ -113,7 +113,7 @@ module _ {D : ℕ} {S : Signatures} {s : State} (P : List Procedure) (bodies : B
   redex-halts word (write-redex-typed (name-typed {n = n} known asItIs) typed whole enough) =
       some-is-not-none (bind-goes-on (cellValue (s .names n)) _ (cell-has-content known .1) (no-reduct word 0 0))
   redex-halts word (unary-redex-typed {o = o} v-typed o-typed) = unary-halts o word v-typed o-typed
-  redex-halts word (make-redex-typed o-typed) = named-goes-ahead _ (no-reduct word 0 (I .top))
+  redex-halts word (nullary-redex-typed o-typed) = named-goes-ahead _ (no-reduct word 0 (I .top))
 
   next-halts : (q : Next) → nextWord (t .body) ≡ q → Finished t ⊎ Waits s t
   next-halts (isValue v) b = inl (finished v (next-is-value (t .body) b))

@@ -7,7 +7,7 @@ use mathlib.Core.List.{List}
 use native.Mathlib.Nat.{zero-mul, suc-mul}
 use native.Mathlib.Omega.{arith}
 use lib.ListN.{getElem?}
-use Rattle.calculus.specs.Expression.{Value, name, HoldWord, Unary, join, ref, read, lock, unlock, post, wait, hold, call, newtid, newlock, newsem, newrwlock, Exp, value, letIn, if, while, Redex, letRedex, ifRedex, whileRedex, spawnRedex, writeRedex, unaryRedex, makeRedex, isValue, atWord, nextWord, substitute, Procedure}
+use Rattle.calculus.specs.Expression.{Value, name, HoldWord, Unary, join, ref, read, lock, unlock, post, wait, hold, call, newtid, newlock, newsem, newrwlock, Exp, value, letIn, if, while, Redex, letRedex, ifRedex, whileRedex, spawnRedex, writeRedex, unaryRedex, nullaryRedex, isValue, atWord, nextWord, substitute, Procedure}
 use Rattle.calculus.specs.State.{opened, aLock, semaphore, Thread, State, Part, first, second, Move}
 use Rattle.calculus.specs.Reduction.{ifIdentifier, cellValue, lockState, ifOpened, count, oneLess, rwState, insideAfter, ifEqual, valueOf, wordOf, zeroExp, nowhere, partListed, unaryReduct, reduct, reduce}
 use Rattle.calculus.specs.Claim.{ThreadAt}
@@ -20,7 +20,7 @@ use Rattle.calculus.proofs.Laws.NextWord.{word-is-no-value}
 use Rattle.calculus.proofs.Laws.Questions.{opened-tells, one-less-tells, equal-tells, value-tells, word-tells}
 use Rattle.calculus.proofs.Typing.{ValueTyped, int-typed, name-typed, OwnLock, own-lock, UnaryTyped, join-typed, ref-typed, read-typed, lock-typed, unlock-typed, post-typed, wait-typed, HoldTyped, hold-typed, call-typed, newtid-typed, newlock-typed, newsem-typed, newrwlock-typed, Typed, value-typed, let-typed, if-typed, while-typed, typing-weakens}
 use Rattle.calculus.proofs.Substitution.{⊆-refl, value-grows, typing-grows, bind-extends-empty, substitution-keeps}
-use Rattle.calculus.proofs.Focus.{RedexTyped, let-redex-typed, if-redex-typed, while-redex-typed, spawn-redex-typed, write-redex-typed, unary-redex-typed, make-redex-typed, focus, typed-is-value}
+use Rattle.calculus.proofs.Focus.{RedexTyped, let-redex-typed, if-redex-typed, while-redex-typed, spawn-redex-typed, write-redex-typed, unary-redex-typed, nullary-redex-typed, focus, typed-is-value}
 use Rattle.calculus.proofs.Bodies.{BodiesTyped, body-in-place}
 use Rattle.calculus.proofs.Pool.{ThreadTyped, pool-weakens, pool-with-last, Member, member}
 use Rattle.calculus.proofs.Invariant.{slot-identifier, slot-cell, slot-lock, slot-semaphore, slot-rwlock, cell-there, lock-there, semaphore-there, rwlock-there, load, keeps, WellTyped, threads-change-keeps}
@@ -182,22 +182,22 @@ module _ {D : ℕ} {S : Signatures} {s : State} (P : List Procedure) (bodies : B
       slot-change-keeps M n _ (refType ρ σ) (h .own) zeroExp known (slot-cell typed) (value-typed int-typed enough) (λ ρ. omega arith) q₁
 
   newtid-keeps : {Φ K : Cap} {s′ : State} (M : Place D S s I m t h (tidType K) Φ) → h .own ≥ᶜ Φ →
-      reduct P s m t (makeRedex newtid) ≡ some s′ → WellTyped D S s′
+      reduct P s m t (nullaryRedex newtid) ≡ some s′ → WellTyped D S s′
   newtid-keeps M enough = new-name-keeps M _ (h .own) (λ grows. slot-identifier) enough (λ ρ. omega arith)
 
   -- A new lock is open, so it keeps its load, and the thread pays it.
   newlock-keeps : {Φ Ψᵢ Ψₒ : Cap} {s′ : State} (M : Place D S s I m t h (lockType Ψᵢ Ψₒ) Φ) → Ψₒ ≥ᶜ Ψᵢ → Pays Φ (h .own) Ψₒ →
-      reduct P s m t (makeRedex newlock) ≡ some s′ → WellTyped D S s′
+      reduct P s m t (nullaryRedex newlock) ≡ some s′ → WellTyped D S s′
   newlock-keeps {Φ} M covers pays = new-name-keeps M _ Φ (λ grows. slot-lock covers) ≥-refl (λ ρ. omega (arith, pays .at ρ))
 
   -- A new semaphore counts 0, so it keeps nothing.
   newsem-keeps : {Φ K : Cap} {s′ : State} (M : Place D S s I m t h (semType K) Φ) → h .own ≥ᶜ Φ →
-      reduct P s m t (makeRedex newsem) ≡ some s′ → WellTyped D S s′
+      reduct P s m t (nullaryRedex newsem) ≡ some s′ → WellTyped D S s′
   newsem-keeps {K} M enough = new-name-keeps M _ (h .own) (λ grows. slot-semaphore) enough (λ ρ. omega (arith, zero-mul (K ρ)))
 
   -- No one is in at a new read-write lock, so it keeps all of what the thread pays.
   newrwlock-keeps : {Φ Ψr Ψw : Cap} {s′ : State} (N : ℕ) (M : Place D S s I m t h (rwlockType Ψr Ψw) Φ) → Ψw ≥ᶜ N ×ᶜ Ψr → Pays Φ (h .own) Ψw →
-      reduct P s m t (makeRedex (newrwlock N)) ≡ some s′ → WellTyped D S s′
+      reduct P s m t (nullaryRedex (newrwlock N)) ≡ some s′ → WellTyped D S s′
   newrwlock-keeps {Φ} N M covers pays = new-name-keeps M _ Φ (λ grows. slot-rwlock covers) ≥-refl (λ ρ. omega (arith, pays .at ρ))
 
   redex-keeps : {Φ : Cap} {σ : Ty} {s′ : State} {r : Redex} (M : Place D S s I m t h σ Φ) → ThreadAt s (m .thread) t →
@@ -208,10 +208,10 @@ module _ {D : ℕ} {S : Signatures} {s : State} (P : List Procedure) (bodies : B
   redex-keeps M there word (spawn-redex-typed (name-typed known asItIs) typed pays) q = spawn-keeps M known typed pays q
   redex-keeps M there word (write-redex-typed (name-typed known asItIs) typed whole enough) q = write-keeps M known typed enough q
   redex-keeps M there word (unary-redex-typed {o = o} v-typed o-typed) q = unary-keeps o M there word v-typed o-typed q
-  redex-keeps M there word (make-redex-typed (newtid-typed enough)) q = newtid-keeps M enough q
-  redex-keeps M there word (make-redex-typed (newlock-typed covers pays)) q = newlock-keeps M covers pays q
-  redex-keeps M there word (make-redex-typed (newsem-typed enough)) q = newsem-keeps M enough q
-  redex-keeps M there word (make-redex-typed (newrwlock-typed {N = N} covers pays)) q = newrwlock-keeps N M covers pays q
+  redex-keeps M there word (nullary-redex-typed (newtid-typed enough)) q = newtid-keeps M enough q
+  redex-keeps M there word (nullary-redex-typed (newlock-typed covers pays)) q = newlock-keeps M covers pays q
+  redex-keeps M there word (nullary-redex-typed (newsem-typed enough)) q = newsem-keeps M enough q
+  redex-keeps M there word (nullary-redex-typed (newrwlock-typed {N = N} covers pays)) q = newrwlock-keeps N M covers pays q
 
 -- Lemma 2.4: find the thread and its next word, and look at the word.
 pub step-preserves : {D : ℕ} {S : Signatures} {s s′ : State} (P : List Procedure) → BodiesTyped D S P → WellTyped D S s → (m : Move) →

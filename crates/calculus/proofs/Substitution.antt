@@ -8,7 +8,7 @@ use Rattle.calculus.specs.Expression.{Value, Exp, value, var, choose, su
 use Rattle.calculus.specs.Capability.{Cap, _≥ᶜ_}
 use Rattle.calculus.specs.Figure5.{Ty, _shown-as_, Signatures, Env, empty, bind}
 use Rattle.calculus.proofs.Laws.Maps.{some-injective, none-is-not-some}
-use Rattle.calculus.proofs.Typing.{ValueTyped, int-typed, name-typed, value-shown-as, Typed, value-typed, var-typed, let-typed, if-typed, while-typed, spawn-typed, write-typed, unary-typed, make-typed}
+use Rattle.calculus.proofs.Typing.{ValueTyped, int-typed, name-typed, value-shown-as, Typed, value-typed, var-typed, let-typed, if-typed, while-typed, spawn-typed, write-typed, unary-typed, nullary-typed}
 
 -- ---- More names and more variables
 
@@ -41,7 +41,7 @@ typing-grows n g (while-typed e h k) = while-typed (typing-grows n g e) h k
 typing-grows n g (spawn-typed e₁ e₂ h) = spawn-typed (typing-grows n g e₁) (typing-grows n g e₂) h
 typing-grows n g (write-typed e₁ e₂ h k) = write-typed (typing-grows n g e₁) (typing-grows n g e₂) h k
 typing-grows n g (unary-typed e o) = unary-typed (typing-grows n g e) o
-typing-grows n g (make-typed o) = make-typed o
+typing-grows n g (nullary-typed o) = nullary-typed o
 
 -- ---- A value for a variable
 
@@ -101,4 +101,4 @@ substitution-keeps Γ′ x t c (while-typed a h k) = while-typed (substitution-k
 substitution-keeps Γ′ x t c (spawn-typed a b h) = spawn-typed (substitution-keeps Γ′ x t c a) (substitution-keeps Γ′ x t c b) h
 substitution-keeps Γ′ x t c (write-typed a b h k) = write-typed (substitution-keeps Γ′ x t c a) (substitution-keeps Γ′ x t c b) h k
 substitution-keeps Γ′ x t c (unary-typed a o) = unary-typed (substitution-keeps Γ′ x t c a) o
-substitution-keeps Γ′ x t c (make-typed o) = make-typed o
+substitution-keeps Γ′ x t c (nullary-typed o) = nullary-typed o

@@ -4,7 +4,7 @@ use mathlib.Core.Path.{_≡_}
 use mathlib.Core.Option.{some}
 use native.Mathlib.Nat.{le-trans}
 use lib.ListN.{getElem?}
-use Rattle.calculus.specs.Expression.{Value, int, name, HoldWord, rdlock, rdunlock, wrlock, wrunlock, Unary, join, ref, read, lock, unlock, post, wait, hold, call, Maker, newtid, newlock, newsem, newrwlock, Exp, value, var, letIn, if, while, spawn, write, unary, make}
+use Rattle.calculus.specs.Expression.{Value, int, name, HoldWord, rdlock, rdunlock, wrlock, wrunlock, Unary, join, ref, read, lock, unlock, post, wait, hold, call, Nullary, newtid, newlock, newsem, newrwlock, Exp, value, var, letIn, if, while, spawn, write, unary, nullary}
 use Rattle.calculus.specs.Capability.{Cap, _×ᶜ_, _≥ᶜ_}
 use Rattle.calculus.specs.Figure5.{Ty, intType, refType, lockType, tidType, semType, rwlockType, _shown-as_, asItIs, looser, Signature, Signatures, Env, bind, _∣_∣_∣_⊢_∶_∣_, VAR, INT, LET, IF, WHILE, NEWT, SPAWN, JOIN, REF, WRITE, READ, NEWL, LCK, ULCK, NEWSEM, POST, WAIT, NEWRWLOCK, RDLOCK, RDUNLOCK, WRLOCK, WRUNLOCK, CALL}
 use Rattle.calculus.proofs.Laws.Order.{Gains, Pays, ≥-trans, ≥-refl, gains-weakens, pays-weakens, sum-gains, sum-pays}
@@ -59,11 +59,11 @@ pub data UnaryTyped (D : ℕ) (S : Signatures) : Unary → Ty → Cap → Ty →
   call-typed : {f : ℕ} {g : Signature} {Ψ Ψkeep Φ : Cap} → getElem? S f ≡ some g → Pays (g .before) Ψ Ψkeep → Gains Φ (g .after) Ψkeep →
       UnaryTyped D S (call f) (g .argument) Ψ (g .result) Φ
 
-pub data MakerTyped : Maker → Cap → Ty → Cap → Type 0 where
-  newtid-typed : {K Ψ Φ : Cap} → Ψ ≥ᶜ Φ → MakerTyped newtid Ψ (tidType K) Φ
-  newlock-typed : {Ψᵢ Ψₒ Ψ Φ : Cap} → Ψₒ ≥ᶜ Ψᵢ → Pays Φ Ψ Ψₒ → MakerTyped newlock Ψ (lockType Ψᵢ Ψₒ) Φ
-  newsem-typed : {K Ψ Φ : Cap} → Ψ ≥ᶜ Φ → MakerTyped newsem Ψ (semType K) Φ
-  newrwlock-typed : {N : ℕ} {Ψr Ψw Ψ Φ : Cap} → Ψw ≥ᶜ N ×ᶜ Ψr → Pays Φ Ψ Ψw → MakerTyped (newrwlock N) Ψ (rwlockType Ψr Ψw) Φ
+pub data NullaryTyped : Nullary → Cap → Ty → Cap → Type 0 where
+  newtid-typed : {K Ψ Φ : Cap} → Ψ ≥ᶜ Φ → NullaryTyped newtid Ψ (tidType K) Φ
+  newlock-typed : {Ψᵢ Ψₒ Ψ Φ : Cap} → Ψₒ ≥ᶜ Ψᵢ → Pays Φ Ψ Ψₒ → NullaryTyped newlock Ψ (lockType Ψᵢ Ψₒ) Φ
+  newsem-typed : {K Ψ Φ : Cap} → Ψ ≥ᶜ Φ → NullaryTyped newsem Ψ (semType K) Φ
+  newrwlock-typed : {N : ℕ} {Ψr Ψw Ψ Φ : Cap} → Ψw ≥ᶜ N ×ᶜ Ψr → Pays Φ Ψ Ψw → NullaryTyped (newrwlock N) Ψ (rwlockType Ψr Ψw) Φ
 
 -- Typed D S N Γ Ψ e τ Φ: with these types of names and variables e has type τ, can be run with Ψ, and leaves at least Φ.
 pub data Typed (D : ℕ) (S : Signatures) (N : Env) : Env → Cap → Exp → Ty → Cap → Type 0 where
@@ -81,7 +81,7 @@ pub data Typed (D : ℕ) (S : Signatures) (N : Env) : Env → Cap → Exp → Ty
       Typed D S N Γ Ψ e₁ (refType ρ τ) Ψ₁ → Typed D S N Γ Ψ₁ e₂ τ Ψ₂ → D ≤ Ψ₂ ρ → Ψ₂ ≥ᶜ Φ → Typed D S N Γ Ψ (write e₁ e₂) intType Φ
   unary-typed : {Γ : Env} {Ψ Ψ₁ Φ : Cap} {o : Unary} {e : Exp} {σ τ : Ty} →
       Typed D S N Γ Ψ e σ Ψ₁ → UnaryTyped D S o σ Ψ₁ τ Φ → Typed D S N Γ Ψ (unary o e) τ Φ
-  make-typed : {Γ : Env} {Ψ Φ : Cap} {o : Maker} {τ : Ty} → MakerTyped o Ψ τ Φ → Typed D S N Γ Ψ (make o) τ Φ
+  nullary-typed : {Γ : Env} {Ψ Φ : Cap} {o : Nullary} {τ : Ty} → NullaryTyped o Ψ τ Φ → Typed D S N Γ Ψ (nullary o) τ Φ
 
 -- ---- Weakening: more before and less after
 
@@ -103,11 +103,11 @@ unary-weakens (wait-typed h) a b = wait-typed (gains-weakens h a b)
 unary-weakens (hold-typed h) a b = hold-typed (hold-weakens h a b)
 unary-weakens (call-typed s h k) a b = call-typed s (pays-weakens h a ≥-refl) (gains-weakens k ≥-refl b)
 
-pub maker-weakens : {o : Maker} {τ : Ty} {Ψ Ψ′ Φ Φ′ : Cap} → MakerTyped o Ψ τ Φ → Ψ′ ≥ᶜ Ψ → Φ ≥ᶜ Φ′ → MakerTyped o Ψ′ τ Φ′
-maker-weakens (newtid-typed h) a b = newtid-typed (≥-trans a (≥-trans h b))
-maker-weakens (newlock-typed g h) a b = newlock-typed g (pays-weakens h a b)
-maker-weakens (newsem-typed h) a b = newsem-typed (≥-trans a (≥-trans h b))
-maker-weakens (newrwlock-typed g h) a b = newrwlock-typed g (pays-weakens h a b)
+pub nullary-weakens : {o : Nullary} {τ : Ty} {Ψ Ψ′ Φ Φ′ : Cap} → NullaryTyped o Ψ τ Φ → Ψ′ ≥ᶜ Ψ → Φ ≥ᶜ Φ′ → NullaryTyped o Ψ′ τ Φ′
+nullary-weakens (newtid-typed h) a b = newtid-typed (≥-trans a (≥-trans h b))
+nullary-weakens (newlock-typed g h) a b = newlock-typed g (pays-weakens h a b)
+nullary-weakens (newsem-typed h) a b = newsem-typed (≥-trans a (≥-trans h b))
+nullary-weakens (newrwlock-typed g h) a b = newrwlock-typed g (pays-weakens h a b)
 
 pub typing-weakens : {D : ℕ} {S : Signatures} {N Γ : Env} {Ψ Ψ′ Φ Φ′ : Cap} {e : Exp} {τ : Ty} → Typed D S N Γ Ψ e τ Φ → Ψ′ ≥ᶜ Ψ → Φ ≥ᶜ Φ′ →
     Typed D S N Γ Ψ′ e τ Φ′
@@ -119,7 +119,7 @@ typing-weakens (while-typed e g h) a b = while-typed e (≥-trans a g) (≥-tran
 typing-weakens (spawn-typed e₁ e₂ h) a b = spawn-typed (typing-weakens e₁ a ≥-refl) e₂ (pays-weakens h ≥-refl b)
 typing-weakens (write-typed e₁ e₂ g h) a b = write-typed (typing-weakens e₁ a ≥-refl) e₂ g (≥-trans h b)
 typing-weakens (unary-typed e o) a b = unary-typed (typing-weakens e a ≥-refl) (unary-weakens o ≥-refl b)
-typing-weakens (make-typed o) a b = make-typed (maker-weakens o a b)
+typing-weakens (nullary-typed o) a b = nullary-typed (nullary-weakens o a b)
 
 -- ---- Figure 5 gives it
 
@@ -130,19 +130,19 @@ derived-is-typed N (LET e₁ e₂) = let-typed (derived-is-typed N e₁) (derive
 derived-is-typed N (IF e₁ g e₂ h) =
     if-typed (typing-weakens (derived-is-typed N e₁) ≥-refl g) (typing-weakens (derived-is-typed N e₂) ≥-refl h)
 derived-is-typed N (WHILE e g h) = while-typed (typing-weakens (derived-is-typed N e) ≥-refl g) h ≥-refl
-derived-is-typed N NEWT = make-typed (newtid-typed ≥-refl)
+derived-is-typed N NEWT = nullary-typed (newtid-typed ≥-refl)
 derived-is-typed N (SPAWN e₁ e₂ g h) = spawn-typed (derived-is-typed N e₁) (typing-weakens (derived-is-typed N e₂) ≥-refl g) (sum-pays h)
 derived-is-typed N (JOIN e h) = unary-typed (derived-is-typed N e) (join-typed (sum-gains h))
 derived-is-typed N (REF e) = unary-typed (derived-is-typed N e) (ref-typed ≥-refl)
 derived-is-typed N (WRITE e₁ e₂ g) = write-typed (derived-is-typed N e₁) (derived-is-typed N e₂) g ≥-refl
 derived-is-typed N (READ e g) = unary-typed (derived-is-typed N e) (read-typed g ≥-refl)
-derived-is-typed N (NEWL g h) = make-typed (newlock-typed g (sum-pays h))
+derived-is-typed N (NEWL g h) = nullary-typed (newlock-typed g (sum-pays h))
 derived-is-typed N (LCK e h) = unary-typed (derived-is-typed N e) (lock-typed (sum-gains h))
 derived-is-typed N (ULCK e h) = unary-typed (derived-is-typed N e) (unlock-typed (sum-pays h))
-derived-is-typed N NEWSEM = make-typed (newsem-typed ≥-refl)
+derived-is-typed N NEWSEM = nullary-typed (newsem-typed ≥-refl)
 derived-is-typed N (POST e h) = unary-typed (derived-is-typed N e) (post-typed (sum-pays h))
 derived-is-typed N (WAIT e h) = unary-typed (derived-is-typed N e) (wait-typed (sum-gains h))
-derived-is-typed N (NEWRWLOCK g h) = make-typed (newrwlock-typed g (sum-pays h))
+derived-is-typed N (NEWRWLOCK g h) = nullary-typed (newrwlock-typed g (sum-pays h))
 derived-is-typed N (RDLOCK e h) = unary-typed (derived-is-typed N e) (hold-typed (rdlock-typed (sum-gains h)))
 derived-is-typed N (RDUNLOCK e h) = unary-typed (derived-is-typed N e) (hold-typed (rdunlock-typed (sum-pays h)))
 derived-is-typed N (WRLOCK e h) = unary-typed (derived-is-typed N e) (hold-typed (wrlock-typed (sum-gains h)))

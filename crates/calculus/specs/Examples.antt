@@ -1,7 +1,7 @@
 -- Programs of the paper and a few beside them, with moves that run them. What they show is proved in proofs/Examples.
 use Prim.Native.Nat.{ℕ, zero, suc}
 use mathlib.Core.List.{List, [], _∷_}
-use Rattle.calculus.specs.Expression.{int, HoldWord, rdlock, rdunlock, wrlock, wrunlock, Unary, join, ref, read, lock, unlock, post, wait, hold, newtid, newlock, newsem, newrwlock, Exp, value, var, letIn, if, while, spawn, write, unary, make, Program}
+use Rattle.calculus.specs.Expression.{int, HoldWord, rdlock, rdunlock, wrlock, wrunlock, Unary, join, ref, read, lock, unlock, post, wait, hold, newtid, newlock, newsem, newrwlock, Exp, value, var, letIn, if, while, spawn, write, unary, nullary, Program}
 use Rattle.calculus.specs.State.{first, second, Move}
 use Rattle.calculus.specs.Reduction.{nowhere}
 use Rattle.calculus.specs.Capability.{Cap}
@@ -48,7 +48,7 @@ holding a b (suc (suc ρ)) = 0
 abbrev pub figure2a : Program
 figure2a = plain
     (letIn 0 (unary ref (constant 0))
-    (spawn (make newtid) (unary read (var 0))
+    (spawn (nullary newtid) (unary read (var 0))
     ⨾ write (var 0) (constant 1)))
 
 -- The first thread makes x, 1, and an identifier, 2, spawns, and is about to write; so is the other to read.
@@ -59,7 +59,7 @@ moves2a = names 0 1 ∷ goes 0 ∷ names 0 2 ∷ goes 0 ∷ goes 0 ∷ []
 abbrev pub figure2b : Program
 figure2b = plain
     (letIn 0 (unary ref (constant 0))
-    (letIn 1 (make newtid)
+    (letIn 1 (nullary newtid)
     (spawn (var 1) (unary read (var 0))
     ⨾ unary join (var 1)
     ⨾ write (var 0) (constant 1))))
@@ -76,8 +76,8 @@ moves2bToEnd = goes 1 ∷ joins 0 1 ∷ goes 0 ∷ goes 0 ∷ []
 abbrev pub figure2c : Program
 figure2c = plain
     (letIn 0 (unary ref (constant 0))
-    (letIn 1 (make newlock)
-    (spawn (make newtid) (unary lock (var 1) ⨾ unary read (var 0) ⨾ unary unlock (var 1))
+    (letIn 1 (nullary newlock)
+    (spawn (nullary newtid) (unary lock (var 1) ⨾ unary read (var 0) ⨾ unary unlock (var 1))
     ⨾ unary lock (var 1)
     ⨾ write (var 0) (constant 1)
     ⨾ unary unlock (var 1))))
@@ -95,9 +95,9 @@ moves2cToEnd = goes 1 ∷ goes 1 ∷ goes 1 ∷ goes 1 ∷ goes 0 ∷ goes 0 ∷
 abbrev pub twoLocks : Program
 twoLocks = plain
     (letIn 0 (unary ref (constant 0))
-    (letIn 1 (make newlock)
-    (letIn 2 (make newlock)
-    (spawn (make newtid) (unary lock (var 1) ⨾ unary read (var 0) ⨾ unary unlock (var 1))
+    (letIn 1 (nullary newlock)
+    (letIn 2 (nullary newlock)
+    (spawn (nullary newtid) (unary lock (var 1) ⨾ unary read (var 0) ⨾ unary unlock (var 1))
     ⨾ unary lock (var 2)
     ⨾ write (var 0) (constant 1)
     ⨾ unary unlock (var 2)))))
@@ -121,8 +121,8 @@ abbrev pub section221 : Program
 section221 = plain
     (letIn 0 (unary ref (constant 0))
     (letIn 1 (unary ref (constant 0))
-    (letIn 2 (make newtid)
-    (letIn 3 (make newlock)
+    (letIn 2 (nullary newtid)
+    (letIn 3 (nullary newlock)
     (while
     (spawn (var 2) section221Thread
     ⨾ spawn (var 2) section221Thread
@@ -155,8 +155,8 @@ waitsAndWrites = unary wait (var 1) ⨾ write (var 0) (constant 1)
 abbrev pub handover : Program
 handover = plain
     (letIn 0 (unary ref (constant 0))
-    (letIn 1 (make newsem)
-    (spawn (make newtid) waitsAndWrites
+    (letIn 1 (nullary newsem)
+    (spawn (nullary newtid) waitsAndWrites
     ⨾ write (var 0) (constant 2)
     ⨾ unary post (var 1))))
 
@@ -180,9 +180,9 @@ movesHandoverToEnd = goes 1 ∷ goes 1 ∷ goes 1 ∷ []
 abbrev pub figure7 : Program
 figure7 = plain
     (letIn 0 (unary ref (constant 0))
-    (letIn 1 (make newsem)
-    (spawn (make newtid) waitsAndWrites
-    ⨾ spawn (make newtid) waitsAndWrites
+    (letIn 1 (nullary newsem)
+    (spawn (nullary newtid) waitsAndWrites
+    ⨾ spawn (nullary newtid) waitsAndWrites
     ⨾ unary post (var 1)
     ⨾ unary post (var 1))))
 
@@ -201,9 +201,9 @@ readsTheBook = unary (hold rdlock) (var 1) ⨾ unary read (var 0) ⨾ unary (hol
 abbrev pub colourBook : Program
 colourBook = plain
     (letIn 0 (unary ref (constant 0))
-    (letIn 1 (make (newrwlock 2))
-    (spawn (make newtid) readsTheBook
-    ⨾ spawn (make newtid) readsTheBook
+    (letIn 1 (nullary (newrwlock 2))
+    (spawn (nullary newtid) readsTheBook
+    ⨾ spawn (nullary newtid) readsTheBook
     ⨾ unary (hold wrlock) (var 1)
     ⨾ write (var 0) (constant 1)
     ⨾ unary (hold wrunlock) (var 1))))
@@ -223,14 +223,14 @@ movesBookToEnd = goes 1 ∷ goes 1 ∷ goes 1 ∷ goes 2 ∷ goes 2 ∷ goes 2 �
 
 -- One thread takes the only reading place twice.
 abbrev pub readsTwice : Program
-readsTwice = plain (letIn 0 (make (newrwlock 1)) (unary (hold rdlock) (var 0) ⨾ unary (hold rdlock) (var 0)))
+readsTwice = plain (letIn 0 (nullary (newrwlock 1)) (unary (hold rdlock) (var 0) ⨾ unary (hold rdlock) (var 0)))
 
 abbrev pub movesReadsTwice : List Move
 movesReadsTwice = names 0 1 ∷ goes 0 ∷ goes 0 ∷ goes 0 ∷ []
 
 -- A book is given back that no one has.
 abbrev pub givesBack : HoldWord → Program
-givesBack w = plain (letIn 0 (make (newrwlock 1)) (unary (hold w) (var 0)))
+givesBack w = plain (letIn 0 (nullary (newrwlock 1)) (unary (hold w) (var 0)))
 
 abbrev pub movesGivesBack : List Move
 movesGivesBack = names 0 1 ∷ goes 0 ∷ []
@@ -239,8 +239,8 @@ movesGivesBack = names 0 1 ∷ goes 0 ∷ []
 abbrev pub bothPlaces : Program
 bothPlaces = plain
     (letIn 0 (unary ref (constant 0))
-    (letIn 1 (make (newrwlock 2))
-    (spawn (make newtid) (unary (hold rdlock) (var 1) ⨾ unary read (var 0))
+    (letIn 1 (nullary (newrwlock 2))
+    (spawn (nullary newtid) (unary (hold rdlock) (var 1) ⨾ unary read (var 0))
     ⨾ unary (hold rdlock) (var 1)
     ⨾ unary (hold rdlock) (var 1)
     ⨾ write (var 0) (constant 1))))
@@ -254,8 +254,8 @@ movesBothPlaces = names 0 1 ∷ goes 0 ∷ names 0 2 ∷ goes 0 ∷ names 0 3 �
 -- Two locks with unlike loads meet in one variable.
 abbrev pub twoLoads : Program
 twoLoads = plain
-    (letIn 0 (make newlock)
-    (letIn 1 (make newlock)
+    (letIn 0 (nullary newlock)
+    (letIn 1 (nullary newlock)
     (letIn 2 (if (var 0) (var 1))
     (unary lock (var 2)))))
 
@@ -263,8 +263,8 @@ twoLoads = plain
 abbrev pub unlockForNothing : Program
 unlockForNothing = plain
     (letIn 0 (unary ref (constant 0))
-    (letIn 1 (make newlock)
-    (spawn (make newtid) (unary lock (var 1) ⨾ write (var 0) (constant 1))
+    (letIn 1 (nullary newlock)
+    (spawn (nullary newtid) (unary lock (var 1) ⨾ write (var 0) (constant 1))
     ⨾ unary lock (var 1)
     ⨾ unary unlock (var 1)
     ⨾ write (var 0) (constant 2))))
@@ -280,7 +280,7 @@ movesUnlockForNothing =
 abbrev pub oneIdentifier : Program
 oneIdentifier = plain
     (letIn 0 (unary ref (constant 0))
-    (letIn 1 (make newtid)
+    (letIn 1 (nullary newtid)
     (spawn (var 1) (write (var 0) (constant 1))
     ⨾ spawn (var 1) (write (var 0) (constant 2)))))
 
@@ -289,7 +289,7 @@ movesOneIdentifier = names 0 1 ∷ goes 0 ∷ names 0 2 ∷ goes 0 ∷ goes 0 �
 
 -- A `post` of a lock.
 abbrev pub postOfLock : Program
-postOfLock = plain (letIn 0 (make newlock) (unary post (var 0)))
+postOfLock = plain (letIn 0 (nullary newlock) (unary post (var 0)))
 
 -- The lock gets the name 1, and is about to be posted.
 abbrev pub movesPostOfLock : List Move

@@ -22,10 +22,10 @@ pub data Unary : Type 0 where
   hold : HoldWord → Unary
   call : (f : ℕ) → Unary
 
--- The words with no part that make a new thing. A read-write lock is made with its number of reading places.
-pub data Maker : Type 0 where
-  newtid newlock newsem : Maker
-  newrwlock : ℕ → Maker
+-- The words with no part, which reduce as they are: each makes a new thing. A read-write lock is made with its number of reading places.
+pub data Nullary : Type 0 where
+  newtid newlock newsem : Nullary
+  newrwlock : ℕ → Nullary
 
 -- Figure 1, extended with values as in Section 2.1. A variable is a number, and a constant n is `value (int n)`.
 pub data Exp : Type 0 where
@@ -37,7 +37,7 @@ pub data Exp : Type 0 where
   spawn : Exp → Exp → Exp
   write : Exp → Exp → Exp
   unary : Unary → Exp → Exp
-  make : Maker → Exp
+  nullary : Nullary → Exp
 
 -- ---- The next word
 
@@ -50,7 +50,7 @@ pub data Redex : Type 0 where
   spawnRedex : Value → Exp → Redex
   writeRedex : Value → Value → Redex
   unaryRedex : Unary → Value → Redex
-  makeRedex : Maker → Redex
+  nullaryRedex : Nullary → Redex
 
 -- What an expression does next: nothing, for it is a value; nothing, for it has come to a variable that no value was put
 -- for; or a word.
@@ -76,7 +76,7 @@ nextWord (while e) = atWord (whileRedex e)
 nextWord (spawn e₁ e₂) = once (nextWord e₁) λ v. atWord (spawnRedex v e₂)
 nextWord (write e₁ e₂) = once (nextWord e₁) λ v. once (nextWord e₂) λ w. atWord (writeRedex v w)
 nextWord (unary o e) = once (nextWord e) λ v. atWord (unaryRedex o v)
-nextWord (make o) = atWord (makeRedex o)
+nextWord (nullary o) = atWord (nullaryRedex o)
 
 -- ---- Putting a reduct back
 
@@ -95,7 +95,7 @@ plug (while e) r = r
 plug (spawn e₁ e₂) r = ifValue (nextWord e₁) r (spawn (plug e₁ r) e₂)
 plug (write e₁ e₂) r = ifValue (nextWord e₁) (ifValue (nextWord e₂) r (write e₁ (plug e₂ r))) (write (plug e₁ r) e₂)
 plug (unary o e) r = ifValue (nextWord e) r (unary o (plug e r))
-plug (make o) r = r
+plug (nullary o) r = r
 
 -- ---- Substitution
 
@@ -114,7 +114,7 @@ substitute x v (while e) = while (substitute x v e)
 substitute x v (spawn e₁ e₂) = spawn (substitute x v e₁) (substitute x v e₂)
 substitute x v (write e₁ e₂) = write (substitute x v e₁) (substitute x v e₂)
 substitute x v (unary o e) = unary o (substitute x v e)
-substitute x v (make o) = make o
+substitute x v (nullary o) = nullary o
 
 -- ---- Programs
 

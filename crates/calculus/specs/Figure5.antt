@@ -6,7 +6,7 @@ use mathlib.Core.Path.{_≡_}
 use mathlib.Core.Option.{Option, none, some}
 use mathlib.Core.List.{List, [], _∷_}
 use lib.ListN.{getElem?}
-use Rattle.calculus.specs.Expression.{int, rdlock, rdunlock, wrlock, wrunlock, join, ref, read, lock, unlock, post, wait, hold, call, newtid, newlock, newsem, newrwlock, Exp, value, var, letIn, if, while, spawn, write, unary, make, Procedure, Program}
+use Rattle.calculus.specs.Expression.{int, rdlock, rdunlock, wrlock, wrunlock, join, ref, read, lock, unlock, post, wait, hold, call, newtid, newlock, newsem, newrwlock, Exp, value, var, letIn, if, while, spawn, write, unary, nullary, Procedure, Program}
 use Rattle.calculus.specs.State.{update}
 use Rattle.calculus.specs.Capability.{Cap, _×ᶜ_, _≥ᶜ_, _≈_⊕_}
 
@@ -68,7 +68,7 @@ pub data _∣_∣_∣_⊢_∶_∣_ (D : ℕ) (S : Signatures) : Env → Cap → 
   WHILE : {Γ : Env} {Ψ Ψ₁ Ψ₂ : Cap} {e : Exp} {τ : Ty} →
       D ∣ S ∣ Γ ∣ Ψ₁ ⊢ e ∶ τ ∣ Ψ₂ → Ψ₂ ≥ᶜ Ψ₁ → Ψ ≥ᶜ Ψ₁ →
       D ∣ S ∣ Γ ∣ Ψ ⊢ while e ∶ intType ∣ Ψ₁
-  NEWT : {Γ : Env} {Ψ Ψ₁ : Cap} → D ∣ S ∣ Γ ∣ Ψ ⊢ make newtid ∶ tidType Ψ₁ ∣ Ψ
+  NEWT : {Γ : Env} {Ψ Ψ₁ : Cap} → D ∣ S ∣ Γ ∣ Ψ ⊢ nullary newtid ∶ tidType Ψ₁ ∣ Ψ
   SPAWN : {Γ : Env} {Ψ Ψ₁ Ψ₂ Ψ₃ Ψ₄ Ψ₅ : Cap} {e₁ e₂ : Exp} {τ : Ty} →
       D ∣ S ∣ Γ ∣ Ψ ⊢ e₁ ∶ tidType Ψ₁ ∣ Ψ₂ → D ∣ S ∣ Γ ∣ Ψ₃ ⊢ e₂ ∶ τ ∣ Ψ₄ → Ψ₄ ≥ᶜ Ψ₁ → Ψ₂ ≈ Ψ₅ ⊕ Ψ₃ →
       D ∣ S ∣ Γ ∣ Ψ ⊢ spawn e₁ e₂ ∶ intType ∣ Ψ₅
@@ -84,14 +84,14 @@ pub data _∣_∣_∣_⊢_∶_∣_ (D : ℕ) (S : Signatures) : Env → Cap → 
   READ : {Γ : Env} {Ψ Ψ₁ : Cap} {e : Exp} {τ : Ty} {ρ : ℕ} →
       D ∣ S ∣ Γ ∣ Ψ ⊢ e ∶ refType ρ τ ∣ Ψ₁ → 0 < Ψ₁ ρ →
       D ∣ S ∣ Γ ∣ Ψ ⊢ unary read e ∶ τ ∣ Ψ₁
-  NEWL : {Γ : Env} {Ψ Ψᵢ Ψₒ Ψ₂ : Cap} → Ψₒ ≥ᶜ Ψᵢ → Ψ ≈ Ψ₂ ⊕ Ψₒ → D ∣ S ∣ Γ ∣ Ψ ⊢ make newlock ∶ lockType Ψᵢ Ψₒ ∣ Ψ₂
+  NEWL : {Γ : Env} {Ψ Ψᵢ Ψₒ Ψ₂ : Cap} → Ψₒ ≥ᶜ Ψᵢ → Ψ ≈ Ψ₂ ⊕ Ψₒ → D ∣ S ∣ Γ ∣ Ψ ⊢ nullary newlock ∶ lockType Ψᵢ Ψₒ ∣ Ψ₂
   LCK : {Γ : Env} {Ψ Ψᵢ Ψₒ Ψ₂ Ψ₃ : Cap} {e : Exp} →
       D ∣ S ∣ Γ ∣ Ψ ⊢ e ∶ lockType Ψᵢ Ψₒ ∣ Ψ₂ → Ψ₃ ≈ Ψ₂ ⊕ Ψᵢ →
       D ∣ S ∣ Γ ∣ Ψ ⊢ unary lock e ∶ intType ∣ Ψ₃
   ULCK : {Γ : Env} {Ψ Ψᵢ Ψₒ Ψ₂ Ψ₃ : Cap} {e : Exp} →
       D ∣ S ∣ Γ ∣ Ψ ⊢ e ∶ lockType Ψᵢ Ψₒ ∣ Ψ₂ → Ψ₂ ≈ Ψ₃ ⊕ Ψₒ →
       D ∣ S ∣ Γ ∣ Ψ ⊢ unary unlock e ∶ intType ∣ Ψ₃
-  NEWSEM : {Γ : Env} {Ψ Ψ₁ : Cap} → D ∣ S ∣ Γ ∣ Ψ ⊢ make newsem ∶ semType Ψ₁ ∣ Ψ
+  NEWSEM : {Γ : Env} {Ψ Ψ₁ : Cap} → D ∣ S ∣ Γ ∣ Ψ ⊢ nullary newsem ∶ semType Ψ₁ ∣ Ψ
   POST : {Γ : Env} {Ψ Ψ₁ Ψ₂ Ψ₃ : Cap} {e : Exp} →
       D ∣ S ∣ Γ ∣ Ψ ⊢ e ∶ semType Ψ₁ ∣ Ψ₂ → Ψ₂ ≈ Ψ₃ ⊕ Ψ₁ →
       D ∣ S ∣ Γ ∣ Ψ ⊢ unary post e ∶ intType ∣ Ψ₃
@@ -101,7 +101,7 @@ pub data _∣_∣_∣_⊢_∶_∣_ (D : ℕ) (S : Signatures) : Env → Cap → 
   -- N bounds the reading holds, not the threads: "one thread may read twice".
   NEWRWLOCK : {Γ : Env} {Ψ Ψr Ψw Ψ₂ : Cap} {N : ℕ} →
       Ψw ≥ᶜ N ×ᶜ Ψr → Ψ ≈ Ψ₂ ⊕ Ψw →
-      D ∣ S ∣ Γ ∣ Ψ ⊢ make (newrwlock N) ∶ rwlockType Ψr Ψw ∣ Ψ₂
+      D ∣ S ∣ Γ ∣ Ψ ⊢ nullary (newrwlock N) ∶ rwlockType Ψr Ψw ∣ Ψ₂
   RDLOCK : {Γ : Env} {Ψ Ψr Ψw Ψ₂ Ψ₃ : Cap} {e : Exp} →
       D ∣ S ∣ Γ ∣ Ψ ⊢ e ∶ rwlockType Ψr Ψw ∣ Ψ₂ → Ψ₃ ≈ Ψ₂ ⊕ Ψr →
       D ∣ S ∣ Γ ∣ Ψ ⊢ unary (hold rdlock) e ∶ intType ∣ Ψ₃

@@ -1,6 +1,6 @@
 -- Programs with procedures (Section 3.1.3), with moves that run them. What they show is proved in proofs/Examples.
 use mathlib.Core.List.{List, [], _∷_}
-use Rattle.calculus.specs.Expression.{ref, lock, unlock, call, newtid, newlock, Exp, var, letIn, if, spawn, write, unary, make, Procedure, Program}
+use Rattle.calculus.specs.Expression.{ref, lock, unlock, call, newtid, newlock, Exp, var, letIn, if, spawn, write, unary, nullary, Procedure, Program}
 use Rattle.calculus.specs.State.{Move}
 use Rattle.calculus.specs.Examples.{constant, _⨾_, goes, names, leaves}
 
@@ -19,9 +19,9 @@ abbrev pub purging : Program
 purging = record {
   procedures = purge ∷ [];
   root = letIn 1 (unary ref (constant 7))
-      (letIn 2 (make newlock)
+      (letIn 2 (nullary newlock)
       (letIn 3 (unary ref (constant 7))
-      (spawn (make newtid) purgesLocked
+      (spawn (nullary newtid) purgesLocked
       ⨾ purgesLocked
       ⨾ write (var 3) (constant 1))));
 }
@@ -61,7 +61,7 @@ keptTwice = record {
   procedures = pause ∷ [];
   root = letIn 1 (unary ref (constant 0))
       (unary (call 0) (constant 0)
-      ⨾ spawn (make newtid) (write (var 1) (constant 1))
+      ⨾ spawn (nullary newtid) (write (var 1) (constant 1))
       ⨾ write (var 1) (constant 2));
 }
 

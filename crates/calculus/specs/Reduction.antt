@@ -4,7 +4,7 @@ use mathlib.Core.Option.{Option, none, some}
 use mathlib.Core.List.{List, [], _∷_, _++_}
 use native.Mathlib.Decide.{ℕ-discrete, decLt}
 use lib.ListN.{getElem?, set}
-use Rattle.calculus.specs.Expression.{Value, int, name, HoldWord, rdlock, rdunlock, wrlock, wrunlock, Unary, join, ref, read, lock, unlock, post, wait, hold, call, Maker, newtid, newlock, newsem, newrwlock, Exp, value, letIn, if, while, Redex, letRedex, ifRedex, whileRedex, spawnRedex, writeRedex, unaryRedex, makeRedex, Next, isValue, atVariable, atWord, nextWord, plug, choose, substitute, Procedure, Program}
+use Rattle.calculus.specs.Expression.{Value, int, name, HoldWord, rdlock, rdunlock, wrlock, wrunlock, Unary, join, ref, read, lock, unlock, post, wait, hold, call, Nullary, newtid, newlock, newsem, newrwlock, Exp, value, letIn, if, while, Redex, letRedex, ifRedex, whileRedex, spawnRedex, writeRedex, unaryRedex, nullaryRedex, Next, isValue, atVariable, atWord, nextWord, plug, choose, substitute, Procedure, Program}
 use Rattle.calculus.specs.State.{LockState, opened, closed, Inside, readers, writer, Slot, unused, identifier, cell, aLock, semaphore, rwlock, Thread, State, Part, first, second, Move, update, remove}
 
 -- ---- What a word asks before it reduces: `none` where the answer is no
@@ -128,7 +128,7 @@ partListed first e₁ e₂ = e₁
 partListed second e₁ e₂ = e₂
 
 -- A new lock is open; a new semaphore counts 0; no one is in at a new read-write lock.
-abbrev pub made : Maker → Slot
+abbrev pub made : Nullary → Slot
 made newtid = identifier
 made newlock = aLock opened
 made newsem = semaphore 0
@@ -212,7 +212,7 @@ module _ (P : List Procedure) where
     cellValue (s .names n)
     some (becomes s m t (update (s .names) n (cell w)) zeroExp)
   reduct s m t (unaryRedex o v) = unaryReduct s m t o v
-  reduct s m t (makeRedex o) = named s m t (made o)
+  reduct s m t (nullaryRedex o) = named s m t (made o)
 
   -- The state after a move, if the move is a reduction.
   unfoldable pub reduce : State → Move → Option State

@@ -8,8 +8,8 @@ use Rattle.control.specs.Layout.{continuationsAt, secondPart, finish, le
 use Rattle.control.specs.Shapes.{shapeAt}
 use Rattle.control.specs.Control.{continuation, second, firstOf}
 use Rattle.control.specs.Continuations.{joined, linkedParts, linkedStep, linkedFrom, bodiesJoined}
-use Rattle.control.specs.declared.shapes.Shape.{Shape}
-use Rattle.control.specs.declared.shapes.Shape.the-variants.{Variable, Constant, Maker, While, OnePart, Call, Let, If, Spawn, Write}
+use Rattle.workspace.specs.declared.Shape.{Shape}
+use Rattle.workspace.specs.declared.Shape.the-variants.{Variable, Constant, NoPart, While, OnePart, Call, Let, If, Spawn, Write}
 
 pub joined-length : (p : List ℕ) (k c : ℕ) → length (joined p k c) ≡ length p
 unfolding joined
@@ -20,7 +20,7 @@ pub parts-length : (x : Shape) (p : List ℕ) (k c b : ℕ) → length (linkedPa
 unfolding linkedParts
 parts-length Variable p k c b = refl
 parts-length Constant p k c b = refl
-parts-length Maker p k c b = refl
+parts-length NoPart p k c b = refl
 parts-length While p k c b = joined-length p (k + 1) k
 parts-length OnePart p k c b = joined-length p (k + 1) k
 parts-length Call p k c b = joined-length p (k + 1) k

@@ -7,8 +7,8 @@ use Rattle.spec.specs.declared.BinaryWord.the-variants as word
 use Rattle.control.specs.Layout.{continuationsAt, secondPart, finish, leave, proceduresAt}
 use Rattle.control.specs.Shapes.{shapeAt}
 use Rattle.control.specs.Control.{continuation, second, firstOf, rootOf}
-use Rattle.control.specs.declared.shapes.Shape.{Shape}
-use Rattle.control.specs.declared.shapes.Shape.the-variants.{Variable, Constant, Maker, While, OnePart, Call, Let, If, Spawn, Write}
+use Rattle.workspace.specs.declared.Shape.{Shape}
+use Rattle.workspace.specs.declared.Shape.the-variants.{Variable, Constant, NoPart, While, OnePart, Call, Let, If, Spawn, Write}
 
 -- for each step of an expression in line order, what follows once it is a value; k is the index of its first step, c what follows the
 -- whole: a `let` and an `if` are done with once their e2, or the part listed, is entered
@@ -28,7 +28,7 @@ joined p k c = set p (continuationsAt + k) c
 unfoldable pub linkedParts : Shape → (p : List ℕ) (k c second : ℕ) → List ℕ
 linkedParts Variable p k c b = p
 linkedParts Constant p k c b = p
-linkedParts Maker p k c b = p
+linkedParts NoPart p k c b = p
 linkedParts While p k c b = joined p (k + 1) k
 linkedParts OnePart p k c b = joined p (k + 1) k
 linkedParts Call p k c b = joined p (k + 1) k

@@ -9,8 +9,8 @@ use Rattle.workspace.specs.Layout.{valuesAt, endsAt, procFirstsAt}
 use Rattle.control.specs.Layout.{continuationsAt, secondPart, finish, leave, proceduresAt, environmentsAt, keptValuesAt, openCallsAt}
 use Rattle.control.specs.Shapes.{shapeAt, isWrite}
 use Rattle.control.specs.declared.Focus.{Focus}
-use Rattle.control.specs.declared.shapes.Shape.{Shape}
-use Rattle.control.specs.declared.shapes.Shape.the-variants.{Variable, Constant, Maker, While, OnePart, Call, Let, If, Spawn, Write}
+use Rattle.workspace.specs.declared.Shape.{Shape}
+use Rattle.workspace.specs.declared.Shape.the-variants.{Variable, Constant, NoPart, While, OnePart, Call, Let, If, Spawn, Write}
 
 unfoldable pub variable : (s : List ℕ) (r x : ℕ) → ℕ
 variable s r x = getD s (environmentsAt + 256 * r + x) 0
@@ -67,7 +67,7 @@ doneWith r v = focus 5 0 v r
 unfoldable pub enteredBy : Shape → (r k c x : ℕ) → Focus
 enteredBy Variable r k c x = returning r c x
 enteredBy Constant r k c x = returning r c 0
-enteredBy Maker r k c x = stoppedAt r k
+enteredBy NoPart r k c x = stoppedAt r k
 enteredBy While r k c x = stoppedAt r k
 enteredBy OnePart r k c x = entering r (behind k)
 enteredBy Call r k c x = entering r (behind k)

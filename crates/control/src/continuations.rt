@@ -1,11 +1,11 @@
 // The continuation of each step, found once for a program: what follows once the step is a value.
-use crate::Shape;
 use crate::layout::CONTINUATIONS;
 use crate::layout::FINISH;
 use crate::layout::LEAVE;
 use crate::layout::PROCEDURES;
 use crate::layout::SECOND_PART;
 use crate::put;
+use workspace::Shape;
 use workspace::at;
 use workspace::index;
 ghost use mathlib.Core.Path.{_≡_};
@@ -27,7 +27,7 @@ fn link_parts(program: &mut [u32], s: Shape, k: u32, c: u32, second: u32)
     match s {
         Shape::Variable => {}
         Shape::Constant => {}
-        Shape::Maker => {}
+        Shape::NoPart => {}
         Shape::While => join(program, k + 1, k),
         Shape::OnePart => join(program, k + 1, k),
         Shape::Call => join(program, k + 1, k),

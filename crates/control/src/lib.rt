@@ -14,13 +14,13 @@ use layout::OPEN_CALLS;
 use layout::PROCEDURES;
 use layout::ROW;
 use layout::SECOND_PART;
-pub use shapes::Shape;
 pub use shapes::is_if;
 pub use shapes::is_write;
-pub use shapes::shape_of;
+use workspace::Shape;
 use workspace::at;
 use workspace::index;
 use workspace::rule_of;
+use workspace::shape_of;
 ghost use mathlib.Core.Path.{_≡_};
 ghost use Prim.Native.Nat.{_<_, _-_};
 ghost use lib.ListN.{set};
@@ -150,7 +150,7 @@ fn entered_by(s: Shape, row: u32, k: u32, c: u32, x: u32) -> Focus
     match s {
         Shape::Variable => returning(row, c, x),
         Shape::Constant => returning(row, c, 0),
-        Shape::Maker => stopped_at(row, k),
+        Shape::NoPart => stopped_at(row, k),
         Shape::While => stopped_at(row, k),
         Shape::OnePart => entering(row, behind(k)),
         Shape::Call => entering(row, behind(k)),

@@ -6,9 +6,10 @@ use lib.Dec.{eqb}
 use lib.ListN.{getD}
 use Rattle.spec.specs.Choice.{if_then_else_}
 use Rattle.workspace.specs.Layout.{wordsAt, ruleOf}
-use Rattle.workspace.specs.declared.Rule.{Rule}
-use Rattle.workspace.specs.declared.Rule.the-variants.{VAR, INT, LET, IF, WHILE, NEWT, SPAWN, JOIN, REF, WRITE, READ, NEWL, LCK, ULCK, NEWSEM, POST, WAIT, NEWRWLOCK, RDLOCK, RDUNLOCK, WRLOCK, WRUNLOCK, CALL}
 use Rattle.control.specs.declared.Focus.{Focus}
+use Rattle.things.specs.Uses.{usedBy}
+use Rattle.things.specs.declared.Used.{Used}
+use Rattle.things.specs.declared.Used.the-variants.{Gives, Leaves, Makes, Spawns, Joins, Stuck}
 use Rattle.reduction.specs.Slots.{slotAt}
 use Rattle.engine.specs.Focuses.{focusAt}
 use Rattle.reduction.specs.Words.{subject}
@@ -21,35 +22,20 @@ use Rattle.engine.specs.declared.races.Pair.the-variants as pair
 
 -- ------------------------------------------------------------------ one thread
 
-unfoldable pub accessBy : Rule → (v : ℕ) → Access
-accessBy VAR v = None
-accessBy INT v = None
-accessBy LET v = None
-accessBy IF v = None
-accessBy WHILE v = None
-accessBy NEWT v = None
-accessBy SPAWN v = None
-accessBy JOIN v = None
-accessBy REF v = None
-accessBy WRITE v = Write v
-accessBy READ v = Read v
-accessBy NEWL v = None
-accessBy LCK v = None
-accessBy ULCK v = None
-accessBy NEWSEM v = None
-accessBy POST v = None
-accessBy WAIT v = None
-accessBy NEWRWLOCK v = None
-accessBy RDLOCK v = None
-accessBy RDUNLOCK v = None
-accessBy WRLOCK v = None
-accessBy WRUNLOCK v = None
-accessBy CALL v = None
+-- of a word at the cell that v names: it reads the cell if it becomes what the cell holds, and writes it if it leaves something there
+abbrev pub accessBy : Used → (v : ℕ) → Access
+accessBy (Gives w) v = Read v
+accessBy (Leaves x) v = Write v
+accessBy (Makes x) v = None
+accessBy Spawns v = None
+accessBy Joins v = None
+accessBy Stuck v = None
 
+-- a word uses a cell with the 0 that stands for any value: what it does does not hang on it
 unfoldable pub accessAt : (p s : List ℕ) → Focus → Access
-accessAt p s f =
+accessAt p s f = let v = subject p s f in
     if eqb (f .mode) 3
-    then (if eqb (slotAt s (subject p s f) .kind) 2 then accessBy (ruleOf (getD p (wordsAt + f .at) 0)) (subject p s f) else None)
+    then (if eqb (slotAt s v .kind) 2 then accessBy (usedBy (ruleOf (getD p (wordsAt + f .at) 0)) (slotAt s v) 0) v else None)
     else None
 
 unfoldable pub accessOf : (p s : List ℕ) (t : ℕ) → Access

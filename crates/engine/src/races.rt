@@ -4,7 +4,8 @@ use control::READY;
 use reduction::slot_at;
 use reduction::subject;
 use things::CELL;
-use workspace::Rule;
+use things::Used;
+use things::used_by;
 use workspace::at;
 use workspace::index;
 ghost use mathlib.Core.Path.{_≡_};
@@ -30,33 +31,18 @@ pub enum Partner {
     Is(u32),
 }
 
-fn access_by(r: Rule, v: u32) -> Access
-    ensures { λ a. ⌜ a ≡ accessBy r v ⌝ }
+// What a word does with the cell that v names: it reads the cell if it becomes what the cell holds, and writes it if it leaves something
+// there.
+fn access_by(u: Used, v: u32) -> Access
+    ensures { λ a. ⌜ a ≡ accessBy u v ⌝ }
 {
-    match r {
-        Rule::VAR => Access::None,
-        Rule::INT => Access::None,
-        Rule::LET => Access::None,
-        Rule::IF => Access::None,
-        Rule::WHILE => Access::None,
-        Rule::NEWT => Access::None,
-        Rule::SPAWN => Access::None,
-        Rule::JOIN => Access::None,
-        Rule::REF => Access::None,
-        Rule::WRITE => Access::Write(v),
-        Rule::READ => Access::Read(v),
-        Rule::NEWL => Access::None,
-        Rule::LCK => Access::None,
-        Rule::ULCK => Access::None,
-        Rule::NEWSEM => Access::None,
-        Rule::POST => Access::None,
-        Rule::WAIT => Access::None,
-        Rule::NEWRWLOCK => Access::None,
-        Rule::RDLOCK => Access::None,
-        Rule::RDUNLOCK => Access::None,
-        Rule::WRLOCK => Access::None,
-        Rule::WRUNLOCK => Access::None,
-        Rule::CALL => Access::None,
+    match u {
+        Used::Gives(_) => Access::Read(v),
+        Used::Leaves(_) => Access::Write(v),
+        Used::Makes(_) => Access::None,
+        Used::Spawns => Access::None,
+        Used::Joins => Access::None,
+        Used::Stuck => Access::None,
     }
 }
 
@@ -70,10 +56,8 @@ fn access_of(program: &[u32], space: &[u32], t: u32) -> Access
         let v = subject(program, space, f);
         let x = slot_at(space, v);
         if x.kind == CELL {
-            return access_by(
-                workspace::rule_of(at(program, workspace::WORDS + index(k))),
-                v,
-            );
+            let r = workspace::rule_of(at(program, workspace::WORDS + index(k)));
+            return access_by(used_by(r, x, 0), v);
         }
     }
     Access::None

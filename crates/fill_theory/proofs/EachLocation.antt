@@ -1,5 +1,5 @@
 -- The flow and access conditions of a split hold exactly when the after-maps that it shows pass at each location. One induction over
--- the words: each condition of the table is turned into the effect that `flowOf` has for it. Then one over the procedures.
+-- the words: each condition of the table is turned into the effect that `effectOf` has for it. Then one over the procedures.
 use mathlib.Core.Path.{_≡_}
 use mathlib.Core.Bool.{true}
 use mathlib.Core.List.{List, [], _∷_, _++_, append-assoc}
@@ -10,7 +10,7 @@ use lib.Dec.{leb}
 use lib.ListN.{length, getD}
 use native.Mathlib.Omega.{arith}
 use borrow.Author.Tests.{leb-true, ltb-true, le-leb, lt-ltb}
-use Rattle.spec.specs.Words.{role, binding, preOfPart, preOfSecond}
+use Rattle.spec.specs.Words.{calls, role, binding, preOfPart, preOfSecond}
 use Rattle.spec.specs.Expression.{Step, Position, Expr, leaf, unary, binary, size, Procedure}
 use Rattle.spec.specs.Split.{Map, Split, mapAt}
 use Rattle.spec.specs.Maps.{_≥ᵐ_, share}
@@ -27,8 +27,8 @@ use Rattle.spec.specs.declared.UnaryWord.the-variants.{While, Join, Ref, Read, 
 use Rattle.spec.specs.declared.BinaryWord.{BinaryWord}
 use Rattle.spec.specs.declared.BinaryWord.the-variants.{Let, If, Spawn, Write}
 use Rattle.spec.proofs.Claims.{step-parts, parts-step, both-parts, parts-both}
-use Rattle.fill_theory.specs.Flow.{taking, Flow, inTurn, branch, fork, Turns, Passes, Root, RootsPass}
-use Rattle.fill_theory.specs.FlowOf.{loadHere, inHere, outHere, readHere, writeHere, startHere, keptHere, beforeHere, afterHere, accessHere, flowOf, rootsFrom}
+use Rattle.fill_theory.specs.Flow.{unchanged, taking, giving, needing, lending, Flow, inTurn, branch, fork, unaryFlow, binaryFlow, Turns, Passes, Root, RootsPass}
+use Rattle.fill_theory.specs.FlowOf.{loops, moving, effectOf, partWay, binaryWay, beforeHere, afterHere, hasHere, givenHere, callHere, flowOf, rootsFrom}
 use Rattle.fill_theory.specs.declared.Effect.{Effect}
 use Rattle.fill_theory.proofs.Locations.{Everywhere, Known, together, lastly, restated, three, least-everywhere, sums, keeps, gives, takes, lends, needs}
 use Rattle.fill_theory.proofs.Sorts.{AllAt, OwnAt, only-parts, parts-only, sort-each}
@@ -114,7 +114,7 @@ module _ {ss : List Step} {S : Split} {σ : List Map} {T : Split} (G : Showing s
   -- pre is the map x; in the order of Figure 5
   pub flow-at-each-location : (Γ : Env) {pre x : Map} (e : Expr) (i : ℕ) → Placed ss i e → Known L pre x
       → AllFlow (sites T Γ pre e) ↔ Everywhere L (λ p. Passes (at σ p) i (share x p) (flowOf S p e))
-  unfolding AllHold Holds claimsAt numbered conditionsBy conditionsOf only isFlow preOfPart preOfSecond keptBack loadHere inHere outHere readHere writeHere startHere keptHere beforeHere afterHere accessHere flowOf Passes
+  unfolding AllHold Holds claimsAt numbered conditionsBy conditionsOf only isFlow preOfPart preOfSecond keptBack calls loops unchanged taking giving needing lending moving effectOf partWay binaryWay beforeHere afterHere hasHere givenHere callHere unaryFlow binaryFlow flowOf Passes
   flow-at-each-location Γ (leaf Var k v) i P before = no-part Γ _ Var k v (lastly (keeps (G .posts _ P) before))
   flow-at-each-location Γ (leaf Int k v) i P before = no-part Γ _ Int k v (lastly (keeps (G .posts _ P) before))
   flow-at-each-location Γ {x = x} (binary Let k v e₁ e₂) i P before =

@@ -12,46 +12,40 @@ use Rattle.spec.specs.Kinds.{refLocation, firstMap, secondMap}
 use Rattle.spec.specs.Conditions.{row, kind, post, bodyStart, keptBack, signature, startMap}
 use Rattle.spec.specs.Ranges.{InRange}
 use Rattle.spec.specs.declared.Location.{Location}
-use Rattle.spec.specs.declared.LeafWord.the-variants.{Var, Int, Newtid, Newlock, Newsem, Newrwlock}
 use Rattle.spec.specs.declared.UnaryWord.{UnaryWord}
-use Rattle.spec.specs.declared.UnaryWord.the-variants.{While, Join, Ref, Read, Lock, Unlock, Post, Wait, Rdlock, Rdunlock, Wrlock, Wrunlock, Call}
 use Rattle.spec.specs.declared.BinaryWord.{BinaryWord}
-use Rattle.spec.specs.declared.BinaryWord.the-variants.{Let, If, Spawn, Write}
 use Rattle.spec.proofs.Wide.{map-wide, start-wide, kept-wide, before-wide, after-wide}
 use Rattle.spec.proofs.Listing.{size-positive, prefix-length, steps-among}
+use Rattle.fill_theory.specs.declared.UnaryWay.{UnaryWay}
+use Rattle.fill_theory.specs.declared.UnaryWay.the-variants.{After, Loop, Call}
+use Rattle.fill_theory.specs.declared.BinaryWay.{BinaryWay}
+use Rattle.fill_theory.specs.declared.BinaryWay.the-variants.{InTurn, Branch, Fork}
 use Rattle.fill_theory.specs.Filled.{filled}
 use Rattle.fill_theory.specs.AfterMaps.{shownMaps}
-use Rattle.fill_theory.specs.Flow.{steps, stepsOf}
+use Rattle.fill_theory.specs.Flow.{Flow, unaryFlow, binaryFlow, steps, stepsOf}
 use Rattle.fill_theory.specs.FlowOf.{flowOf, rootsFrom}
 use Rattle.fill_theory.proofs.Kept.{kind-kept, place-within, first-wide, second-wide, start-map-wide, start-map-kept, start-kept, before-kept, after-kept, first-kept, second-kept, post-new}
 use Rattle.fill_theory.proofs.Locations.{Known}
 
+-- a step stands in front of its parts
+pub unary-steps : (way : UnaryWay) (f : Flow) → steps (unaryFlow way f) ≡ steps f + 1
+unfolding steps unaryFlow
+unary-steps (After E) f = omega arith
+unary-steps Loop f = omega arith
+unary-steps (Call wanted left) f = omega arith
+
+pub binary-steps : (way : BinaryWay) (f g : Flow) → steps (binaryFlow way f g) ≡ steps f + steps g + 1
+unfolding steps binaryFlow
+binary-steps (InTurn E) f g = omega arith
+binary-steps Branch f g = omega arith
+binary-steps (Fork start due) f g = omega arith
+
 -- a flow has the steps of its expression
 pub flow-steps : (S : Split) (p : Location) (e : Expr) → steps (flowOf S p e) ≡ size e
 unfolding steps flowOf size
-flow-steps S p (leaf Var k v) = refl
-flow-steps S p (leaf Int k v) = refl
-flow-steps S p (binary Let k v e₁ e₂) = rw (flow-steps S p e₁, flow-steps S p e₂)
-flow-steps S p (binary If k v e₁ e₂) = rw (flow-steps S p e₁, flow-steps S p e₂)
-flow-steps S p (unary While k v e₁) = ap suc (flow-steps S p e₁)
-flow-steps S p (leaf Newtid k v) = refl
-flow-steps S p (binary Spawn k v e₁ e₂) = rw (flow-steps S p e₁, flow-steps S p e₂)
-flow-steps S p (unary Join k v e₁) = ap suc (flow-steps S p e₁)
-flow-steps S p (unary Ref k v e₁) = ap suc (flow-steps S p e₁)
-flow-steps S p (binary Write k v e₁ e₂) = rw (flow-steps S p e₁, flow-steps S p e₂)
-flow-steps S p (unary Read k v e₁) = ap suc (flow-steps S p e₁)
-flow-steps S p (leaf Newlock k v) = refl
-flow-steps S p (unary Lock k v e₁) = ap suc (flow-steps S p e₁)
-flow-steps S p (unary Unlock k v e₁) = ap suc (flow-steps S p e₁)
-flow-steps S p (leaf Newsem k v) = refl
-flow-steps S p (leaf Newrwlock k v) = refl
-flow-steps S p (unary Post k v e₁) = ap suc (flow-steps S p e₁)
-flow-steps S p (unary Wait k v e₁) = ap suc (flow-steps S p e₁)
-flow-steps S p (unary Rdlock k v e₁) = ap suc (flow-steps S p e₁)
-flow-steps S p (unary Rdunlock k v e₁) = ap suc (flow-steps S p e₁)
-flow-steps S p (unary Wrlock k v e₁) = ap suc (flow-steps S p e₁)
-flow-steps S p (unary Wrunlock k v e₁) = ap suc (flow-steps S p e₁)
-flow-steps S p (unary Call k f e₁) = ap suc (flow-steps S p e₁)
+flow-steps S p (leaf x k v) = refl
+flow-steps S p (unary x k v e₁) = unary-steps _ (flowOf S p e₁) ∙ omega (arith, flow-steps S p e₁)
+flow-steps S p (binary x k v e₁ e₂) = binary-steps _ (flowOf S p e₁) (flowOf S p e₂) ∙ omega (arith, flow-steps S p e₁, flow-steps S p e₂)
 
 -- ------------------------------------------------------------------ places
 

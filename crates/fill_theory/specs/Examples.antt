@@ -19,9 +19,9 @@ use Rattle.written.specs.Sheet.{headingName, headerNumbers, headerFields, outNu
 use Rattle.fill_theory.specs.Filled.{withPosts, filled}
 use Rattle.fill_theory.specs.AfterMaps.{typeClaims}
 use Rattle.fill_theory.specs.Found as option
-use Rattle.fill_theory.specs.Flow.{unchanged, taking, giving, needing, lending}
+use Rattle.fill_theory.specs.Flow.{unchanged, taking, giving, needing, lending, unaryFlow, binaryFlow}
 use Rattle.fill_theory.specs.Pass.{turn, forth, back, ownPost, weight, ceiling, reach, pass, greatestPosts, postsOfRoots}
-use Rattle.fill_theory.specs.FlowOf.{asks, loadHere, inHere, outHere, readHere, writeHere, startHere, keptHere, beforeHere, afterHere, accessHere, flowOf, rootsFrom, rootsOf}
+use Rattle.fill_theory.specs.FlowOf.{asks, loops, moving, effectOf, partWay, binaryWay, beforeHere, afterHere, hasHere, givenHere, callHere, flowOf, rootsFrom, rootsOf}
 use Rattle.fill_theory.specs.GreatestMaps.{postsAt, mapOfStep, mapsOfSteps, greatestMaps}
 use Rattle.fill_theory.specs.Answer.{givenLimit, numberLimit, mapAtMost, allAtMost, foundOr, filledText, fill, returnedFor}
 
@@ -38,7 +38,7 @@ p with s has ms = record { program = p; split = s; maps = ms }
 
 -- what the definitions give a pair
 unfoldable pub mapsFound : Example → Out (Option (List Map))
-unfolding found option._>>=_ option.demand option.forEach unchanged taking giving needing lending turn forth back ownPost weight ceiling reach pass greatestPosts postsOfRoots asks loadHere inHere outHere readHere writeHere startHere keptHere beforeHere afterHere accessHere flowOf rootsFrom rootsOf postsAt mapOfStep mapsOfSteps greatestMaps
+unfolding found option._>>=_ option.demand option.forEach unchanged taking giving needing lending turn forth back ownPost weight ceiling reach pass greatestPosts postsOfRoots asks loops moving effectOf partWay binaryWay beforeHere afterHere hasHere givenHere callHere unaryFlow binaryFlow flowOf rootsFrom rootsOf postsAt mapOfStep mapsOfSteps greatestMaps
 mapsFound r = program (barred (r .program)) >>= λ p. split Fill p (barred (r .split)) >>= λ s. on (greatestMaps p s)
 
 -- maps of one location

@@ -4,6 +4,10 @@ use mathlib.Core.Path.{_≡_}
 use mathlib.Core.List.{List, [], _∷_}
 use Prim.Native.Nat.{ℕ, suc, _+_, _≤_}
 use Rattle.fill_theory.specs.declared.Effect.{Effect}
+use Rattle.fill_theory.specs.declared.UnaryWay.{UnaryWay}
+use Rattle.fill_theory.specs.declared.UnaryWay.the-variants.{After, Loop, Call}
+use Rattle.fill_theory.specs.declared.BinaryWay.{BinaryWay}
+use Rattle.fill_theory.specs.declared.BinaryWay.the-variants.{InTurn, Branch, Fork}
 
 -- ------------------------------------------------------------------ effects
 
@@ -42,6 +46,17 @@ pub data Flow : Type 0 where
   -- a part ends with exactly `atCall`, and the step with exactly `atReturn`: what a procedure starts with and what it ends with, each
   -- with what is kept back
   call : (atCall atReturn : ℕ) → Flow → Flow
+
+-- the flow of a step with its parts, by its way
+unfoldable pub unaryFlow : UnaryWay → Flow → Flow
+unaryFlow (After E) f = after E f
+unaryFlow Loop f = loop f
+unaryFlow (Call wanted left) f = call wanted left f
+
+unfoldable pub binaryFlow : BinaryWay → Flow → Flow → Flow
+binaryFlow (InTurn E) f g = inTurn E f g
+binaryFlow Branch f g = branch f g
+binaryFlow (Fork start due) f g = fork start due f g
 
 unfoldable pub steps : Flow → ℕ
 steps (alone E) = 1

@@ -1,84 +1,130 @@
--- The flow of an expression at a location: document 01's table, its (F) and (A) conditions at that location; and the flows of a
--- program, its procedures' bodies and its root.
+-- The flow of an expression at a location: what the entries on flow (F) and access (A) of its word's line in document 01's table say there;
+-- and the flows of a program, its procedures' bodies and its root.
+use mathlib.Core.Bool.{Bool, true, false}
 use mathlib.Core.List.{List, [], _∷_}
 use Prim.Native.Nat.{ℕ, _+_, _*_}
 use lib.Dec.{eqb}
 use Rattle.spec.specs.Choice.{if_then_else_}
+use Rattle.spec.specs.Words.{calls}
 use Rattle.spec.specs.Expression.{Expr, leaf, unary, binary, Procedure}
 use Rattle.spec.specs.Program.{Program}
 use Rattle.spec.specs.Split.{Split, mapAt}
 use Rattle.spec.specs.Maps.{share}
 use Rattle.spec.specs.Kinds.{refLocation, firstMap, secondMap}
-use Rattle.spec.specs.Conditions.{kind, startMap, bodyStart, keptBack, signature}
+use Rattle.spec.specs.Table.{MapTerm, pre, s, post-of, K, «in», out, r, w, before, after, Entry, _a_, _is_, _shows_, _is-c-of_, _＝_, _≧_, N×_≦_, _⊕_＝_, _＝_⊕_, post-at-p＞0, post-at-p≧D, table}
+use Rattle.spec.specs.Conditions.{stepNumber, kind, startMap, bodyStart, keptBack, signature}
 use Rattle.spec.specs.declared.Location.{Location}
-use Rattle.spec.specs.declared.LeafWord.the-variants.{Var, Int, Newtid, Newlock, Newsem, Newrwlock}
+use Rattle.spec.specs.declared.Word.the-variants.{Leaf, Unary, Binary}
+use Rattle.spec.specs.declared.UnaryWord.{UnaryWord}
 use Rattle.spec.specs.declared.UnaryWord.the-variants.{While, Join, Ref, Read, Lock, Unlock, Post, Wait, Rdlock, Rdunlock, Wrlock, Wrunlock, Call}
+use Rattle.spec.specs.declared.BinaryWord.{BinaryWord}
 use Rattle.spec.specs.declared.BinaryWord.the-variants.{Let, If, Spawn, Write}
-use Rattle.fill_theory.specs.Flow.{unchanged, taking, giving, needing, lending, Flow, alone, after, inTurn, branch, loop, fork, call, Root}
+use Rattle.fill_theory.specs.declared.Effect.{Effect}
+use Rattle.fill_theory.specs.declared.UnaryWay.{UnaryWay}
+use Rattle.fill_theory.specs.declared.UnaryWay.the-variants as way
+use Rattle.fill_theory.specs.declared.BinaryWay.{BinaryWay}
+use Rattle.fill_theory.specs.declared.BinaryWay.the-variants.{InTurn, Branch, Fork}
+use Rattle.fill_theory.specs.Flow.{unchanged, Flow, alone, unaryFlow, binaryFlow, Root}
 
 -- an access to the location p that needs d there needs nothing elsewhere
 unfoldable pub asks : (here p : Location) → (d : ℕ) → ℕ
 asks here p d = if eqb (p .0) (here .0) then d else 0
 
+-- ------------------------------------------------------------------ a line of the table
+
+-- what a sheet gives a step at a location: its number and the denominator; what the maps have there that its line names; and what an access
+-- needs there that needs d at p
+pub record Given : Type 0 where
+  pub number : ℕ
+  pub denominator : ℕ
+  pub has : MapTerm → ℕ
+  pub needs : (d : ℕ) → ℕ
+
+-- the part of `while` runs again and again
+unfoldable pub loops : UnaryWord → Bool
+loops While = true
+loops Join = false
+loops Ref = false
+loops Read = false
+loops Lock = false
+loops Unlock = false
+loops Post = false
+loops Wait = false
+loops Rdlock = false
+loops Rdunlock = false
+loops Wrlock = false
+loops Wrunlock = false
+loops Call = false
+
+module _ (g : Given) where
+  -- what an entry takes, gives, needs or lends, beside what the entries behind it do
+  unfoldable pub moving : Entry → Effect → Effect
+  moving (n a k) E = E
+  moving (n is t) E = E
+  moving (n shows t) E = E
+  moving (n is-c-of m) E = E
+  moving (l ＝ m) E = E
+  moving (l ≧ m) E = E
+  moving (N× l ≦ m) E = record { takes = E .takes; gives = E .gives; needs = E .needs; lends = g .number * g .has l }
+  moving (l ⊕ m ＝ n) E = record { takes = g .has m; gives = E .gives; needs = E .needs; lends = E .lends }
+  moving (l ＝ m ⊕ n) E = record { takes = E .takes; gives = g .has n; needs = E .needs; lends = E .lends }
+  moving post-at-p＞0 E = record { takes = E .takes; gives = E .gives; needs = g .needs 1; lends = E .lends }
+  moving post-at-p≧D E = record { takes = E .takes; gives = E .gives; needs = g .needs (g .denominator); lends = E .lends }
+
+  unfoldable pub effectOf : List Entry → Effect
+  effectOf [] = unchanged
+  effectOf (x ∷ line) = moving x (effectOf line)
+
+  -- the way of a step with one part that calls no procedure, and of one with two parts
+  unfoldable pub partWay : UnaryWord → UnaryWay
+  partWay x = if loops x then way.Loop else way.After (effectOf (table (Unary x)))
+
+  unfoldable pub binaryWay : BinaryWord → BinaryWay
+  binaryWay Let = InTurn (effectOf (table (Binary Let)))
+  binaryWay If = Branch
+  binaryWay Spawn = Fork (g .has s) (g .has K)
+  binaryWay Write = InTurn (effectOf (table (Binary Write)))
+
+-- ------------------------------------------------------------------ the flow of an expression
+
 module _ (S : Split) (here : Location) where
-  -- what the load of an expression's type, in and out of its lock type, r and w of its rwlock type, and the start of its body have here
-  unfoldable pub loadHere : Expr → ℕ
-  loadHere e = share (mapAt S (firstMap (kind S e))) here
-
-  unfoldable pub inHere : Expr → ℕ
-  inHere e = share (mapAt S (firstMap (kind S e))) here
-
-  unfoldable pub outHere : Expr → ℕ
-  outHere e = share (mapAt S (secondMap (kind S e))) here
-
-  unfoldable pub readHere : Expr → ℕ
-  readHere e = share (mapAt S (firstMap (kind S e))) here
-
-  unfoldable pub writeHere : Expr → ℕ
-  writeHere e = share (mapAt S (secondMap (kind S e))) here
-
-  unfoldable pub startHere : Expr → ℕ
-  startHere e = share (bodyStart S e) here
-
-  -- what a call keeps back, and what procedure f starts and ends with
-  unfoldable pub keptHere : Expr → ℕ
-  keptHere e = share (keptBack S e) here
-
+  -- what procedure f starts and ends with
   unfoldable pub beforeHere : (f : ℕ) → ℕ
   beforeHere f = share (mapAt S (signature S f .before)) here
 
   unfoldable pub afterHere : (f : ℕ) → ℕ
   afterHere f = share (mapAt S (signature S f .after)) here
 
-  -- what an access through the ref type of an expression needs here, if it needs d at its location
-  unfoldable pub accessHere : Expr → (d : ℕ) → ℕ
-  accessHere e d = asks here (refLocation (kind S e)) d
+  -- what a step e is given, whose K, in, out, r, w and p are those of the type of `holder`; nothing of the maps before and after steps,
+  -- which are looked for, nor of a procedure's
+  unfoldable pub hasHere : (e holder : Expr) → MapTerm → ℕ
+  hasHere e h pre = 0
+  hasHere e h (post-of n) = 0
+  hasHere e h s = share (bodyStart S e) here
+  hasHere e h K = share (mapAt S (firstMap (kind S h))) here
+  hasHere e h «in» = share (mapAt S (firstMap (kind S h))) here
+  hasHere e h out = share (mapAt S (secondMap (kind S h))) here
+  hasHere e h r = share (mapAt S (firstMap (kind S h))) here
+  hasHere e h w = share (mapAt S (secondMap (kind S h))) here
+  hasHere e h before = 0
+  hasHere e h after = 0
 
-  -- in the order of Figure 5
+  unfoldable pub givenHere : (e holder : Expr) → Given
+  givenHere e h = record {
+    number = stepNumber e;
+    denominator = S .header .denominator;
+    has = hasHere e h;
+    needs = asks here (refLocation (kind S h));
+  }
+
+  -- what a call wants and leaves: the numbers of its procedure, each with what is kept back
+  unfoldable pub callHere : Expr → UnaryWay
+  callHere e = let kept = share (keptBack S e) here in way.Call (beforeHere (stepNumber e) + kept) (afterHere (stepNumber e) + kept)
+
   unfoldable pub flowOf : Expr → Flow
-  flowOf (leaf Var k v) = alone unchanged
-  flowOf (leaf Int k v) = alone unchanged
-  flowOf (binary Let k v e₁ e₂) = inTurn unchanged (flowOf e₁) (flowOf e₂)
-  flowOf (binary If k v e₁ e₂) = branch (flowOf e₁) (flowOf e₂)
-  flowOf (unary While k v e₁) = loop (flowOf e₁)
-  flowOf (leaf Newtid k v) = alone unchanged
-  flowOf (binary Spawn k v e₁ e₂) = fork (startHere (binary Spawn k v e₁ e₂)) (loadHere e₁) (flowOf e₁) (flowOf e₂)
-  flowOf (unary Join k v e₁) = after (giving (loadHere e₁)) (flowOf e₁)
-  flowOf (unary Ref k v e₁) = after unchanged (flowOf e₁)
-  flowOf (binary Write k v e₁ e₂) = inTurn (needing (accessHere e₁ (S .header .denominator))) (flowOf e₁) (flowOf e₂)
-  flowOf (unary Read k v e₁) = after (needing (accessHere e₁ 1)) (flowOf e₁)
-  flowOf (leaf Newlock k v) = alone (taking (outHere (leaf Newlock k v)))
-  flowOf (unary Lock k v e₁) = after (giving (inHere e₁)) (flowOf e₁)
-  flowOf (unary Unlock k v e₁) = after (taking (outHere e₁)) (flowOf e₁)
-  flowOf (leaf Newsem k v) = alone unchanged
-  flowOf (unary Post k v e₁) = after (taking (loadHere e₁)) (flowOf e₁)
-  flowOf (unary Wait k v e₁) = after (giving (loadHere e₁)) (flowOf e₁)
-  flowOf (leaf Newrwlock k v) = let e = leaf Newrwlock k v in alone (lending (v * readHere e) (writeHere e))
-  flowOf (unary Rdlock k v e₁) = after (giving (readHere e₁)) (flowOf e₁)
-  flowOf (unary Rdunlock k v e₁) = after (taking (readHere e₁)) (flowOf e₁)
-  flowOf (unary Wrlock k v e₁) = after (giving (writeHere e₁)) (flowOf e₁)
-  flowOf (unary Wrunlock k v e₁) = after (taking (writeHere e₁)) (flowOf e₁)
-  flowOf (unary Call k f e₁) = let kept = keptHere (unary Call k f e₁) in call (beforeHere f + kept) (afterHere f + kept) (flowOf e₁)
+  flowOf (leaf x k v) = alone (effectOf (givenHere (leaf x k v) (leaf x k v)) (table (Leaf x)))
+  flowOf (unary x k v e₁) = let e = unary x k v e₁ in unaryFlow (if calls x then callHere e else partWay (givenHere e e₁) x) (flowOf e₁)
+  flowOf (binary x k v e₁ e₂) = binaryFlow (binaryWay (givenHere (binary x k v e₁ e₂) e₁) x) (flowOf e₁) (flowOf e₂)
 
   -- the procedures from number f on, each from its before to at least its after; then the root, from the start
   unfoldable pub rootsFrom : (f : ℕ) → List Procedure → (root : Expr) → List Root

@@ -9,3 +9,25 @@ pub struct Effect {
     pub needs: u32,
     pub lends: u64,
 }
+
+// The way in which the number flows through a step, by the number of its parts.
+pub enum Way {
+    Leaf(Effect),
+    Unary(UnaryWay),
+    Binary(BinaryWay),
+}
+
+// With one part: after it; around it, again and again; or with exact numbers before and after the procedure that the step calls.
+pub enum UnaryWay {
+    After(Effect),
+    Loop,
+    Call(u64, u64),
+}
+
+// With two parts: after both, the second after the first; through one or the other; or to both at once. A fork has the start of its
+// second part and what that must leave.
+pub enum BinaryWay {
+    InTurn(Effect),
+    Branch,
+    Fork(u32, u32),
+}

@@ -17,7 +17,7 @@ use Rattle.replay_theory.specs.Paths.{Path}
 use Rattle.replay_theory.specs.Run.{ObjectKind, cells, nameIn, plain, spawns, joins, opens, makes, unaryEffect, kindMade, effect, ofUnary}
 use Rattle.replay_theory.proofs.Changes.{answer-means-used, used-updated}
 use Rattle.machine.specs.Environment.{Env, zeros}
-use Rattle.machine.specs.Control.{Frame, markFrame, Word, letWord, ifWord, whileWord, spawnWord, writeWord, unaryWord, makeWord, unrolledWord, againWord, redex, Control, done, at, nextRedex, return, enter}
+use Rattle.machine.specs.Control.{Frame, markFrame, Word, letWord, ifWord, whileWord, spawnWord, writeWord, unaryWord, nullaryWord, unrolledWord, againWord, redex, Control, done, at, nextRedex, return, enter}
 use Rattle.machine.specs.State.{MachineThread, Machine, running}
 use Rattle.machine.specs.Step.{lowest, zeroValue, partOf, unrolledPart, goesTo, addThread, markJoined, gives, leaves, creates, stepUnary, stepWord, stepControl, stepThread, step}
 use Rattle.machine.specs.Scoped.{Fits, Vars, Bound, Rest, Nested, No, WordOk, WordBinds, ControlOk}
@@ -144,7 +144,7 @@ module _ (M : Machine) (i tid : ℕ) (σ : Env) (K : List Frame) (kept : Kept M)
       let (u, e, q₂) = bind-is-some (cellValue (M .names m)) q₁ in
       told _ N (leaves-after _ n m _ refl (answer-means-used cellValue (M .names m) refl e)) q₂
   word-after c (unaryWord k o v) N r n q = unary-after _ n o v N q
-  word-after c (makeWord k o) N r n q =
+  word-after c (nullaryWord k o) N r n q =
       told (creates M i tid σ K (madeSlot o)) N (made (kindMade o) (madeSlot o) _ refl (returns _ n (name (M .next))) (return-tells σ (name (M .next)) K)) q
   word-after c (unrolledWord k e) N r n q =
       told _ N (goes (M .names) (unrolledPart c σ k e K) refl (kept .unusedFrom) (unrolled-ok c k e r n) (unrolled-tells c k e)) q

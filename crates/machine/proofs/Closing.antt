@@ -5,7 +5,7 @@ use mathlib.Core.Logic.{_≢_}
 use mathlib.Core.Option.{Option, none, some}
 use native.Mathlib.Decide.{ℕ-discrete}
 use Rattle.spec.specs.Expression.{Expr}
-use Rattle.calculus.specs.Expression.{Value, Exp, value, var, letIn, if, while, spawn, write, unary, make, choose, substitute}
+use Rattle.calculus.specs.Expression.{Value, Exp, value, var, letIn, if, while, spawn, write, unary, nullary, choose, substitute}
 use Rattle.calculus.specs.State.{update}
 use Rattle.calculus.proofs.Laws.Maps.{update-same, update-other, updates-swap}
 use Rattle.soundness.specs.Erasure.{erase}
@@ -69,7 +69,7 @@ substitute-put (while e) ρ x v = ap while (substitute-put e ρ x v)
 substitute-put (spawn e₁ e₂) ρ x v = λ i. spawn (substitute-put e₁ ρ x v i) (substitute-put e₂ ρ x v i)
 substitute-put (write e₁ e₂) ρ x v = λ i. write (substitute-put e₁ ρ x v i) (substitute-put e₂ ρ x v i)
 substitute-put (unary o e) ρ x v = ap (unary o) (substitute-put e ρ x v)
-substitute-put (make o) ρ x v = refl
+substitute-put (nullary o) ρ x v = refl
 
 -- ---- A whole environment
 
@@ -116,4 +116,4 @@ close-with-none (while e) = ap while (close-with-none e)
 close-with-none (spawn e₁ e₂) = λ i. spawn (close-with-none e₁ i) (close-with-none e₂ i)
 close-with-none (write e₁ e₂) = λ i. write (close-with-none e₁ i) (close-with-none e₂ i)
 close-with-none (unary o e) = ap (unary o) (close-with-none e)
-close-with-none (make o) = refl
+close-with-none (nullary o) = refl

@@ -5,9 +5,9 @@ use Rattle.spec.specs.Expression.{Position, Expr, leaf, unary, binary}
 use Rattle.spec.specs.declared.BinaryWord.the-variants.{Let, If, Spawn, Write}
 use Rattle.calculus.specs.Expression.{Value, Exp, value, letIn, while, spawn, write, unary as onePart, Redex, letRedex, spawnRedex, writeRedex, unaryRedex, Next, atWord, nextWord, plug, ifValue, once}
 use Rattle.calculus.specs.Reduction.{nowhere, wordOf}
-use Rattle.soundness.specs.Erasure.{LeafForm, variable, constant, makes, leafForm, leafExp, UnaryForm, loop, strict, unaryForm, unaryExp, erase}
+use Rattle.soundness.specs.Erasure.{LeafForm, variable, constant, reduces, leafForm, leafExp, UnaryForm, loop, strict, unaryForm, unaryExp, erase}
 use Rattle.machine.specs.Environment.{Env, all, close, closed, closedUnder}
-use Rattle.machine.specs.Control.{Frame, letFrame, spawnFrame, writeFirst, writeSecond, unaryFrame, againFrame, markFrame, behind, around, fill, Word, letWord, ifWord, whileWord, spawnWord, writeWord, unaryWord, makeWord, unrolledWord, againWord, wordExp, redex, Control, done, at, decode, nextRedex, seekLeaf, seekUnary, seek, return, enter, runPart}
+use Rattle.machine.specs.Control.{Frame, letFrame, spawnFrame, writeFirst, writeSecond, unaryFrame, againFrame, markFrame, behind, around, fill, Word, letWord, ifWord, whileWord, spawnWord, writeWord, unaryWord, nullaryWord, unrolledWord, againWord, wordExp, redex, Control, done, at, decode, nextRedex, seekLeaf, seekUnary, seek, return, enter, runPart}
 
 -- ---- Finding the next word keeps the expression
 
@@ -21,7 +21,7 @@ leaf-keeps : (f : LeafForm) (σ : Env) (k : Position) (K : List Frame) (c : Valu
     decode (seekLeaf σ k f K c) ≡ fill σ K (close (all σ) (leafExp f))
 leaf-keeps (variable x) σ k K c h = h (σ x)
 leaf-keeps (constant n) σ k K c h = h _
-leaf-keeps (makes o) σ k K c h = refl
+leaf-keeps (reduces o) σ k K c h = refl
 
 unary-keeps : (f : UnaryForm) (σ : Env) (k : Position) (e : Expr) (K : List Frame) → Found σ e →
     decode (seekUnary σ k f e K (seek σ e)) ≡ fill σ K (close (all σ) (unaryExp f (erase e)))
@@ -64,7 +64,7 @@ word-is-next σ (whileWord k e) = refl
 word-is-next σ (spawnWord k v e) = refl
 word-is-next σ (writeWord k v w) = refl
 word-is-next σ (unaryWord k o v) = refl
-word-is-next σ (makeWord k o) = refl
+word-is-next σ (nullaryWord k o) = refl
 word-is-next σ (unrolledWord k e) = refl
 word-is-next σ (againWord k v e) = refl
 
@@ -99,7 +99,7 @@ plug-word σ (whileWord k e) r = refl
 plug-word σ (spawnWord k v e) r = refl
 plug-word σ (writeWord k v w) r = refl
 plug-word σ (unaryWord k o v) r = refl
-plug-word σ (makeWord k o) r = refl
+plug-word σ (nullaryWord k o) r = refl
 plug-word σ (unrolledWord k e) r = refl
 plug-word σ (againWord k v e) r = refl
 

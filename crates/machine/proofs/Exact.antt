@@ -15,7 +15,7 @@ use Rattle.calculus.specs.Claim.{Every}
 use Rattle.calculus.proofs.Laws.Places.{set-elsewhere}
 use Rattle.calculus.proofs.Laws.Questions.{equal-is-told}
 use Rattle.machine.specs.Environment.{Env, zeros, closed, closedUnder}
-use Rattle.machine.specs.Control.{Frame, markFrame, fill, Word, letWord, ifWord, whileWord, spawnWord, writeWord, unaryWord, makeWord, unrolledWord, againWord, redex, Control, done, at, decode, nextRedex, return, enter}
+use Rattle.machine.specs.Control.{Frame, markFrame, fill, Word, letWord, ifWord, whileWord, spawnWord, writeWord, unaryWord, nullaryWord, unrolledWord, againWord, redex, Control, done, at, decode, nextRedex, return, enter}
 use Rattle.machine.specs.State.{MachineThread, Machine, decodeThread, live, rank, decodeState, decodeProcedures, running}
 use Rattle.machine.specs.Step.{lowest, zeroValue, partOf, unrolledPart, goesTo, addThread, asJoined, markJoined, gives, creates, stepWord, stepControl, stepThread, step}
 use Rattle.machine.specs.Scoped.{Nested, WordBinds, ControlOk}
@@ -223,7 +223,7 @@ module _ (M : Machine) (i tid : ℕ) (σ : Env) (K : List Frame) (m : Move) (pla
   word-alike (writeWord k v u) n here listed =
       ask (nameOf v) _ _ (λ c. ask (cellValue (M .names c)) _ _ (λ _. gives-row here _ zeroValue))
   word-alike (unaryWord k o v) n here listed = unary-alike k o v here listed
-  word-alike (makeWord k o) n here listed = makes-row here (made o)
+  word-alike (nullaryWord k o) n here listed = makes-row here (made o)
   word-alike (unrolledWord k e) n here listed =
       goes-row here (M .names) (unrolledPart (m .part) σ k e K) _ (unrolled-keeps (m .part) σ k e K)
   word-alike (againWord k v e) n here listed =

@@ -9,11 +9,11 @@ use Rattle.spec.specs.Expression.{Position, Expr, leaf, unary, binary}
 use Rattle.spec.specs.declared.BinaryWord.the-variants.{Let, If, Spawn, Write}
 use Rattle.calculus.specs.Expression.{Value, int, newtid, Exp, value, Redex, Next, atWord, nextWord}
 use Rattle.calculus.specs.State.{first, second}
-use Rattle.soundness.specs.Erasure.{LeafForm, variable, constant, makes, leafForm, UnaryForm, loop, strict, unaryForm}
+use Rattle.soundness.specs.Erasure.{LeafForm, variable, constant, reduces, leafForm, UnaryForm, loop, strict, unaryForm}
 use Rattle.replay_theory.specs.Paths.{Path, pathOnce, nextPath, onlyPart, partOf, partAt}
 use Rattle.replay_theory.specs.Run.{hasFinished, isOpen, openIn}
 use Rattle.machine.specs.Environment.{Env, closed}
-use Rattle.machine.specs.Control.{Frame, letFrame, spawnFrame, writeFirst, writeSecond, unaryFrame, againFrame, markFrame, around, fill, Word, letWord, ifWord, whileWord, spawnWord, writeWord, unaryWord, makeWord, unrolledWord, againWord, wordExp, Control, done, at, decode, seekLeaf, seekUnary, seek, return, enter, runPart, marks, openCalls}
+use Rattle.machine.specs.Control.{Frame, letFrame, spawnFrame, writeFirst, writeSecond, unaryFrame, againFrame, markFrame, around, fill, Word, letWord, ifWord, whileWord, spawnWord, writeWord, unaryWord, nullaryWord, unrolledWord, againWord, wordExp, Control, done, at, decode, seekLeaf, seekUnary, seek, return, enter, runPart, marks, openCalls}
 use Rattle.machine.proofs.Decoding.{return-keeps, next-around, word-is-next}
 
 -- ---- Paths of frames
@@ -108,7 +108,7 @@ word-is-here σ (whileWord k e) = refl
 word-is-here σ (spawnWord k v e) = refl
 word-is-here σ (writeWord k v u) = refl
 word-is-here σ (unaryWord k o v) = refl
-word-is-here σ (makeWord k o) = refl
+word-is-here σ (nullaryWord k o) = refl
 word-is-here σ (unrolledWord k e) = refl
 word-is-here σ (againWord k v e) = refl
 
@@ -157,7 +157,7 @@ leaf-tells : (f : LeafForm) (σ : Env) (k : Position) (K : List Frame) (c : Valu
     Tells (seekLeaf σ k f K c) (paths K)
 leaf-tells (variable x) σ k K c h = h (σ x)
 leaf-tells (constant n) σ k K c h = h (int n)
-leaf-tells (makes o) σ k K c h = at-tells σ (makeWord k o) K
+leaf-tells (reduces o) σ k K c h = at-tells σ (nullaryWord k o) K
 
 unary-tells : (f : UnaryForm) (σ : Env) (k : Position) (e : Expr) (K : List Frame) → Sought σ e → Tells (seekUnary σ k f e K (seek σ e)) (paths K)
 unary-tells loop σ k e K sought = at-tells σ (whileWord k e) K
@@ -199,7 +199,7 @@ run-part-tells σ k e K = seek-tells e σ (againFrame k e ∷ K) _ (λ v. at-tel
 abbrev pub LeafRuns : LeafForm → Type 0
 LeafRuns (variable x) = ⊥
 LeafRuns (constant n) = ⊥
-LeafRuns (makes o) = Unit {0}
+LeafRuns (reduces o) = Unit {0}
 
 abbrev pub Runs : Expr → Type 0
 Runs (leaf w k v) = LeafRuns (leafForm w v)
@@ -214,7 +214,7 @@ leaf-marks : (f : LeafForm) (σ : Env) (k : Position) (K : List Frame) (c : Valu
 unfolding openCalls marks
 leaf-marks (variable x) σ k K c h = h (σ x)
 leaf-marks (constant n) σ k K c h = h (int n)
-leaf-marks (makes o) σ k K c h = refl
+leaf-marks (reduces o) σ k K c h = refl
 
 unary-marks : (f : UnaryForm) (σ : Env) (k : Position) (e : Expr) (K : List Frame) → Marked σ e → openCalls (seekUnary σ k f e K (seek σ e)) ≡ marks K
 unfolding openCalls marks
@@ -236,7 +236,7 @@ seek-marks (binary Write k v e₁ e₂) σ K c h =
 leaf-runs : (f : LeafForm) → LeafRuns f → (σ : Env) (k : Position) (K : List Frame) (c c′ : Value → Control) → seekLeaf σ k f K c ≡ seekLeaf σ k f K c′
 leaf-runs (variable x) r σ k K c c′ = absurd r
 leaf-runs (constant n) r σ k K c c′ = absurd r
-leaf-runs (makes o) r σ k K c c′ = refl
+leaf-runs (reduces o) r σ k K c c′ = refl
 
 seek-runs : (e : Expr) → Runs e → (σ : Env) (K : List Frame) (c c′ : Value → Control) → seek σ e K c ≡ seek σ e K c′
 seek-runs (leaf w k v) r σ K c c′ = leaf-runs (leafForm w v) r σ k K c c′
@@ -250,8 +250,8 @@ seek-runs (binary Write k v e₁ e₂) r σ K c c′ = refl
 pub call-opens : (e : Expr) → Runs e → (σ σ′ : Env) (K : List Frame) → openCalls (enter σ e (markFrame σ′ ∷ K)) ≡ suc (marks K)
 unfolding openCalls marks
 call-opens e r σ σ′ K =
-    ap openCalls (seek-runs e r σ (markFrame σ′ ∷ K) (λ v. return σ v (markFrame σ′ ∷ K)) (λ v. at σ (makeWord (place e) newtid) (markFrame σ′ ∷ K)))
-    ∙ seek-marks e σ (markFrame σ′ ∷ K) (λ v. at σ (makeWord (place e) newtid) (markFrame σ′ ∷ K)) (λ v. refl)
+    ap openCalls (seek-runs e r σ (markFrame σ′ ∷ K) (λ v. return σ v (markFrame σ′ ∷ K)) (λ v. at σ (nullaryWord (place e) newtid) (markFrame σ′ ∷ K)))
+    ∙ seek-marks e σ (markFrame σ′ ∷ K) (λ v. at σ (nullaryWord (place e) newtid) (markFrame σ′ ∷ K)) (λ v. refl)
   where
     place : Expr → Position
     place (leaf w k v) = k

@@ -8,7 +8,7 @@ use Rattle.spec.specs.WellFormed.{binders, UsedInside}
 use Rattle.spec.specs.Words.{calls, role, binding}
 use Rattle.spec.specs.declared.BinaryWord.the-variants.{Let, If, Spawn, Write}
 use Rattle.calculus.specs.Expression.{Value}
-use Rattle.soundness.specs.Erasure.{LeafForm, variable, constant, makes, leafForm, UnaryForm, loop, strict, unaryForm}
+use Rattle.soundness.specs.Erasure.{LeafForm, variable, constant, reduces, leafForm, UnaryForm, loop, strict, unaryForm}
 use Rattle.machine.specs.Environment.{Env}
 use Rattle.machine.specs.Control.{Frame, letFrame, spawnFrame, writeFirst, writeSecond, unaryFrame, againFrame, markFrame, letWord, spawnWord, writeWord, unaryWord, againWord, Control, at, seekLeaf, seekUnary, seek, return, enter, runPart}
 use Rattle.machine.specs.Scoped.{Fits, Vars, Bound, Rest, LetRest, FrameOk, FrameBinds, BoundBehind, Nested, No, ControlOk}
@@ -91,7 +91,7 @@ Sought e σ = (I : List ℕ) (K : List Frame) (c : Value → Control) → Fits I
 leaf-ok : (w : LeafForm) (σ : Env) (k : Position) (B : Vars) (K : List Frame) (c : Value → Control) → Nested B K → Goes c → ControlOk (seekLeaf σ k w K c)
 leaf-ok (variable x) σ k B K c n g = g (σ x)
 leaf-ok (constant v) σ k B K c n g = g _
-leaf-ok (makes o) σ k B K c n g = (tt, nested-none K B n)
+leaf-ok (reduces o) σ k B K c n g = (tt, nested-none K B n)
 
 -- A word with one part.
 unary-ok : (w : UnaryForm) (k : Position) (e : Expr) (σ : Env) (I : List ℕ) (K : List Frame) → Sought e σ → Fits I e → Nested (Bound e) K →

@@ -5,9 +5,9 @@ use mathlib.Core.Option.{Option, none, some}
 use mathlib.Core.List.{List, [], _∷_}
 use Rattle.spec.specs.Expression.{Position, Expr, leaf, unary, binary}
 use Rattle.spec.specs.declared.BinaryWord.the-variants.{Let, If, Spawn, Write}
-use Rattle.calculus.specs.Expression.{Value, int, Unary, Maker, Exp, value, letIn, if, while, spawn, write, unary as onePart, make, Redex, letRedex, ifRedex, whileRedex, spawnRedex, writeRedex, unaryRedex, makeRedex}
+use Rattle.calculus.specs.Expression.{Value, int, Unary, Nullary, Exp, value, letIn, if, while, spawn, write, unary as onePart, nullary, Redex, letRedex, ifRedex, whileRedex, spawnRedex, writeRedex, unaryRedex, nullaryRedex}
 use Rattle.calculus.specs.Reduction.{zeroExp, nowhere}
-use Rattle.soundness.specs.Erasure.{LeafForm, variable, constant, makes, leafForm, UnaryForm, loop, strict, unaryForm}
+use Rattle.soundness.specs.Erasure.{LeafForm, variable, constant, reduces, leafForm, UnaryForm, loop, strict, unaryForm}
 use Rattle.machine.specs.Environment.{Env, closed, closedUnder}
 
 -- ---- Frames
@@ -60,7 +60,7 @@ pub data Word : Type 0 where
   spawnWord : Position → Value → Expr → Word
   writeWord : Position → Value → Value → Word
   unaryWord : Position → Unary → Value → Word
-  makeWord : Position → Maker → Word
+  nullaryWord : Position → Nullary → Word
   unrolledWord : Position → Expr → Word
   againWord : Position → Value → Expr → Word
 
@@ -72,7 +72,7 @@ wordExp σ (whileWord k e) = while (closed σ e)
 wordExp σ (spawnWord k v e) = spawn (value v) (closed σ e)
 wordExp σ (writeWord k v w) = write (value v) (value w)
 wordExp σ (unaryWord k o v) = onePart o (value v)
-wordExp σ (makeWord k o) = make o
+wordExp σ (nullaryWord k o) = nullary o
 wordExp σ (unrolledWord k e) = if (letIn nowhere (closed σ e) (while (closed σ e))) zeroExp
 wordExp σ (againWord k v e) = letIn nowhere (value v) (while (closed σ e))
 
@@ -83,7 +83,7 @@ redex σ (whileWord k e) = whileRedex (closed σ e)
 redex σ (spawnWord k v e) = spawnRedex v (closed σ e)
 redex σ (writeWord k v w) = writeRedex v w
 redex σ (unaryWord k o v) = unaryRedex o v
-redex σ (makeWord k o) = makeRedex o
+redex σ (nullaryWord k o) = nullaryRedex o
 redex σ (unrolledWord k e) = ifRedex (letIn nowhere (closed σ e) (while (closed σ e))) zeroExp
 redex σ (againWord k v e) = letRedex nowhere v (while (closed σ e))
 
@@ -113,7 +113,7 @@ seekPart σ k o K s = s (unaryFrame k o ∷ K) (λ v. at σ (unaryWord k o v) K)
 abbrev pub seekLeaf : Env → Position → LeafForm → List Frame → (Value → Control) → Control
 seekLeaf σ k (variable x) K c = c (σ x)
 seekLeaf σ k (constant n) K c = c (int n)
-seekLeaf σ k (makes o) K c = at σ (makeWord k o) K
+seekLeaf σ k (reduces o) K c = at σ (nullaryWord k o) K
 
 abbrev pub seekUnary : Env → Position → UnaryForm → Expr → List Frame → (part : List Frame → (Value → Control) → Control) → Control
 seekUnary σ k loop e K part = at σ (whileWord k e) K

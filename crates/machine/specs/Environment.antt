@@ -2,7 +2,7 @@
 use Prim.Native.Nat.{ℕ}
 use mathlib.Core.Option.{Option, none, some}
 use Rattle.spec.specs.Expression.{Expr}
-use Rattle.calculus.specs.Expression.{Value, int, Exp, value, var, letIn, if, while, spawn, write, unary, make}
+use Rattle.calculus.specs.Expression.{Value, int, Exp, value, var, letIn, if, while, spawn, write, unary, nullary}
 use Rattle.calculus.specs.State.{update}
 use Rattle.soundness.specs.Erasure.{erase}
 
@@ -38,7 +38,7 @@ close ρ (while e) = while (close ρ e)
 close ρ (spawn e₁ e₂) = spawn (close ρ e₁) (close ρ e₂)
 close ρ (write e₁ e₂) = write (close ρ e₁) (close ρ e₂)
 close ρ (unary o e) = unary o (close ρ e)
-close ρ (make o) = make o
+close ρ (nullary o) = nullary o
 
 -- A listed expression in an environment, as an expression of the calculus.
 abbrev pub closed : Env → Expr → Exp

@@ -6,7 +6,7 @@ use mathlib.Core.Bool.{true, false}
 use mathlib.Core.List.{List, [], _∷_}
 use Rattle.spec.specs.Expression.{Expr, among}
 use Rattle.spec.specs.WellFormed.{binders, Distinct, UsedInside}
-use Rattle.machine.specs.Control.{Frame, letFrame, spawnFrame, writeFirst, writeSecond, unaryFrame, againFrame, markFrame, Word, letWord, ifWord, whileWord, spawnWord, writeWord, unaryWord, makeWord, unrolledWord, againWord, Control, done, at}
+use Rattle.machine.specs.Control.{Frame, letFrame, spawnFrame, writeFirst, writeSecond, unaryFrame, againFrame, markFrame, Word, letWord, ifWord, whileWord, spawnWord, writeWord, unaryWord, nullaryWord, unrolledWord, againWord, Control, done, at}
 
 -- An expression in the scope of the variables I: it uses only those and its own, and binds each once and none of those. `count` is of
 -- the sheet's procedures.
@@ -82,7 +82,7 @@ WordOk (whileWord k e) = Rest No e
 WordOk (spawnWord k v e) = Rest No e
 WordOk (writeWord k v w) = Unit {0}
 WordOk (unaryWord k o v) = Unit {0}
-WordOk (makeWord k o) = Unit {0}
+WordOk (nullaryWord k o) = Unit {0}
 WordOk (unrolledWord k e) = Rest No e
 WordOk (againWord k v e) = Rest No e
 
@@ -93,7 +93,7 @@ WordBinds (whileWord k e) y = Bound e y
 WordBinds (spawnWord k v e) y = ⊥
 WordBinds (writeWord k v w) y = ⊥
 WordBinds (unaryWord k o v) y = ⊥
-WordBinds (makeWord k o) y = ⊥
+WordBinds (nullaryWord k o) y = ⊥
 WordBinds (unrolledWord k e) y = Bound e y
 WordBinds (againWord k v e) y = Bound e y
 

@@ -10,7 +10,7 @@ use Rattle.calculus.specs.Expression.{Value, int, name, Unary, join, ref, read,
 use Rattle.calculus.specs.State.{opened, closed, Slot, cell, aLock, semaphore, rwlock, Part, first, second, update}
 use Rattle.calculus.specs.Reduction.{_>>=_, _>>_, nameOf, ifIdentifier, cellValue, lockState, ifOpened, count, oneLess, rwState, insideAfter, made}
 use Rattle.machine.specs.Environment.{Env, zeros}
-use Rattle.machine.specs.Control.{Frame, markFrame, Word, letWord, ifWord, whileWord, spawnWord, writeWord, unaryWord, makeWord, unrolledWord, againWord, Control, done, at, return, enter, runPart}
+use Rattle.machine.specs.Control.{Frame, markFrame, Word, letWord, ifWord, whileWord, spawnWord, writeWord, unaryWord, nullaryWord, unrolledWord, againWord, Control, done, at, return, enter, runPart}
 use Rattle.machine.specs.State.{MachineThread, Machine, running}
 
 -- ---- The lowest finished thread with an identifier
@@ -129,7 +129,7 @@ module _ (M : Machine) (i tid : ℕ) (σ : Env) (K : List Frame) where
     cellValue (M .names n)
     some (leaves n (cell w))
   stepWord c (unaryWord k o v) = stepUnary o v
-  stepWord c (makeWord k o) = some (creates (made o))
+  stepWord c (nullaryWord k o) = some (creates (made o))
   stepWord c (unrolledWord k e) = some (goesTo M i tid (M .names) (unrolledPart c σ k e K))
   stepWord c (againWord k v e) = some (goesTo M i tid (M .names) (at σ (whileWord k e) K))
 

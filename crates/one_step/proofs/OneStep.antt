@@ -4,6 +4,7 @@ use mathlib.Core.List.{List}
 use Prim.Native.Nat.{ℕ, _+_, _<_, _≤_}
 use native.Mathlib.Omega.{arith}
 use lib.ListN.{length}
+use Rattle.spec.specs.Words.{calls}
 use Rattle.spec.specs.Expression.{Position, Expr, leaf, unary, binary, size, lineOf}
 use Rattle.spec.specs.Program.{Program}
 use Rattle.spec.specs.Split.{Map, Split}
@@ -43,7 +44,8 @@ module _ (S : Split) (P : Program) (R : InRange P S) (few : length (S .rows) ≤
   -- a procedure that is called has a signature
   procedure-there : {w : List ℕ} {k : ℕ} {inside : List (ℕ × ℕ)} {vars : List ℕ} (l : Position) (f : ℕ) (e : Expr)
       → Here w (length (P .procedures)) k inside vars (unary Call l f e) → f < length (S .signatures)
-  procedure-there l f e here = omega (arith, here-called l f e here, R .signaturesCounted)
+  unfolding calls
+  procedure-there l f e here = omega (arith, here-called Call l f e refl here, R .signaturesCounted)
 
   module _ {w : List ℕ} {k : ℕ} {inside : List (ℕ × ℕ)} {vars : List ℕ} {Γ : Env} {pre : Map} where
     pub below : (e : Expr) → Ready w k inside vars Γ pre e → k < length (S .rows)

@@ -12,17 +12,18 @@ use Rattle.fill_theory.specs.Flow.{Flow, steps}
 use Rattle.fill_theory.specs.Pass.{forth, back, ceiling, reach}
 use Rattle.fill_theory.proofs.Pass.{steps-positive}
 use Rattle.ways.specs.declared.Column.{Column}
-use Rattle.ways.specs.declared.Way.the-variants.{Leaf, Unary, Binary}
-use Rattle.ways.specs.declared.UnaryWay.{UnaryWay}
-use Rattle.ways.specs.declared.UnaryWay.the-variants.{After, Loop, Call}
-use Rattle.ways.specs.declared.BinaryWay.{BinaryWay}
+use Rattle.fill_theory.specs.declared.Way.the-variants.{Leaf, Unary, Binary}
+use Rattle.fill_theory.specs.declared.UnaryWay.{UnaryWay}
+use Rattle.fill_theory.specs.declared.UnaryWay.the-variants.{After, Loop, Call}
+use Rattle.fill_theory.specs.declared.BinaryWay.{BinaryWay}
 use Rattle.ways.specs.Ways.{wayIn}
 use Rattle.ways.specs.Shows.{endIn, Shows}
 use Rattle.ways.proofs.Light.{way-light}
 use Rattle.turns.specs.Bounds.{top, partCap, lastCap, firstCap, unaryCap, unaryCeiling, binaryCeiling, unaryReach, binaryReach}
 use Rattle.turns.specs.Turns.{secondPre}
 use Rattle.pass.specs.Bounds.{capsOf, Room, Reached, PartBounded, OwnCap, Cappable, Capped}
-use Rattle.pass.proofs.Parts.{unary-steps, binary-steps, leaf-parts, unary-parts, binary-parts, ownCapOf, firstCapOf, caps-unary, caps-binary, ceiling-unary, ceiling-binary, reach-unary, reach-binary, caps-length, unary-cap, part-caps, binary-cap, first-caps, last-caps}
+use Rattle.fill_theory.proofs.Placed.{unary-steps, binary-steps}
+use Rattle.pass.proofs.Parts.{leaf-parts, unary-parts, binary-parts, ownCapOf, firstCapOf, caps-unary, caps-binary, ceiling-unary, ceiling-binary, reach-unary, reach-binary, caps-length, unary-cap, part-caps, binary-cap, first-caps, last-caps}
 use Rattle.pass.proofs.Room.{part-cap-room, last-cap-room, first-cap-room, top-room, ceiling-room}
 
 -- ------------------------------------------------------------------ what a step reaches

@@ -11,34 +11,22 @@ use Rattle.workspace.specs.Region.{Region}
 use Rattle.workspace.proofs.Region.{region-moved, region-first, region-behind, region-left, region-right}
 use Rattle.fill_theory.specs.declared.Effect.{Effect}
 use Rattle.fill_theory.specs.Found.{_>>=_, demand}
-use Rattle.fill_theory.specs.Flow.{taking, Flow, alone, after, inTurn, branch, loop, fork, call, steps}
+use Rattle.fill_theory.specs.Flow.{taking, Flow, alone, after, inTurn, branch, loop, fork, call, steps, unaryFlow, binaryFlow}
 use Rattle.fill_theory.specs.Pass.{back, turn, ownPost, ceiling, reach, pass}
 use Rattle.fill_theory.proofs.Pass.{steps-positive}
 use Rattle.ways.specs.declared.Column.{Column}
-use Rattle.ways.specs.declared.Way.the-variants.{Leaf, Unary, Binary}
-use Rattle.ways.specs.declared.UnaryWay.{UnaryWay}
-use Rattle.ways.specs.declared.UnaryWay.the-variants.{After, Loop, Call}
-use Rattle.ways.specs.declared.BinaryWay.{BinaryWay}
-use Rattle.ways.specs.declared.BinaryWay.the-variants.{InTurn, Branch, Fork}
+use Rattle.fill_theory.specs.declared.Way.the-variants.{Leaf, Unary, Binary}
+use Rattle.fill_theory.specs.declared.UnaryWay.{UnaryWay}
+use Rattle.fill_theory.specs.declared.UnaryWay.the-variants.{After, Loop, Call}
+use Rattle.fill_theory.specs.declared.BinaryWay.{BinaryWay}
+use Rattle.fill_theory.specs.declared.BinaryWay.the-variants.{InTurn, Branch, Fork}
 use Rattle.ways.specs.Ways.{wayIn}
-use Rattle.ways.specs.Shows.{unaryFlow, binaryFlow, endIn, Shows, leafShown, unaryShown, binaryShown}
+use Rattle.ways.specs.Shows.{endIn, Shows, leafShown, unaryShown, binaryShown}
 use Rattle.turns.specs.Bounds.{top, partCap, lastCap, firstCap, unaryCap, unaryCeiling, binaryCeiling, unaryReach, binaryReach}
 use Rattle.turns.specs.Turns.{partPre, afterUnary, secondPre, afterBinary}
 use Rattle.pass.specs.Bounds.{capsOf}
 
 -- ------------------------------------------------------------------ the parts that are shown
-
-pub unary-steps : (way : UnaryWay) (f : Flow) → steps (unaryFlow way f) ≡ steps f + 1
-unfolding steps unaryFlow
-unary-steps (After E) f = omega arith
-unary-steps Loop f = omega arith
-unary-steps (Call wanted left) f = omega arith
-
-pub binary-steps : (way : BinaryWay) (f g : Flow) → steps (binaryFlow way f g) ≡ steps f + steps g + 1
-unfolding steps binaryFlow
-binary-steps (InTurn E) f g = omega arith
-binary-steps Branch f g = omega arith
-binary-steps (Fork start due) f g = omega arith
 
 pub record UnaryParts (w : List ℕ) (column : Column) (k : ℕ) (way : UnaryWay) (f : Flow) : Type 0 where
   pub part : Flow

@@ -9,17 +9,17 @@ use lib.ListN.{length, getD}
 use Rattle.workspace.specs.Region.{Region, ChangedWithin}
 use Rattle.workspace.proofs.Region.{region-empty, region-append, region-kept, region-moved, changed-then, changed-wider}
 use Rattle.fill_theory.specs.declared.Effect.{Effect}
-use Rattle.fill_theory.specs.Flow.{Flow, steps}
+use Rattle.fill_theory.specs.Flow.{Flow, steps, unaryFlow, binaryFlow}
 use Rattle.fill_theory.specs.Pass.{turn, ownPost, pass}
 use Rattle.fill_theory.specs.Found.{_>>=_}
 use Rattle.fill_theory.proofs.Found.{finds-bind}
 use Rattle.fill_theory.proofs.Pass.{pass-length, steps-positive}
 use Rattle.ways.specs.declared.Column.{Column}
-use Rattle.ways.specs.declared.Way.the-variants.{Leaf, Unary, Binary}
-use Rattle.ways.specs.declared.UnaryWay.{UnaryWay}
-use Rattle.ways.specs.declared.BinaryWay.{BinaryWay}
+use Rattle.fill_theory.specs.declared.Way.the-variants.{Leaf, Unary, Binary}
+use Rattle.fill_theory.specs.declared.UnaryWay.{UnaryWay}
+use Rattle.fill_theory.specs.declared.BinaryWay.{BinaryWay}
 use Rattle.ways.specs.Ways.{wayIn}
-use Rattle.ways.specs.Shows.{unaryFlow, binaryFlow, endIn, Shows}
+use Rattle.ways.specs.Shows.{endIn, Shows}
 use Rattle.turns.specs.declared.Found.{Found}
 use Rattle.turns.specs.declared.Found.the-variants.{Number, Nothing}
 use Rattle.turns.specs.Bounds.{top, partCap, lastCap}
@@ -27,7 +27,8 @@ use Rattle.turns.specs.Turns.{asFound, partPre, afterUnary, secondPre, afterBin
 use Rattle.pass.specs.Bounds.{capsOf}
 use Rattle.pass.specs.Passed.{settled, Answers, Passed}
 use Rattle.pass.proofs.Answers.{found-number, found-nothing, settle-answers, settled-changed}
-use Rattle.pass.proofs.Parts.{unary-steps, binary-steps, leaf-parts, unary-parts, binary-parts, firstCapOf, unary-cap, part-caps, binary-cap, first-caps, last-caps, nothing-bind, pass-unary, pass-binary}
+use Rattle.fill_theory.proofs.Placed.{unary-steps, binary-steps}
+use Rattle.pass.proofs.Parts.{leaf-parts, unary-parts, binary-parts, firstCapOf, unary-cap, part-caps, binary-cap, first-caps, last-caps, nothing-bind, pass-unary, pass-binary}
 
 module _ (w m : List ℕ) (column : Column) (k pre : ℕ) (q : List ℕ) where
   -- ------------------------------------------------------------------ no part

@@ -8,10 +8,10 @@ use Rattle.fill_theory.specs.Flow.{steps}
 use Rattle.fill_theory.specs.Pass.{reach, pass}
 use Rattle.fill_theory.proofs.Pass.{steps-positive, pass-own}
 use Rattle.ways.specs.declared.Column.{Column}
-use Rattle.ways.specs.declared.Way.the-variants.{Unary, Binary}
-use Rattle.ways.specs.declared.UnaryWay.{UnaryWay}
-use Rattle.ways.specs.declared.UnaryWay.the-variants.{After, Loop, Call}
-use Rattle.ways.specs.declared.BinaryWay.{BinaryWay}
+use Rattle.fill_theory.specs.declared.Way.the-variants.{Unary, Binary}
+use Rattle.fill_theory.specs.declared.UnaryWay.{UnaryWay}
+use Rattle.fill_theory.specs.declared.UnaryWay.the-variants.{After, Loop, Call}
+use Rattle.fill_theory.specs.declared.BinaryWay.{BinaryWay}
 use Rattle.ways.specs.Ways.{wayIn}
 use Rattle.ways.specs.Shows.{endIn}
 use Rattle.ways.proofs.Light.{way-light}
@@ -22,7 +22,8 @@ use Rattle.turns.specs.Turns.{partPre, secondPre}
 use Rattle.pass.specs.Bounds.{Room, Bounded, Reached}
 use Rattle.pass.specs.Passed.{Ready, Passed}
 use Rattle.pass.proofs.Answers.{found-number}
-use Rattle.pass.proofs.Parts.{unary-steps, binary-steps, unary-parts, binary-parts, firstCapOf, caps-stored, part-caps, first-caps, last-caps}
+use Rattle.fill_theory.proofs.Placed.{unary-steps, binary-steps}
+use Rattle.pass.proofs.Parts.{unary-parts, binary-parts, firstCapOf, caps-stored, part-caps, first-caps, last-caps}
 use Rattle.pass.proofs.Room.{second-pre-room, reach-room}
 
 -- ------------------------------------------------------------------ a number that is bounded

@@ -5,20 +5,21 @@ use Prim.Native.Nat.{ℕ, _+_, _*_, _≤_, _<_}
 use native.Mathlib.Omega.{arith}
 use lib.ListN.{getD}
 use Rattle.fill_theory.specs.declared.Effect.{Effect}
-use Rattle.fill_theory.specs.Flow.{taking, Flow, steps}
+use Rattle.fill_theory.specs.Flow.{taking, Flow, steps, unaryFlow, binaryFlow}
 use Rattle.fill_theory.specs.Pass.{forth, back, weight, ceiling, reach}
 use Rattle.ways.specs.declared.Column.{Column}
-use Rattle.ways.specs.declared.Way.the-variants.{Unary, Binary}
-use Rattle.ways.specs.declared.UnaryWay.{UnaryWay}
-use Rattle.ways.specs.declared.UnaryWay.the-variants.{After, Loop, Call}
-use Rattle.ways.specs.declared.BinaryWay.{BinaryWay}
-use Rattle.ways.specs.declared.BinaryWay.the-variants.{InTurn, Branch, Fork}
-use Rattle.ways.specs.Shows.{unaryFlow, binaryFlow, Shows, leafShown, unaryShown, binaryShown}
+use Rattle.fill_theory.specs.declared.Way.the-variants.{Unary, Binary}
+use Rattle.fill_theory.specs.declared.UnaryWay.{UnaryWay}
+use Rattle.fill_theory.specs.declared.UnaryWay.the-variants.{After, Loop, Call}
+use Rattle.fill_theory.specs.declared.BinaryWay.{BinaryWay}
+use Rattle.fill_theory.specs.declared.BinaryWay.the-variants.{InTurn, Branch, Fork}
+use Rattle.ways.specs.Shows.{Shows, leafShown, unaryShown, binaryShown}
 use Rattle.ways.proofs.Light.{moved, Light, way-light}
 use Rattle.turns.specs.Bounds.{top, partCap, lastCap, firstCap, unaryCeiling, binaryCeiling, unaryReach, binaryReach}
 use Rattle.turns.specs.Turns.{secondPre}
 use Rattle.pass.specs.Bounds.{Room}
-use Rattle.pass.proofs.Parts.{unary-steps, binary-steps, ownCapOf, firstCapOf, ceiling-unary, ceiling-binary, reach-unary, reach-binary}
+use Rattle.fill_theory.proofs.Placed.{unary-steps, binary-steps}
+use Rattle.pass.proofs.Parts.{ownCapOf, firstCapOf, ceiling-unary, ceiling-binary, reach-unary, reach-binary}
 
 -- ------------------------------------------------------------------ by the way of a step
 

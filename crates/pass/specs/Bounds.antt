@@ -7,7 +7,7 @@ use Rattle.workspace.specs.Region.{Region, ChangedWithin}
 use Rattle.fill_theory.specs.Flow.{taking, Flow, alone, after, inTurn, branch, loop, fork, call, steps}
 use Rattle.fill_theory.specs.Pass.{back, ceiling, reach}
 use Rattle.ways.specs.declared.Column.{Column}
-use Rattle.ways.specs.declared.UnaryWay.{UnaryWay}
+use Rattle.fill_theory.specs.declared.UnaryWay.{UnaryWay}
 use Rattle.ways.specs.Shows.{Shows}
 use Rattle.turns.specs.Bounds.{top, partCap, unaryCap}
 

@@ -2,6 +2,8 @@
 // first.
 use super::posts::second_in;
 use super::reach::reach_step;
+use fill_theory::UnaryWay;
+use fill_theory::Way;
 use turns::bounds::TOP;
 use turns::bounds::back;
 use turns::bounds::binary_ceiling;
@@ -11,8 +13,6 @@ use turns::bounds::least;
 use turns::bounds::part_cap;
 use turns::bounds::unary_ceiling;
 use ways::Column;
-use ways::UnaryWay;
-use ways::Way;
 use ways::way_in;
 ghost use mathlib.Core.Path.{_≡_};
 ghost use Prim.Native.Nat.{_<_};

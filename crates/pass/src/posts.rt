@@ -1,5 +1,6 @@
 // The pass: from the number before a step to the number after it. Parts come before their step, so it calls itself for each part.
 use super::caps::cap_at;
+use fill_theory::Way;
 use turns::Found;
 use turns::after_binary;
 use turns::after_unary;
@@ -7,7 +8,6 @@ use turns::part_pre;
 use turns::second_pre;
 use turns::turn;
 use ways::Column;
-use ways::Way;
 use ways::way_in;
 use workspace::ENDS;
 use workspace::at;

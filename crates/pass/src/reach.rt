@@ -1,13 +1,13 @@
 // What a step can leave at most. A loop's cap knows what its part can leave, so that no step is looked at twice.
 use super::caps::cap_at;
 use super::posts::second_in;
+use fill_theory::UnaryWay;
+use fill_theory::Way;
 use turns::bounds::binary_reach;
 use turns::bounds::forth;
 use turns::bounds::least;
 use turns::second_pre;
 use ways::Column;
-use ways::UnaryWay;
-use ways::Way;
 use ways::way_in;
 ghost use Rattle.pass.specs.Bounds.{Bounded, Reached};
 

@@ -7,8 +7,8 @@ use Rattle.spec.specs.Choice.{if_then_else_}
 use Rattle.workspace.specs.Layout.{wordsAt, valuesAt, ruleOf}
 use Rattle.control.specs.Layout.{environmentsAt, thingCountsAt, nextValueAt}
 use Rattle.control.specs.declared.Focus.{Focus}
-use Rattle.control.specs.declared.shapes.Shape.{Shape}
-use Rattle.control.specs.declared.shapes.Shape.the-variants.{Variable, Constant, Maker, While, OnePart, Call, Let, If, Spawn as SpawnShape, Write}
+use Rattle.workspace.specs.declared.Shape.{Shape}
+use Rattle.workspace.specs.declared.Shape.the-variants.{Variable, Constant, NoPart, While, OnePart, Call, Let, If, Spawn as SpawnShape, Write}
 use Rattle.control.specs.Shapes.{shapeAt, isWrite}
 use Rattle.control.specs.Control.{kept, continuation, second, behind, entering, returning, stoppedAt, unrolledAt}
 use Rattle.things.specs.declared.Slot.{Slot}
@@ -74,7 +74,7 @@ wordUsed p s f =
 unfoldable pub actedBy : Shape → (p s : List ℕ) → Focus → (choice : ℕ) → Act × List ℕ
 actedBy Variable p s f c = (Stuck, s)
 actedBy Constant p s f c = (Stuck, s)
-actedBy Maker p s f c = wordUsed p s f
+actedBy NoPart p s f c = wordUsed p s f
 actedBy While p s f c = (Go (looped p f c), s)
 actedBy OnePart p s f c = wordUsed p s f
 actedBy Call p s f c = (Go (callEntered p f), calledSpace p s f)

@@ -7,13 +7,13 @@ use control::Focus;
 use control::READY;
 use control::RETURN;
 use control::STOPPED;
-use control::Shape;
 use control::UNROLLED;
 use control::layout;
 use control::put;
 use things::Slot;
 use things::Used;
 use things::used_by;
+use workspace::Shape;
 use workspace::at;
 use workspace::index;
 ghost use mathlib.Core.Path.{_≡_};
@@ -200,7 +200,7 @@ pub fn reduce(program: &[u32], space: &mut [u32], f: Focus, choice: u32) -> Act
     match control::shape_at(program, k) {
         Shape::Variable => Act::Stuck,
         Shape::Constant => Act::Stuck,
-        Shape::Maker => use_word(program, space, f),
+        Shape::NoPart => use_word(program, space, f),
         Shape::While => Act::Go(around(program, f, choice)),
         Shape::OnePart => use_word(program, space, f),
         Shape::Call => Act::Go(call(program, space, f)),

@@ -4,7 +4,7 @@ use mathlib.Core.Path.{_≡_, refl}
 use mathlib.Core.List.{List, [], _++_}
 use native.Mathlib.Omega.{arith}
 use lib.ListN.{length, replicate}
-use Rattle.calculus.specs.Expression.{int, name, value, ref, call, newtid, newlock, newsem, newrwlock, make, Redex, spawnRedex, unaryRedex, makeRedex}
+use Rattle.calculus.specs.Expression.{int, name, value, ref, call, newtid, newlock, newsem, newrwlock, nullary, Redex, spawnRedex, unaryRedex, nullaryRedex}
 use Rattle.calculus.specs.Reduction.{startState}
 use Rattle.replay_theory.specs.Paths.{partAt}
 use Rattle.replay_theory.specs.Run.{ObjectKind, cells, locks, rwlocks, semaphores, identifiers, Run, startRun, placeOf, hasFinished, isOpen, makes, unaryEffect, kindMade, effect, threadLimit, thingLimit, callLimit}
@@ -20,10 +20,10 @@ spawning n = steps n (spawnRedex (name 0) (value (int 0)))
 -- Things of each kind by its own word.
 unfoldable pub made : ObjectKind → Redex
 made cells = unaryRedex ref (int 0)
-made locks = makeRedex newlock
-made rwlocks = makeRedex (newrwlock 1)
-made semaphores = makeRedex newsem
-made identifiers = makeRedex newtid
+made locks = nullaryRedex newlock
+made rwlocks = nullaryRedex (newrwlock 1)
+made semaphores = nullaryRedex newsem
+made identifiers = nullaryRedex newtid
 
 -- So many things of every kind.
 unfoldable pub making : ℕ → List Reduced
@@ -34,7 +34,7 @@ unfoldable pub calling : ℕ → List Reduced
 calling n = steps n (unaryRedex (call 0) (int 0))
 
 unfoldable pub staying : ℕ → List Run
-staying n = replicate n (startRun (record { procedures = []; root = make newtid }))
+staying n = replicate n (startRun (record { procedures = []; root = nullary newtid }))
 
 -- 15 threads beside the start are within the limit, a 16th is not.
 pub threads-at-limit : Within [] (spawning 15) × (¬ Within [] (spawning 16))

@@ -7,7 +7,7 @@ use mathlib.Core.Option.{some}
 use native.Mathlib.Decide.{decLt}
 use native.Mathlib.Omega.{arith}
 use lib.ListN.{getElem?}
-use Rattle.calculus.specs.Expression.{Value, int, name, Unary, join, ref, read, lock, unlock, post, wait, hold, call, Redex, letRedex, ifRedex, whileRedex, spawnRedex, writeRedex, unaryRedex, makeRedex, atWord, nextWord, Procedure}
+use Rattle.calculus.specs.Expression.{Value, int, name, Unary, join, ref, read, lock, unlock, post, wait, hold, call, Redex, letRedex, ifRedex, whileRedex, spawnRedex, writeRedex, unaryRedex, nullaryRedex, atWord, nextWord, Procedure}
 use Rattle.calculus.specs.State.{Thread, State, Move, remove}
 use Rattle.calculus.specs.Reduction.{wordOf, reduct, reduce}
 use Rattle.calculus.proofs.Laws.Maps.{some-injective, none-is-not-some, bind-goes-on}
@@ -97,7 +97,7 @@ module _ (P : List Procedure) (s : State) (m : Move) (t : Thread) (f n : ℕ) wh
   looks (spawnRedex v e) same named = refl
   looks (writeRedex v u) same named = refl
   looks (unaryRedex o v) same named = unary-looks o v same named
-  looks (makeRedex o) same named = ap (λ (x : ℕ). reduct P s (listing m f x) t (makeRedex o)) (named (kindMade o) refl)
+  looks (nullaryRedex o) same named = ap (λ (x : ℕ). reduct P s (listing m f x) t (nullaryRedex o)) (named (kindMade o) refl)
 
   -- A join that reduces is of a name.
   unary-name : {s′ : State} (o : Unary) (v : Value) → unaryEffect o ≡ joins → reduct P s m t (unaryRedex o v) ≡ some s′ →
@@ -122,7 +122,7 @@ module _ (P : List Procedure) (s : State) (m : Move) (t : Thread) (f n : ℕ) wh
   joins-name (spawnRedex v e) is q = another spawns joins refl is
   joins-name (writeRedex v u) is q = another plain joins refl is
   joins-name (unaryRedex o v) is q = unary-name o v is q
-  joins-name (makeRedex o) is q = another (makes (kindMade o)) joins refl is
+  joins-name (nullaryRedex o) is q = another (makes (kindMade o)) joins refl is
 
 numbers-alike : {r s : Run} (m k : Move) (e : Effect) → Alike r s → (e ≡ joins → m .finished ≡ k .finished) → numbersAfter r m e ≡ numbersAfter s k e
 unfolding numbersAfter

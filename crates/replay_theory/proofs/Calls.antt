@@ -7,7 +7,7 @@ use mathlib.Core.Option.{none, some}
 use mathlib.Core.List.{[], _∷_, _++_, append-nil}
 use native.Mathlib.Omega.{arith}
 use Rattle.spec.proofs.Clashes.{true-is-not-false}
-use Rattle.calculus.specs.Expression.{Value, Unary, Exp, value, var, letIn, if, while, spawn, write, unary, make, Redex, letRedex, spawnRedex, writeRedex, unaryRedex, Next, isValue, atVariable, atWord, nextWord, plug, ifValue, once}
+use Rattle.calculus.specs.Expression.{Value, Unary, Exp, value, var, letIn, if, while, spawn, write, unary, nullary, Redex, letRedex, spawnRedex, writeRedex, unaryRedex, Next, isValue, atVariable, atWord, nextWord, plug, ifValue, once}
 use Rattle.calculus.specs.State.{Part, first, second}
 use Rattle.calculus.specs.Reduction.{wordOf}
 use Rattle.calculus.proofs.Laws.Maps.{some-injective, none-is-not-some}
@@ -47,7 +47,7 @@ module _ (b : Exp) where
       in-part e₂ (λ E. write e₁ E) second _ (λ E p. refl) (body-is-there e₂) (nextWord e₂) refl r k [] b (λ u l. refl))
   body-is-there (unary o e) r h =
       in-part e (λ E. unary o E) first _ (λ E p. refl) (body-is-there e) (nextWord e) refl r h [] b (λ v k. refl)
-  body-is-there (make o) r h = refl
+  body-is-there (nullary o) r h = refl
 
 -- ---- It goes on there
 
@@ -185,7 +185,7 @@ module _ (b : Exp) where
       by-part e₂ (λ E. write e₁ E) second (second-around e₁ v z) (part-goes-on e₂) c p rest d r _ [] b (nextWord e₂) refl k n is (λ u y l m. empty-clash m)))
   part-goes-on (unary o e) = by-path (unary o e) (λ c p rest d r h q is.
       by-part e (λ E. unary o E) first (unary-around o) (part-goes-on e) c p rest d r _ [] b (nextWord e) refl h q is (λ v z k n. empty-clash n))
-  part-goes-on (make o) = by-path (make o) (λ c p rest d r h q is. empty-clash q)
+  part-goes-on (nullary o) = by-path (nullary o) (λ c p rest d r h q is. empty-clash q)
 
 pub body-goes-on : BodyGoesOn
 body-goes-on b e p d w next R =
@@ -223,7 +223,7 @@ word-is-there (write e₁ e₂) r h =
     word-in-part e₂ (λ E. write e₁ E) second _ (λ E p. refl) (word-is-there e₂) (nextWord e₂) refl r k [] (λ u l. (_, refl)))
 word-is-there (unary o e) r h =
     word-in-part e (λ E. unary o E) first _ (λ E p. refl) (word-is-there e) (nextWord e) refl r h [] (λ v k. (_, refl))
-word-is-there (make o) r h = (_, refl)
+word-is-there (nullary o) r h = (_, refl)
 
 -- What takes the place of the next word is what runs next, unless it is a value.
 pub body-begins : (b e : Exp) (w : Redex) → nextWord e ≡ atWord w → hasFinished (nextWord b) ≡ false → Runs (plug e b) (nextPath e) b

@@ -6,7 +6,7 @@ use mathlib.Core.Logic.{_≢_}
 use mathlib.Core.Option.{Option, none, some}
 use mathlib.Core.List.{List, [], _∷_, _++_}
 use lib.ListN.{getElem?, set}
-use Rattle.calculus.specs.Expression.{Value, name, Exp, value, Unary, join, ref, read, lock, unlock, post, wait, hold, call, Redex, letRedex, ifRedex, whileRedex, spawnRedex, writeRedex, unaryRedex, makeRedex, nextWord, plug, substitute, Procedure}
+use Rattle.calculus.specs.Expression.{Value, name, Exp, value, Unary, join, ref, read, lock, unlock, post, wait, hold, call, Redex, letRedex, ifRedex, whileRedex, spawnRedex, writeRedex, unaryRedex, nullaryRedex, nextWord, plug, substitute, Procedure}
 use Rattle.calculus.specs.State.{Slot, unused, rwlock, Thread, State, Move, update, remove}
 use Rattle.calculus.specs.Reduction.{nameOf, ifUnused, ifIdentifier, cellValue, lockState, ifOpened, count, oneLess, rwState, insideAfter, ifEqual, valueOf, zeroExp, becomes, unaryReduct, reduct}
 use Rattle.calculus.proofs.Laws.Maps.{some-injective, none-is-not-some, bind-is-some, update-other}
@@ -103,4 +103,4 @@ module _ (P : List Procedure) (s : State) (m : Move) (t : Thread) where
       let (_, e, q₂) = bind-is-some (cellValue (s .names n)) q₁ in
       one-name n _ (answer-means-used cellValue (s .names n) refl e) q₂
   reduct-changes (unaryRedex o v) s′ q = unary-changes o v s′ q
-  reduct-changes (makeRedex o) s′ q = let (_, _, q₁) = bind-is-some (ifUnused (s .names (m .fresh))) q in told _ s′ (made (kindMade o) _ (value (name (m .fresh)))) q₁
+  reduct-changes (nullaryRedex o) s′ q = let (_, _, q₁) = bind-is-some (ifUnused (s .names (m .fresh))) q in told _ s′ (made (kindMade o) _ (value (name (m .fresh)))) q₁

@@ -6,7 +6,7 @@ use mathlib.Core.Logic.{_↔_}
 use mathlib.Core.Option.{Option, none, some}
 use native.Mathlib.Omega.{arith}
 use lib.ListN.{getElem?}
-use Rattle.calculus.specs.Expression.{Value, int, name, Unary, join, ref, read, lock, unlock, post, wait, hold, call, Redex, letRedex, ifRedex, whileRedex, spawnRedex, writeRedex, unaryRedex, makeRedex, nextWord}
+use Rattle.calculus.specs.Expression.{Value, int, name, Unary, join, ref, read, lock, unlock, post, wait, hold, call, Redex, letRedex, ifRedex, whileRedex, spawnRedex, writeRedex, unaryRedex, nullaryRedex, nextWord}
 use Rattle.calculus.specs.State.{Slot, unused, Thread, State, Move}
 use Rattle.calculus.specs.Reduction.{_>>=_, _>>_, ifUnused, ifIdentifier, ifEqual, valueOf, wordOf, named, unaryReduct, reduct, reduce}
 use Rattle.calculus.specs.Claim.{ThreadAt}
@@ -82,7 +82,7 @@ module _ (r : Run) (proper : Proper r) (m : Move) (t : Thread) where
   goes-too (spawnRedex v e) s q = (s, q)
   goes-too (writeRedex v u) s q = (s, q)
   goes-too (unaryRedex o v) s q = unary-goes-too o v s q
-  goes-too (makeRedex o) s q = names-next (makeRedex o) _
+  goes-too (nullaryRedex o) s q = names-next (nullaryRedex o) _
 
 pub step-when-reduction : (r : Run) (l : TraceLine) (m : Move) (s : State) → Proper r → MoveOf r l m → reduce (r .procedures) (r .state) m ≡ some s →
     (r′ : Run) × (stepped r l ≡ some r′)

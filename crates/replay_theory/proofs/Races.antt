@@ -6,7 +6,7 @@ use mathlib.Core.Bool.{Bool, true, false, _||_}
 use mathlib.Core.Option.{Option, none, some}
 use borrow.Author.Tests.{eqb-true, eq-eqb}
 use Rattle.spec.proofs.Clashes.{true-is-not-false}
-use Rattle.calculus.specs.Expression.{Value, int, name, Unary, join, ref, read, lock, unlock, post, wait, hold, call, Redex, letRedex, ifRedex, whileRedex, spawnRedex, writeRedex, unaryRedex, makeRedex, atWord, nextWord}
+use Rattle.calculus.specs.Expression.{Value, int, name, Unary, join, ref, read, lock, unlock, post, wait, hold, call, Redex, letRedex, ifRedex, whileRedex, spawnRedex, writeRedex, unaryRedex, nullaryRedex, atWord, nextWord}
 use Rattle.calculus.specs.State.{Slot, unused, identifier, cell, aLock, semaphore, rwlock, Thread, State}
 use Rattle.calculus.specs.Reduction.{_>>=_, nameOf, cellValue, wordOf}
 use Rattle.calculus.specs.Claim.{ThreadAt, AboutToRead, aboutToRead, AboutToWrite, aboutToWrite, Race, race}
@@ -42,7 +42,7 @@ reads-tells (whileRedex e) n h = none-is-not-some h
 reads-tells (spawnRedex v e) n h = none-is-not-some h
 reads-tells (writeRedex v u) n h = none-is-not-some h
 reads-tells (unaryRedex o v) n h = unary-reads-tells o v n h
-reads-tells (makeRedex o) n h = none-is-not-some h
+reads-tells (nullaryRedex o) n h = none-is-not-some h
 
 writes-tells : (w : Redex) (n : ℕ) → writes w ≡ some n → (v : Value) × (w ≡ writeRedex (name n) v)
 unfolding writes
@@ -52,7 +52,7 @@ writes-tells (whileRedex e) n h = none-is-not-some h
 writes-tells (spawnRedex v e) n h = none-is-not-some h
 writes-tells (writeRedex v u) n h = (u, ap (λ x. writeRedex x u) (name-tells v n h))
 writes-tells (unaryRedex o v) n h = none-is-not-some h
-writes-tells (makeRedex o) n h = none-is-not-some h
+writes-tells (nullaryRedex o) n h = none-is-not-some h
 
 content-tells : {v : Value} (sl : Slot) → cellValue sl ≡ some v → sl ≡ cell v
 content-tells unused h = none-is-not-some h

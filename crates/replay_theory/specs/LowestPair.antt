@@ -5,7 +5,7 @@ use mathlib.Core.List.{List, [], _∷_}
 use mathlib.Core.Option.{Option, none, some}
 use lib.Dec.{eqb}
 use Rattle.spec.specs.Choice.{if_then_else_}
-use Rattle.calculus.specs.Expression.{Value, Unary, join, ref, read, lock, unlock, post, wait, hold, call, Redex, letRedex, ifRedex, whileRedex, spawnRedex, writeRedex, unaryRedex, makeRedex, nextWord}
+use Rattle.calculus.specs.Expression.{Value, Unary, join, ref, read, lock, unlock, post, wait, hold, call, Redex, letRedex, ifRedex, whileRedex, spawnRedex, writeRedex, unaryRedex, nullaryRedex, nextWord}
 use Rattle.calculus.specs.State.{Slot, Thread}
 use Rattle.calculus.specs.Reduction.{_>>=_, _>>_, nameOf, cellValue, wordOf}
 use Rattle.replay_theory.specs.Run.{Run, ofUnary}
@@ -32,7 +32,7 @@ writes (whileRedex e) = none
 writes (spawnRedex v e) = none
 writes (writeRedex v w) = nameOf v
 writes (unaryRedex o v) = none
-writes (makeRedex o) = none
+writes (nullaryRedex o) = none
 
 -- that name, if a cell has it
 unfoldable pub ifCell : (ℕ → Slot) → Option ℕ → Option ℕ

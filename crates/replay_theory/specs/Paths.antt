@@ -1,7 +1,7 @@
 -- Where a word stands in an expression: the parts that lead to it, from the outside in.
 use mathlib.Core.List.{List, [], _∷_}
 use mathlib.Core.Option.{Option, none, some}
-use Rattle.calculus.specs.Expression.{Exp, value, var, letIn, if, while, spawn, write, unary, make, Next, isValue, atVariable, atWord, nextWord}
+use Rattle.calculus.specs.Expression.{Exp, value, var, letIn, if, while, spawn, write, unary, nullary, Next, isValue, atVariable, atWord, nextWord}
 use Rattle.calculus.specs.State.{Part, first, second}
 use Rattle.calculus.specs.Reduction.{_>>=_, partListed}
 
@@ -24,7 +24,7 @@ nextPath (while e) = []
 nextPath (spawn e₁ e₂) = pathOnce (nextWord e₁) [] (first ∷ nextPath e₁)
 nextPath (write e₁ e₂) = pathOnce (nextWord e₁) (pathOnce (nextWord e₂) [] (second ∷ nextPath e₂)) (first ∷ nextPath e₁)
 nextPath (unary o e) = pathOnce (nextWord e) [] (first ∷ nextPath e)
-nextPath (make o) = []
+nextPath (nullary o) = []
 
 unfoldable pub onlyPart : Exp → Part → Option Exp
 onlyPart e first = some e
@@ -39,7 +39,7 @@ partOf (while e) c = onlyPart e c
 partOf (spawn e₁ e₂) c = some (partListed c e₁ e₂)
 partOf (write e₁ e₂) c = some (partListed c e₁ e₂)
 partOf (unary o e) c = onlyPart e c
-partOf (make o) c = none
+partOf (nullary o) c = none
 
 -- the expression at a path
 unfoldable pub partAt : Path → Exp → Option Exp

@@ -6,7 +6,7 @@ use mathlib.Core.Option.{Option, none, some, Option·map}
 use lib.Dec.{eqb, leb, ltb}
 use lib.ListN.{getElem?, length}
 use Rattle.spec.specs.Choice.{if_then_else_}
-use Rattle.calculus.specs.Expression.{Value, Unary, join, ref, read, lock, unlock, post, wait, hold, call, Maker, newtid, newlock, newsem, newrwlock, Exp, Redex, letRedex, ifRedex, whileRedex, spawnRedex, writeRedex, unaryRedex, makeRedex, Next, isValue, atVariable, atWord, nextWord, choose, Procedure, Program}
+use Rattle.calculus.specs.Expression.{Value, Unary, join, ref, read, lock, unlock, post, wait, hold, call, Nullary, newtid, newlock, newsem, newrwlock, Exp, Redex, letRedex, ifRedex, whileRedex, spawnRedex, writeRedex, unaryRedex, nullaryRedex, Next, isValue, atVariable, atWord, nextWord, choose, Procedure, Program}
 use Rattle.calculus.specs.State.{Thread, State, Part, first, second, Move, remove}
 use Rattle.calculus.specs.Reduction.{_>>=_, nameOf, wordOf, reduce, startState}
 use Rattle.replay_theory.specs.Trace.{TraceLine}
@@ -78,7 +78,7 @@ partChosen (whileRedex e) c = noChoice c
 partChosen (spawnRedex v e) c = noChoice c
 partChosen (writeRedex v w) c = noChoice c
 partChosen (unaryRedex o v) c = noChoice c
-partChosen (makeRedex o) c = noChoice c
+partChosen (nullaryRedex o) c = noChoice c
 
 -- "Among several finished threads a join takes the lowest": the first place of a finished thread with the identifier n. If there is none, this
 -- is the place behind the last, where no thread stands, and the join is no reduction.
@@ -99,7 +99,7 @@ ofUnary f (whileRedex e) = none
 ofUnary f (spawnRedex v e) = none
 ofUnary f (writeRedex v w) = none
 ofUnary f (unaryRedex o v) = f o v
-ofUnary f (makeRedex o) = none
+ofUnary f (nullaryRedex o) = none
 
 -- the name that such a word has for its value; of a join, the identifier
 unfoldable pub nameIn : Redex → Option ℕ
@@ -149,7 +149,7 @@ unaryEffect wait = plain
 unaryEffect (hold w) = plain
 unaryEffect (call f) = opens
 
-unfoldable pub kindMade : Maker → ObjectKind
+unfoldable pub kindMade : Nullary → ObjectKind
 kindMade newtid = identifiers
 kindMade newlock = locks
 kindMade newsem = semaphores
@@ -162,7 +162,7 @@ effect (whileRedex e) = plain
 effect (spawnRedex v e) = spawns
 effect (writeRedex v w) = plain
 effect (unaryRedex o v) = unaryEffect o
-effect (makeRedex o) = makes (kindMade o)
+effect (nullaryRedex o) = makes (kindMade o)
 
 -- a spawned thread stands last and its number is how many there were before it; a joined one is left out
 unfoldable pub numbersAfter : Run → Move → Effect → List ℕ

@@ -7,6 +7,7 @@ use native.Mathlib.Omega.{arith}
 use lib.Dec.{leb, ltb}
 use lib.ListN.{length}
 use borrow.Author.Tests.{le-leb, lt-ltb}
+use Rattle.spec.specs.Words.{role}
 use Rattle.spec.specs.Expression.{Expr, leaf, unary, binary, Position, Procedure}
 use Rattle.spec.specs.Program.{Program}
 use Rattle.spec.specs.Split.{Map, Split}
@@ -26,7 +27,7 @@ use Rattle.spec.specs.declared.BinaryWord.{BinaryWord}
 use Rattle.spec.specs.declared.BinaryWord.the-variants.{Let, If, Spawn, Write}
 use Rattle.spec.proofs.Fits.{place-fits}
 use Rattle.workspace.specs.Layout as layout
-use Rattle.workspace.specs.Layout.{mapCell, printed, ruleOf, wordBy, leafCode, unaryCode, binaryCode}
+use Rattle.workspace.specs.Layout.{mapCell, printed, ruleOf, leafCode, unaryCode, binaryCode}
 use Rattle.workspace.specs.Holds.{HoldsSplit}
 use Rattle.workspace.proofs.Shown.{Stands, type-shown, first-stands, second-stands, has-shown}
 use Rattle.conditions.specs.Agreement.{agreeIn, mayShowIn}
@@ -87,8 +88,8 @@ module _ (w : List ℕ) (S : Split) (P : Program) (H : HoldsSplit w S) (R : InRa
 
   pub leaf-shown : (x : LeafWord) → Part w S (s .typed) (s .post) (leaf x l v) → Bound S x s Γ v
       → ruleRow (ruleOf (leafCode x)) w s ≡ conditionsOf S Γ pre (leaf x l v)
-  unfolding printed ruleOf wordBy ruleRow conditionsBy conditionsOf type
-  leaf-shown Var o b = rw (equal located (o .posted) pre-stands, shows _ _ o (b .0) (b .1))
+  unfolding printed ruleOf role ruleRow conditionsBy conditionsOf type
+  leaf-shown Var o b = rw (equal located (o .posted) pre-stands, shows _ _ o (b .variable refl .0) (b .variable refl .1))
   leaf-shown Int o b = rw (equal located (o .posted) pre-stands, typed-as _ o)
   leaf-shown Newtid o b = rw (equal located (o .posted) pre-stands, typed-as _ o)
   leaf-shown Newlock o b = rw (sum located (o .posted) (second _ o) pre-stands, typed-as _ o)
@@ -98,7 +99,7 @@ module _ (w : List ℕ) (S : Split) (P : Program) (H : HoldsSplit w S) (R : InRa
         covers located (second _ o) (first _ o) (s .value),
         sum located (o .posted) (second _ o) pre-stands,
         typed-as _ o,
-        b,
+        b .number,
       )
 
   module _ (e₁ : Expr) (f : Part w S (s .type1) (s .post1) e₁) where
@@ -106,7 +107,7 @@ module _ (w : List ℕ) (S : Split) (P : Program) (H : HoldsSplit w S) (R : InRa
     pub unary-shown : (x : UnaryWord) → Part w S (s .typed) (s .post) (unary x l v e₁)
         → Stands w S (s .start) (bodyStart S (unary x l v e₁)) → (x ≡ Call → Signed w S (s .signature) (signature S v))
         → ruleRow (ruleOf (unaryCode x)) w s ≡ conditionsOf S Γ pre (unary x l v e₁)
-    unfolding printed ruleOf wordBy ruleRow conditionsBy conditionsOf type keptBack
+    unfolding printed ruleOf ruleRow conditionsBy conditionsOf type keptBack
     unary-shown While o b c =
         rw (at-least located pre-stands (o .posted), at-least located (f .posted) (o .posted), typed-as _ o)
     unary-shown Join o b c =
@@ -150,7 +151,7 @@ module _ (w : List ℕ) (S : Split) (P : Program) (H : HoldsSplit w S) (R : InRa
       pub binary-shown : (x : BinaryWord) → Part w S (s .typed) (s .post) (binary x l v e₁ e₂)
           → Stands w S (s .start) (bodyStart S (binary x l v e₁ e₂))
           → ruleRow (ruleOf (binaryCode x)) w s ≡ conditionsOf S Γ pre (binary x l v e₁ e₂)
-      unfolding printed ruleOf wordBy ruleRow conditionsBy conditionsOf type
+      unfolding printed ruleOf ruleRow conditionsBy conditionsOf type
       binary-shown Let o b =
           rw (equal located (o .posted) (g .posted), agrees _ _ o (g .typed) (g .type-in))
       binary-shown If o b =

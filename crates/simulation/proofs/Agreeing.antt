@@ -40,7 +40,7 @@ module _ (p : List ℕ) (i : ℕ) (s s′ : List ℕ) (a : RowsAgree i s s′) w
   word-same r in-row f (machine.spawnWord q v e) W = W
   word-same r in-row f (machine.writeWord q v w) (z, n, d, held) = (z, n, d, a .kepts r (q .index) in-row (d .below) ∙ held)
   word-same r in-row f (machine.unaryWord q o v) W = W
-  word-same r in-row f (machine.makeWord q o) W = W
+  word-same r in-row f (machine.nullaryWord q o) W = W
   word-same r in-row f (machine.unrolledWord q e) W = W
   word-same r in-row f (machine.againWord q v e) W = W
 
@@ -51,7 +51,7 @@ module _ (p : List ℕ) (i : ℕ) (s s′ : List ℕ) (a : RowsAgree i s s′) w
   word-below r f (machine.spawnWord q v e) (z, n, d, S) = d .below
   word-below r f (machine.writeWord q v w) (z, n, d, held) = d .below
   word-below r f (machine.unaryWord q o v) (z, n, d, N) = d .below
-  word-below r f (machine.makeWord q o) (z, n, d, N) = d .below
+  word-below r f (machine.nullaryWord q o) (z, n, d, N) = d .below
   word-below r f (machine.unrolledWord q e) (z, n, d, S) = d .below
   word-below r f (machine.againWord q v e) (z, n, d, S) = d .below
 

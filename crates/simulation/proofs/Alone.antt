@@ -18,7 +18,7 @@ use Rattle.workspace.specs.Layout.{ruleOf, printed}
 use Rattle.threads.specs.declared.Threads.{Threads}
 use Rattle.control.specs.Layout.{keptValuesAt, openCallsAt, spaceSize}
 use Rattle.control.specs.declared.Focus.{Focus}
-use Rattle.control.specs.Shapes.{shapeOf, shapeAt}
+use Rattle.control.specs.Shapes.{shapeAt}
 use Rattle.control.specs.Control.{variable, kept, calledFrom, continuation, second, entering, returning, stoppedAt, readyAt, unrolledAt, found}
 use Rattle.control.proofs.Turns.{found-stop}
 use Rattle.reduction.specs.declared.words.Act.{Act}
@@ -43,15 +43,15 @@ use Rattle.simulation.proofs.Moving.{Answered, moves, pausing}
 
 module _ (p s : List ℕ) (row c : ℕ) {q : Position} where
   let-acts : {x : ℕ} (v : ℕ) → RowOf p q (Binary Let) x → acted p s (readyAt row (q .index) v) c ≡ (Go (entering row (second p (q .index))), set s (0 + 256 * row + x) v)
-  unfolding acted actedBy bound shapeAt shapeOf ruleOf printed
+  unfolding acted actedBy bound shapeAt ruleOf printed
   let-acts v r = rw (r .code, r .number)
 
   if-acts : {n : ℕ} → RowOf p q (Binary If) n → acted p s (stoppedAt row (q .index)) c ≡ (Go (branched p row (q .index) c), s)
-  unfolding acted actedBy shapeAt shapeOf ruleOf printed
+  unfolding acted actedBy shapeAt ruleOf printed
   if-acts r = rw (r .code)
 
   while-acts : {n : ℕ} (f : Focus) → f .at ≡ q .index → RowOf p q (Unary While) n → acted p s f c ≡ (Go (looped p f c), s)
-  unfolding acted actedBy shapeAt shapeOf ruleOf printed
+  unfolding acted actedBy shapeAt ruleOf printed
   while-acts f e r = rw (e, r .code)
 
 -- ------------------------------------------------------------------ the machine's word

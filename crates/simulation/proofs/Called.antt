@@ -21,7 +21,7 @@ use Rattle.workspace.specs.Layout.{ruleOf, printed}
 use Rattle.threads.specs.declared.Threads.{Threads}
 use Rattle.control.specs.Layout.{leave, proceduresAt, keptValuesAt, openCallsAt, focusModesAt, focusPlacesAt, focusValuesAt, focusRowsAt, spaceSize}
 use Rattle.control.specs.declared.Focus.{Focus}
-use Rattle.control.specs.Shapes.{shapeOf, shapeAt}
+use Rattle.control.specs.Shapes.{shapeAt}
 use Rattle.control.specs.Control.{variable, kept, calledFrom, continuation, firstOf, focus, entering, readyAt}
 use Rattle.reduction.specs.declared.words.Act.{Act}
 use Rattle.reduction.specs.declared.words.Act.the-variants.{Go}
@@ -193,7 +193,7 @@ module _ (p s : List ℕ) (T : Threads) (R : Replay) (t tid : ℕ) (σ : Env) (K
     entered = enter (update zeros (body .parameter) v) (body .body) (markFrame σ ∷ K)
 
     acts : acted p s word 0 ≡ (Go (entering (row + 1) (firstOf p g)), after)
-    unfolding acted actedBy callEntered calledSpace argumentPut rowCleared calleeOf above shapeAt shapeOf ruleOf printed
+    unfolding acted actedBy callEntered calledSpace argumentPut rowCleared calleeOf above shapeAt ruleOf printed
     acts = rw (r .code, r .number, is, lt-ltb row 1056 (let l = new-low in omega arith), B .parameter)
 
     frames-after : Frames p after t (row + 1) (firstOf p g) leave (markFrame σ ∷ K)

@@ -17,14 +17,14 @@ use Rattle.spec.specs.declared.UnaryWord.the-variants.{While, Join, Ref, Read, 
 use Rattle.spec.specs.declared.BinaryWord.the-variants.{Let, If, Spawn, Write}
 use Rattle.calculus.specs.Expression as calculus
 use Rattle.calculus.specs.Expression.{Value, int, join, ref, read, lock, unlock, post, wait, hold, rdlock, rdunlock, wrlock, wrunlock, call}
-use Rattle.workspace.specs.Layout.{ruleOf, codeOf, printed}
+use Rattle.workspace.specs.Layout.{ruleOf, codeOf, printed, shapeOf}
 use Rattle.control.specs.Layout.{secondPart, finish, leave, keptValuesAt, openCallsAt, spaceSize}
 use Rattle.control.specs.declared.Focus.{Focus}
-use Rattle.control.specs.Shapes.{shapeOf, isWrite}
+use Rattle.control.specs.Shapes.{isWrite}
 use Rattle.control.specs.Control.{variable, kept, calledFrom, continuation, second, entering, returning, stoppedAt, readyAt, doneWith, enteredBy}
 use Rattle.control.proofs.Turns.{found-stop}
 use Rattle.machine.specs.Environment.{Env}
-use Rattle.machine.specs.Control.{Frame, letFrame, spawnFrame, writeFirst, writeSecond, unaryFrame, againFrame, markFrame, letWord, ifWord, whileWord, spawnWord, writeWord, unaryWord, makeWord, againWord, Control, done, at, seekPart, seek, return, enter, runPart, marks}
+use Rattle.machine.specs.Control.{Frame, letFrame, spawnFrame, writeFirst, writeSecond, unaryFrame, againFrame, markFrame, letWord, ifWord, whileWord, spawnWord, writeWord, unaryWord, nullaryWord, againWord, Control, done, at, seekPart, seek, return, enter, runPart, marks}
 use Rattle.simulation.proofs.Held.{codeValue, partWord, PartNumber, Row, RowOf, Stands, Values, FrameAt, stepOf, rowBehind, Frames, ControlAt}
 use Rattle.simulation.proofs.Turning.{row-of, by-position, behind-is, go, enters, to-first, to-second, to-other, to-end, to-caller, SameBut, RowIn, same-but-one}
 
@@ -139,7 +139,7 @@ module _ (p : List ℕ) (t : ℕ) (small : t < 16) (σ : Env) (row : ℕ) (s₀ 
   -- ---------------------------------------------------------------- landing at a word
 
   not-write : (o : calculus.Unary) → isWrite (shapeOf (ruleOf (codeOf (Unary (partWord o))))) ≡ false
-  unfolding isWrite shapeOf ruleOf printed
+  unfolding isWrite ruleOf printed
   not-write join = refl
   not-write ref = refl
   not-write read = refl
@@ -160,13 +160,13 @@ module _ (p : List ℕ) (t : ℕ) (small : t < 16) (σ : Env) (row : ℕ) (s₀ 
       (takes-turn d m s (returning row (q .index) x) (readyAt row (q .index) x, s) le (to-first p row (m - 1) (q .index) x s r h) F)
 
   let-lands : (q : Position) (x : ℕ) (e : Expr) (c : ℕ) (K : List Frame) → Follows c (letFrame q x e ∷ K) 1 (λ v. at σ (letWord q x v e) K)
-  unfolding isWrite shapeOf ruleOf printed
+  unfolding isWrite ruleOf printed
   let-lands q x e c K v b m s le R =
       let ((l, is, r, S), F) = R .frames in
       lands (at σ (letWord q x v e) K) c (codeValue v) m s is r refl le ((R .values, (refl, r, S), F), R .same)
 
   spawn-lands : (q : Position) (e : Expr) (c : ℕ) (K : List Frame) → Follows c (spawnFrame q e ∷ K) 1 (λ v. at σ (spawnWord q v e) K)
-  unfolding isWrite shapeOf ruleOf printed
+  unfolding isWrite ruleOf printed
   spawn-lands q e c K v b m s le R =
       let ((l, is, n, r, S), F) = R .frames in
       lands (at σ (spawnWord q v e) K) c (codeValue v) m s is r refl le ((R .values, (refl, n, r, S), F), R .same)
@@ -177,7 +177,7 @@ module _ (p : List ℕ) (t : ℕ) (small : t < 16) (σ : Env) (row : ℕ) (s₀ 
       lands (at σ (unaryWord q o v) K) c (codeValue v) m s is r (not-write o) le ((R .values, (refl, n, r, N), F), R .same)
 
   pub again-lands : (q : Position) (e : Expr) (c : ℕ) (K : List Frame) → Follows c (againFrame q e ∷ K) 1 (λ v. at σ (againWord q v e) K)
-  unfolding isWrite shapeOf ruleOf printed
+  unfolding isWrite ruleOf printed
   again-lands q e c K v b m s le R =
       let ((l, is, n, r, S), F) = R .frames in
       lands (at σ (againWord q v e) K) c (codeValue v) m s is r refl le ((R .values, (refl, n, r, S), F), R .same)
@@ -263,19 +263,19 @@ module _ (p : List ℕ) (t : ℕ) (small : t < 16) (σ : Env) (row : ℕ) (s₀ 
       (let i = r .index in omega arith, sym (r .index), v, row-of r, N) (r .index) refl (unary-lands q o k K)
 
   pub seek-simulated : (e : Expr) (c k : ℕ) → Stands p c k e → Sought c k e
-  unfolding size enteredBy shapeOf ruleOf printed largestValue
+  unfolding size enteredBy ruleOf printed largestValue
   seek-simulated (leaf Var q x) c k r K κ n m s fuel R next =
       takes-turn (κ (σ x)) m s (entering row k) (go p row (m - 1) s (returning row c (codeValue (σ x)))) (omega (arith, fuel))
       (enters p row (m - 1) k s r ∙ ap (λ (z : ℕ). go p row (m - 1) s (returning row c z)) (R .values x (omega (arith, r .small .0)))) (next (σ x) k (m - 1) s (omega (arith, fuel)) R)
   seek-simulated (leaf Int q v) c k r K κ n m s fuel R next =
       takes-turn (κ (int v)) m s (entering row k) (go p row (m - 1) s (returning row c 0)) (omega (arith, fuel)) (enters p row (m - 1) k s r) (next (int v) k (m - 1) s (omega (arith, fuel)) R)
-  seek-simulated (leaf Newtid q v) c k r K κ n m s fuel R next = stops (at σ (makeWord q calculus.newtid) K) k r (λ x. refl) m s (omega (arith, fuel))
+  seek-simulated (leaf Newtid q v) c k r K κ n m s fuel R next = stops (at σ (nullaryWord q calculus.newtid) K) k r (λ x. refl) m s (omega (arith, fuel))
       ((R .values, (ap (stoppedAt row) (sym (r .index)), v, row-of r, tt), by-position r (λ c k. Frames p s t row k c K) (R .frames)), R .same)
-  seek-simulated (leaf Newlock q v) c k r K κ n m s fuel R next = stops (at σ (makeWord q calculus.newlock) K) k r (λ x. refl) m s (omega (arith, fuel))
+  seek-simulated (leaf Newlock q v) c k r K κ n m s fuel R next = stops (at σ (nullaryWord q calculus.newlock) K) k r (λ x. refl) m s (omega (arith, fuel))
       ((R .values, (ap (stoppedAt row) (sym (r .index)), v, row-of r, tt), by-position r (λ c k. Frames p s t row k c K) (R .frames)), R .same)
-  seek-simulated (leaf Newsem q v) c k r K κ n m s fuel R next = stops (at σ (makeWord q calculus.newsem) K) k r (λ x. refl) m s (omega (arith, fuel))
+  seek-simulated (leaf Newsem q v) c k r K κ n m s fuel R next = stops (at σ (nullaryWord q calculus.newsem) K) k r (λ x. refl) m s (omega (arith, fuel))
       ((R .values, (ap (stoppedAt row) (sym (r .index)), v, row-of r, tt), by-position r (λ c k. Frames p s t row k c K) (R .frames)), R .same)
-  seek-simulated (leaf Newrwlock q v) c k r K κ n m s fuel R next = stops (at σ (makeWord q (calculus.newrwlock v)) K) k r (λ x. refl) m s (omega (arith, fuel))
+  seek-simulated (leaf Newrwlock q v) c k r K κ n m s fuel R next = stops (at σ (nullaryWord q (calculus.newrwlock v)) K) k r (λ x. refl) m s (omega (arith, fuel))
       ((R .values, (ap (stoppedAt row) (sym (r .index)), v, row-of r, refl), by-position r (λ c k. Frames p s t row k c K) (R .frames)), R .same)
   seek-simulated (unary While q v e) c k (r, S) K κ n m s fuel R next = stops (at σ (whileWord q e) K) k r (λ x. refl) m s (omega (arith, fuel))
       ((R .values, (ap (stoppedAt row) (sym (r .index)), v, row-of r, by-position r (λ c k. Stands p k (k + 1) e) S), by-position r (λ c k. Frames p s t row k c K) (R .frames)), R .same)

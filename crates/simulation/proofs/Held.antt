@@ -60,18 +60,18 @@ PartNumber calculus.wait v = Unit {0}
 PartNumber (calculus.hold w) v = Unit {0}
 PartNumber (calculus.call f) v = v ≡ f
 
-abbrev pub makerWord : calculus.Maker → LeafWord
-makerWord calculus.newtid = leafWord.Newtid
-makerWord calculus.newlock = leafWord.Newlock
-makerWord calculus.newsem = leafWord.Newsem
-makerWord (calculus.newrwlock N) = leafWord.Newrwlock
+abbrev pub noPartWord : calculus.Nullary → LeafWord
+noPartWord calculus.newtid = leafWord.Newtid
+noPartWord calculus.newlock = leafWord.Newlock
+noPartWord calculus.newsem = leafWord.Newsem
+noPartWord (calculus.newrwlock N) = leafWord.Newrwlock
 
 -- the number of a maker's step: of a read-write lock its reading places
-abbrev pub MakerNumber : calculus.Maker → ℕ → Type 0
-MakerNumber calculus.newtid v = Unit {0}
-MakerNumber calculus.newlock v = Unit {0}
-MakerNumber calculus.newsem v = Unit {0}
-MakerNumber (calculus.newrwlock N) v = v ≡ N
+abbrev pub NoPartNumber : calculus.Nullary → ℕ → Type 0
+NoPartNumber calculus.newtid v = Unit {0}
+NoPartNumber calculus.newlock v = Unit {0}
+NoPartNumber calculus.newsem v = Unit {0}
+NoPartNumber (calculus.newrwlock N) v = v ≡ N
 
 -- a call's procedure is one of so many
 abbrev pub Called : (procedures : ℕ) → Role → (v : ℕ) → Type 0
@@ -194,7 +194,7 @@ module _ (p : List ℕ) where
     WordAt r f (machine.writeWord q v w) =
         (f ≡ readyAt r (q .index) (codeValue w)) × (n : ℕ) × RowOf q (Binary Write) n × (kept s r (q .index) ≡ codeValue v)
     WordAt r f (machine.unaryWord q o v) = (f ≡ readyAt r (q .index) (codeValue v)) × (n : ℕ) × RowOf q (Unary (partWord o)) n × PartNumber o n
-    WordAt r f (machine.makeWord q o) = (f ≡ stoppedAt r (q .index)) × (v : ℕ) × RowOf q (Leaf (makerWord o)) v × MakerNumber o v
+    WordAt r f (machine.nullaryWord q o) = (f ≡ stoppedAt r (q .index)) × (v : ℕ) × RowOf q (Leaf (noPartWord o)) v × NoPartNumber o v
     WordAt r f (machine.unrolledWord q e) = (f ≡ unrolledAt r (q .index)) × (v : ℕ) × RowOf q (Unary unaryWord.While) v × Stands (q .index) (q .index + 1) e
     WordAt r f (machine.againWord q v e) =
         (f ≡ readyAt r (q .index) (codeValue v)) × (n : ℕ) × RowOf q (Unary unaryWord.While) n × Stands (q .index) (q .index + 1) e
@@ -206,7 +206,7 @@ module _ (p : List ℕ) where
     placeOf (machine.spawnWord q v e) = q .index
     placeOf (machine.writeWord q v w) = q .index
     placeOf (machine.unaryWord q o v) = q .index
-    placeOf (machine.makeWord q o) = q .index
+    placeOf (machine.nullaryWord q o) = q .index
     placeOf (machine.unrolledWord q e) = q .index
     placeOf (machine.againWord q v e) = q .index
 

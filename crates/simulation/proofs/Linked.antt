@@ -23,7 +23,7 @@ use Rattle.spec.proofs.Listing.{prefix-length}
 use Rattle.workspace.proofs.Held.{ends-length}
 use Rattle.workspace.proofs.Expression.{codes, values, linesOf, Standing, leaf-head, unary-head, binary-head, standing-end, standing-part, standing-first, standing-second}
 use Rattle.control.specs.Layout.{continuationsAt, proceduresAt, programSize}
-use Rattle.control.specs.Shapes.{shapeOf, shapeAt}
+use Rattle.control.specs.Shapes.{shapeAt}
 use Rattle.control.specs.Control.{continuation, second}
 use Rattle.control.specs.Continuations.{continuations, joined, linkedParts, linkedStep, linkedFrom}
 use Rattle.simulation.proofs.Held.{Small, afterFirst, afterSecond, Stands}
@@ -103,7 +103,7 @@ linked-split p k (suc n) m =
 -- ------------------------------------------------------------------ what a step's parts get
 
 leaf-linked : (p : List ℕ) (k : ℕ) (w : LeafWord) → getD p (0 + k) 0 ≡ codeOf (Leaf w) → linkedStep p k ≡ p
-unfolding linkedStep linkedParts shapeAt shapeOf ruleOf printed
+unfolding linkedStep linkedParts shapeAt ruleOf printed
 leaf-linked p k Var e = rw e
 leaf-linked p k Int e = rw e
 leaf-linked p k Newtid e = rw e
@@ -112,7 +112,7 @@ leaf-linked p k Newsem e = rw e
 leaf-linked p k Newrwlock e = rw e
 
 unary-linked : (p : List ℕ) (k : ℕ) (w : UnaryWord) → getD p (0 + k) 0 ≡ codeOf (Unary w) → linkedStep p k ≡ joined p (k + 1) k
-unfolding linkedStep linkedParts shapeAt shapeOf ruleOf printed
+unfolding linkedStep linkedParts shapeAt ruleOf printed
 unary-linked p k While e = rw e
 unary-linked p k Join e = rw e
 unary-linked p k Ref e = rw e
@@ -129,7 +129,7 @@ unary-linked p k Call e = rw e
 
 binary-linked : (p : List ℕ) (k : ℕ) (w : BinaryWord) → getD p (0 + k) 0 ≡ codeOf (Binary w) →
     linkedStep p k ≡ joined (joined p (k + 1) (afterFirst w k (continuation p k))) (second p k) (afterSecond w k (continuation p k))
-unfolding linkedStep linkedParts shapeAt shapeOf ruleOf printed
+unfolding linkedStep linkedParts shapeAt ruleOf printed
 binary-linked p k Let e = rw e
 binary-linked p k If e = rw e
 binary-linked p k Spawn e = rw e

@@ -24,7 +24,7 @@ use Rattle.calculus.proofs.Laws.Maps.{update-other}
 use Rattle.workspace.specs.Layout.{ruleOf, printed}
 use Rattle.threads.specs.declared.Threads.{Threads}
 use Rattle.control.specs.Layout.{thingCountsAt, nextValueAt, thingKindsAt, thingFirstsAt, thingSecondsAt, spaceSize}
-use Rattle.control.specs.Shapes.{shapeOf, shapeAt, isWrite}
+use Rattle.control.specs.Shapes.{shapeAt, isWrite}
 use Rattle.control.specs.Control.{continuation, returning, stoppedAt, readyAt}
 use Rattle.things.specs.declared.Slot.{Slot}
 use Rattle.control.specs.declared.Focus.{Focus}
@@ -42,7 +42,7 @@ use Rattle.machine.specs.Control.{Frame, at, return}
 use Rattle.machine.specs.State.{Machine, running}
 use Rattle.machine.specs.Step.{creates}
 use Rattle.machine.specs.Replay.{Replay, within}
-use Rattle.simulation.proofs.Held.{makerWord, MakerNumber, RowOf, Values, Frames}
+use Rattle.simulation.proofs.Held.{noPartWord, NoPartNumber, RowOf, Values, Frames}
 use Rattle.simulation.proofs.Turning.{same-all, RowIn}
 use Rattle.simulation.proofs.Finding.{frames-same, returns-word}
 use Rattle.simulation.proofs.Agreeing.{Agree, rows-same, agree-then, agree-shared}
@@ -243,32 +243,32 @@ module _ (p s : List ℕ) (T : Threads) (R : Replay) (t tid : ℕ) (σ : Env) (K
 
 -- ------------------------------------------------------------------ what the code does
 
-abbrev pub makerSlot : calculus.Maker → Slot
+abbrev pub makerSlot : calculus.Nullary → Slot
 makerSlot newtid = slot 1 0 0
 makerSlot newlock = slot 3 0 0
 makerSlot newsem = slot 4 0 0
 makerSlot (newrwlock N) = slot 5 N 0
 
 module _ (p s : List ℕ) (row c : ℕ) {q : Position} {v : ℕ} where
-  pub maker-acts : (o : calculus.Maker) → MakerNumber o v → RowOf p q (Leaf (makerWord o)) v → acted p s (stoppedAt row (q .index)) c ≡ newThing p s row (q .index) (makerSlot o)
-  unfolding acted actedBy wordUsed effected subject operand usedBy madeOf shapeAt shapeOf isWrite ruleOf printed
+  pub maker-acts : (o : calculus.Nullary) → NoPartNumber o v → RowOf p q (Leaf (noPartWord o)) v → acted p s (stoppedAt row (q .index)) c ≡ newThing p s row (q .index) (makerSlot o)
+  unfolding acted actedBy wordUsed effected subject operand usedBy madeOf shapeAt isWrite ruleOf printed
   maker-acts newtid n r = rw (r .code) (rw (r .code))
   maker-acts newlock n r = rw (r .code) (rw (r .code))
   maker-acts newsem n r = rw (r .code) (rw (r .code))
   maker-acts (newrwlock N) n r = rw (r .code) (rw (r .code, r .number, n))
 
   pub ref-acts : (w : ℕ) → RowOf p q (Unary Ref) v → acted p s (readyAt row (q .index) w) c ≡ newThing p s row (q .index) (slot 2 w 0)
-  unfolding acted actedBy wordUsed effected subject operand usedBy madeOf shapeAt shapeOf isWrite ruleOf printed
+  unfolding acted actedBy wordUsed effected subject operand usedBy madeOf shapeAt isWrite ruleOf printed
   ref-acts w r = rw (r .code) (rw (r .code))
 
-pub maker-kind : (o : calculus.Maker) → makerSlot o .kind ≡ kindCode (kindMade o)
+pub maker-kind : (o : calculus.Nullary) → makerSlot o .kind ≡ kindCode (kindMade o)
 unfolding kindMade
 maker-kind newtid = refl
 maker-kind newlock = refl
 maker-kind newsem = refl
 maker-kind (newrwlock N) = refl
 
-pub maker-slot : (o : calculus.Maker) → SlotIs (makerSlot o) (made o)
+pub maker-slot : (o : calculus.Nullary) → SlotIs (makerSlot o) (made o)
 maker-slot newtid = refl
 maker-slot newlock = (refl, refl)
 maker-slot newsem = (refl, refl, omega arith)

@@ -9,14 +9,14 @@ use native.Mathlib.Omega.{arith}
 use native.Mathlib.Decide.{ℕ-discrete}
 use lib.ListN.{getElem?}
 use Rattle.spec.specs.Program.{Program}
-use Rattle.calculus.specs.Expression.{Value, Unary, join, ref, read, lock, unlock, post, wait, hold, call, choose, Maker, newtid, newlock, newsem, newrwlock}
+use Rattle.calculus.specs.Expression.{Value, Unary, join, ref, read, lock, unlock, post, wait, hold, call, choose, Nullary, newtid, newlock, newsem, newrwlock}
 use Rattle.calculus.specs.State.{Slot, unused, identifier, cell, aLock, semaphore, rwlock, Part, update}
 use Rattle.calculus.specs.Reduction.{nameOf, ifIdentifier, cellValue, lockState, ifOpened, count, oneLess, rwState, insideAfter, made}
 use Rattle.calculus.proofs.Laws.Maps.{some-injective, none-is-not-some, bind-is-some}
 use Rattle.replay_theory.specs.Trace.{TraceLine}
 use Rattle.replay_theory.specs.Run.{partChosen, effect, thingsAfter}
 use Rattle.machine.specs.Environment.{Env}
-use Rattle.machine.specs.Control.{Frame, Word, letWord, ifWord, whileWord, spawnWord, writeWord, unaryWord, makeWord, unrolledWord, againWord, Control, done, at}
+use Rattle.machine.specs.Control.{Frame, Word, letWord, ifWord, whileWord, spawnWord, writeWord, unaryWord, nullaryWord, unrolledWord, againWord, Control, done, at}
 use Rattle.machine.specs.State.{MachineThread, Machine, startMachine}
 use Rattle.machine.specs.Step.{lowest, stepUnary, stepWord, stepControl, stepThread, step}
 use Rattle.machine.specs.Replay.{Replay, wordOf, stepped, startReplay}
@@ -39,7 +39,7 @@ updated k names m a h w n c e = by-name (ℕ-discrete n m) e
     by-name (yes z) e = w c e
     by-name (no z) e = more k names h n c e
 
-made-within : (k : ℕ) (o : Maker) → Within k (made o)
+made-within : (k : ℕ) (o : Nullary) → Within k (made o)
 made-within k newtid c e = none-is-not-some e
 made-within k newlock c e = none-is-not-some e
 made-within k newsem c e = let z : 0 ≡ c = some-injective e in omega (arith, z)
@@ -109,7 +109,7 @@ module _ (k : ℕ) (M : Machine) (i tid : ℕ) (σ : Env) (K : List Frame) (h : 
       let (u, _, z₂) = bind-is-some (cellValue (M .names m)) z₁ in
       told _ N (updated k (M .names) m (cell w) h (λ c e. none-is-not-some e)) z₂
   word-counts c (unaryWord q o v) N z = unary-counts o v N z
-  word-counts c (makeWord q o) N z = told _ N (updated k (M .names) (M .next) (made o) h (made-within (suc k) o)) z
+  word-counts c (nullaryWord q o) N z = told _ N (updated k (M .names) (M .next) (made o) h (made-within (suc k) o)) z
   word-counts c (unrolledWord q e) N z = told _ N same z
   word-counts c (againWord q v e) N z = told _ N same z
 

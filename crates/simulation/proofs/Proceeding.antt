@@ -69,7 +69,7 @@ mode-tells p s t f (at σ w K) (values, W, F) = word-tells w W
     word-tells (machine.spawnWord q v e) W = ap (λ (g : Focus). eqb (g .mode) 5) (W .0)
     word-tells (machine.writeWord q v w) W = ap (λ (g : Focus). eqb (g .mode) 5) (W .0)
     word-tells (machine.unaryWord q o v) W = ap (λ (g : Focus). eqb (g .mode) 5) (W .0)
-    word-tells (machine.makeWord q o) W = ap (λ (g : Focus). eqb (g .mode) 5) (W .0)
+    word-tells (machine.nullaryWord q o) W = ap (λ (g : Focus). eqb (g .mode) 5) (W .0)
     word-tells (machine.unrolledWord q e) W = ap (λ (g : Focus). eqb (g .mode) 5) (W .0)
     word-tells (machine.againWord q v e) W = ap (λ (g : Focus). eqb (g .mode) 5) (W .0)
 

@@ -17,7 +17,7 @@ use Rattle.calculus.proofs.Laws.Maps.{some-is-not-none}
 use Rattle.workspace.specs.Layout.{ruleOf, codeOf, printed}
 use Rattle.threads.specs.declared.Threads.{Threads}
 use Rattle.control.specs.declared.Focus.{Focus}
-use Rattle.control.specs.Shapes.{shapeOf, shapeAt, isWrite}
+use Rattle.control.specs.Shapes.{shapeAt, isWrite}
 use Rattle.control.specs.Control.{kept, continuation, returning, readyAt}
 use Rattle.things.specs.declared.Slot.{Slot}
 use Rattle.things.specs.declared.Used.{Used}
@@ -49,7 +49,7 @@ use Rattle.simulation.proofs.Alone.{goes, ready}
 module _ (p s : List ℕ) (row c : ℕ) {q : Position} where
   part-acts : (o : calculus.Unary) → Using o → {n : ℕ} (v : ℕ) → RowOf p q (Unary (partWord o)) n →
       acted p s (readyAt row (q .index) v) c ≡ effected p s row (q .index) v (usedBy (ruleOf (codeOf (Unary (partWord o)))) (slotAt s v) v)
-  unfolding acted actedBy wordUsed subject operand shapeAt shapeOf isWrite ruleOf printed
+  unfolding acted actedBy wordUsed subject operand shapeAt isWrite ruleOf printed
   part-acts read using-read v r = rw (r .code) (rw (r .code))
   part-acts lock using-lock v r = rw (r .code) (rw (r .code))
   part-acts unlock using-unlock v r = rw (r .code) (rw (r .code))
@@ -62,7 +62,7 @@ module _ (p s : List ℕ) (row c : ℕ) {q : Position} where
 
   write-acts : {n : ℕ} (v w : ℕ) → kept s row (q .index) ≡ v → RowOf p q (Binary Write) n →
       acted p s (readyAt row (q .index) w) c ≡ effected p s row (q .index) v (writtenOf (slotAt s v) w)
-  unfolding acted actedBy wordUsed subject operand usedBy shapeAt shapeOf isWrite ruleOf printed
+  unfolding acted actedBy wordUsed subject operand usedBy shapeAt isWrite ruleOf printed
   write-acts v w e r = rw (r .code) (rw (r .code) (ap (λ (u : ℕ). effected p s row (q .index) u (writtenOf (slotAt s u) w)) e))
 
 -- a value that names nothing is of no use

@@ -20,13 +20,13 @@ use Rattle.calculus.specs.State as state
 use Rattle.calculus.specs.State.{Part, first, second, unused, identifier, cell, aLock, opened, closed, semaphore, rwlock, readers, writer}
 use Rattle.calculus.specs.Reduction.{_>>=_, _>>_, ifIdentifier, made}
 use Rattle.calculus.proofs.Laws.Maps.{none-is-not-some, some-is-not-none}
-use Rattle.workspace.specs.Layout.{ruleOf, codeOf, printed}
+use Rattle.workspace.specs.Layout.{ruleOf, codeOf, printed, shapeOf}
 use Rattle.threads.specs.declared.Record.{Record}
 use Rattle.threads.specs.declared.Threads.{Threads}
 use Rattle.threads.specs.Threads.{isRunning, runs}
 use Rattle.control.specs.Layout.{finish}
 use Rattle.control.specs.declared.Focus.{Focus}
-use Rattle.control.specs.Shapes.{shapeOf, shapeAt, isWrite, isIf}
+use Rattle.control.specs.Shapes.{shapeAt, isWrite, isIf}
 use Rattle.control.specs.Control.{continuation, second as secondAt, readyAt, stoppedAt, unrolledAt}
 use Rattle.things.specs.declared.Slot.{Slot}
 use Rattle.things.specs.declared.Used.the-variants as used
@@ -41,11 +41,11 @@ use Rattle.replay_theory.specs.Run.{cells, kindMade, partOfIf, noChoice, partCh
 use Rattle.replay_theory.specs.Replay.{Outcome, limited}
 use Rattle.machine.specs.Environment.{Env}
 use Rattle.machine.specs.Control as machine
-use Rattle.machine.specs.Control.{Frame, letWord, ifWord, whileWord, spawnWord, writeWord, unaryWord, makeWord, unrolledWord, againWord, Control, done, at, redex, marks, openCalls}
+use Rattle.machine.specs.Control.{Frame, letWord, ifWord, whileWord, spawnWord, writeWord, unaryWord, nullaryWord, unrolledWord, againWord, Control, done, at, redex, marks, openCalls}
 use Rattle.machine.specs.State.{MachineThread, Machine, running}
 use Rattle.machine.specs.Step.{step, stepUnary, stepWord}
 use Rattle.machine.specs.Replay.{Replay, statusOf, wordOf, within, stepped as steppedOn}
-use Rattle.simulation.proofs.Held.{codeValue, partWord, makerWord, RowOf, Stands, Values, Frames, WordAt, placeOf}
+use Rattle.simulation.proofs.Held.{codeValue, partWord, noPartWord, RowOf, Stands, Values, Frames, WordAt, placeOf}
 use Rattle.simulation.proofs.Holds.{SlotIs, Holds}
 use Rattle.simulation.proofs.Proceeding.{place-below}
 use Rattle.simulation.proofs.Using.{Using, using-read, using-lock, using-unlock, using-post, using-wait, using-rdlock, using-rdunlock, using-wrlock, using-wrunlock, slotOf, Roomy}
@@ -80,11 +80,11 @@ identified x (rwlock N writer) h = is-none refl (rw (h .0)) (rw (h .0))
 
 module _ (p s : List ℕ) (row c : ℕ) {q : Position} {n : ℕ} (v : ℕ) where
   join-acts : RowOf p q (Unary Join) n → acted p s (readyAt row (q .index) v) c ≡ effected p s row (q .index) v (joinedOf (slotAt s v))
-  unfolding acted actedBy wordUsed subject operand usedBy shapeAt shapeOf isWrite ruleOf printed
+  unfolding acted actedBy wordUsed subject operand usedBy shapeAt isWrite ruleOf printed
   join-acts r = rw (r .code) (rw (r .code))
 
   spawn-acts : RowOf p q (Binary Spawn) n → acted p s (readyAt row (q .index) v) c ≡ effected p s row (q .index) v (spawnedOf (slotAt s v))
-  unfolding acted actedBy wordUsed subject operand usedBy shapeAt shapeOf isWrite ruleOf printed
+  unfolding acted actedBy wordUsed subject operand usedBy shapeAt isWrite ruleOf printed
   spawn-acts r = rw (r .code) (rw (r .code))
 
 -- ------------------------------------------------------------------ choices
@@ -216,22 +216,22 @@ module _ (p s : List ℕ) (T : Threads) (R : Replay) (t tid : ℕ) (σ : Env) (K
       (rw same (part-goes p s T R t tid σ K H low row inside values 0 q F o u v r (roomy-value v) there)) c)
 
   at-if : (q : Position) {v : ℕ} → RowOf p q (Binary If) v → mayChoose p (stoppedAt row (q .index)) 1 ≡ true
-  unfolding mayChoose shapeAt isIf shapeOf ruleOf printed
+  unfolding mayChoose shapeAt isIf ruleOf printed
   at-if q r = rw (r .code)
 
   at-unrolled : (q : Position) → mayChoose p (unrolledAt row (q .index)) 1 ≡ true
   unfolding mayChoose
   at-unrolled q = refl
 
-  maker-no-if : (o : calculus.Maker) → isIf (shapeOf (ruleOf (codeOf (Leaf (makerWord o))))) ≡ false
-  unfolding isIf shapeOf ruleOf printed
+  maker-no-if : (o : calculus.Nullary) → isIf (shapeOf (ruleOf (codeOf (Leaf (noPartWord o))))) ≡ false
+  unfolding isIf ruleOf printed
   maker-no-if calculus.newtid = refl
   maker-no-if calculus.newlock = refl
   maker-no-if calculus.newsem = refl
   maker-no-if (calculus.newrwlock N) = refl
 
   word-goes : (w : machine.Word) (f : Focus) → WordAt p s row f w → Frames p s t row (placeOf p s w) (continuation p (placeOf p s w)) K → There w → (c : ℕ) → WordLine w f c
-  unfolding partChosen effect unaryEffect thingsAfter isIf shapeOf ruleOf printed
+  unfolding partChosen effect unaryEffect thingsAfter isIf ruleOf printed
   word-goes (letWord q x v e) f (z, r, S) F there c =
       subst (λ (g : Focus). WordLine (letWord q x v e) g c) (sym z)
       (plain p s T R t (redex σ (letWord q x v e)) (λ part. stepWord M t tid σ K part (letWord q x v e)) (readyAt row (q .index) (codeValue v)) (λ c. refl) refl (no-if q (Binary Let) r refl)
@@ -274,11 +274,11 @@ module _ (p s : List ℕ) (T : Threads) (R : Replay) (t tid : ℕ) (σ : Env) (K
       subst (λ (h : Focus). WordLine (unaryWord q (call g) v) h c) (sym z)
       (plain p s T R t (redex σ (unaryWord q (call g) v)) (λ part. stepWord M t tid σ K part (unaryWord q (call g) v)) (readyAt row (q .index) (codeValue v)) (λ c. refl) refl (no-if q (Unary Call) r refl)
       (call-goes p s T R t tid σ K H low row inside few values q g v r N F there) c)
-  word-goes (makeWord q o) f (z, n, r, N) F there c =
-      subst (λ (g : Focus). WordLine (makeWord q o) g c) (sym z)
-      (plain p s T R t (redex σ (makeWord q o)) (λ part. stepWord M t tid σ K part (makeWord q o)) (stoppedAt row (q .index)) (λ c. refl) refl (no-if q (Leaf (makerWord o)) r (maker-no-if o))
+  word-goes (nullaryWord q o) f (z, n, r, N) F there c =
+      subst (λ (g : Focus). WordLine (nullaryWord q o) g c) (sym z)
+      (plain p s T R t (redex σ (nullaryWord q o)) (λ part. stepWord M t tid σ K part (nullaryWord q o)) (stoppedAt row (q .index)) (λ c. refl) refl (no-if q (Leaf (noPartWord o)) r (maker-no-if o))
       (rw (maker-acts p s row 0 o N r)
-      (making-goes p s T R t tid σ K H low row inside values (makeWord q o) (stoppedAt row (q .index)) (q .index) (r .below) F there (kindMade o) (makerSlot o) (made o) (maker-kind o) (maker-slot o))) c)
+      (making-goes p s T R t tid σ K H low row inside values (nullaryWord q o) (stoppedAt row (q .index)) (q .index) (r .below) F there (kindMade o) (makerSlot o) (made o) (maker-kind o) (maker-slot o))) c)
   word-goes (unrolledWord q e) f (z, n, r, S) F there c =
       subst (λ (g : Focus). WordLine (unrolledWord q e) g c) (sym z)
       (either p s T R t (redex σ (unrolledWord q e)) (λ part. stepWord M t tid σ K part (unrolledWord q e)) (unrolledAt row (q .index)) (λ c. refl) (at-unrolled q)

@@ -9,7 +9,7 @@ use borrow.Author.Tests.{leb-false}
 use lib.Dec.{leb}
 use lib.ListN.{length, getElem?}
 use Rattle.spec.specs.Choice.{if_then_else_}
-use Rattle.calculus.specs.Expression.{Redex, letRedex, ifRedex, whileRedex, spawnRedex, writeRedex, unaryRedex, makeRedex}
+use Rattle.calculus.specs.Expression.{Redex, letRedex, ifRedex, whileRedex, spawnRedex, writeRedex, unaryRedex, nullaryRedex}
 use Rattle.calculus.specs.State.{Part}
 use Rattle.calculus.specs.Reduction.{_>>=_}
 use Rattle.lexer.specs.Numbers.{stored}
@@ -47,7 +47,7 @@ part-past (whileRedex e) (suc (suc c)) l = refl
 part-past (spawnRedex v e) (suc (suc c)) l = refl
 part-past (writeRedex v w) (suc (suc c)) l = refl
 part-past (unaryRedex o v) (suc (suc c)) l = refl
-part-past (makeRedex o) (suc (suc c)) l = refl
+part-past (nullaryRedex o) (suc (suc c)) l = refl
 
 part-stored : (w : Redex) (c : ℕ) → partChosen w (stored c) ≡ partChosen w c
 part-stored w c = stored-cases (partChosen w) c (λ l. part-past w 4294967295 (omega arith) ∙ sym (part-past w c (omega arith)))

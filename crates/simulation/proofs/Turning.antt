@@ -12,11 +12,11 @@ use Rattle.spec.specs.Expression.{Position}
 use Rattle.spec.specs.declared.Word.{Word}
 use Rattle.spec.specs.declared.Word.the-variants.{Binary}
 use Rattle.spec.specs.declared.BinaryWord.the-variants.{Write}
-use Rattle.workspace.specs.Layout.{ruleOf, codeOf, printed}
+use Rattle.workspace.specs.Layout.{ruleOf, codeOf, printed, shapeOf}
 use Rattle.workspace.specs.Region.{ChangedWithin}
 use Rattle.control.specs.Layout.{secondPart, finish, leave, keptValuesAt}
 use Rattle.control.specs.declared.Focus.{Focus}
-use Rattle.control.specs.Shapes.{shapeOf, shapeAt, isWrite}
+use Rattle.control.specs.Shapes.{shapeAt, isWrite}
 use Rattle.control.specs.Control.{variable, calledFrom, continuation, second, behind, entering, returning, readyAt, doneWith, enteredBy, entered, halfWritten, left, returned, returnedSpace, turned, turnedSpace, found}
 use Rattle.control.proofs.Turns.{found-stop, found-turn}
 use Rattle.simulation.proofs.Held.{Row, RowOf}
@@ -73,7 +73,7 @@ module _ (p : List ℕ) (r : ℕ) where
   -- from the value of the first part of a `write`
   pub to-other : (n j x : ℕ) {q : Position} {v c : ℕ} (s : List ℕ) → Row p j q (Binary Write) v c →
       go (suc n) s (returning r j x) ≡ go n (set s (keptValuesAt + 256 * r + j) x) (entering r (second p j))
-  unfolding turned turnedSpace returned returnedSpace halfWritten shapeAt shapeOf ruleOf printed isWrite
+  unfolding turned turnedSpace returned returnedSpace halfWritten shapeAt ruleOf printed isWrite
   to-other n j x s d = found-turn p s (returning r j x) n (omega arith) ∙ rw (lt-ltb j 256 (d .below), d .code)
 
   -- from the value of the whole

@@ -5,14 +5,14 @@ use Prim.Native.String.{String, _++_}
 use Rattle.spec.specs.Reading.{on, _>>=_}
 use Rattle.spec.specs.Program.{program}
 use Rattle.spec.specs.Pairs.KnownPairs.{barred, P, found}
-use Rattle.calculus.specs.Expression.{value as constant, int, var, letIn, if, while, spawn, write, unary, join, ref, read, lock, unlock, post, wait, hold, rdlock, rdunlock, wrlock, wrunlock, call, make, newtid, newlock, newsem, newrwlock}
+use Rattle.calculus.specs.Expression.{value as constant, int, var, letIn, if, while, spawn, write, unary, join, ref, read, lock, unlock, post, wait, hold, rdlock, rdunlock, wrlock, wrunlock, call, nullary, newtid, newlock, newsem, newrwlock}
 use Rattle.soundness.specs.Erasure.{erase, eraseProgram}
 
 pub P-is-run : (program (barred P) >>= λ p. on (eraseProgram p))
     ≡ on (record {
       procedures = [];
       root = letIn 0 (unary ref (constant (int 0)))
-          (letIn 1 (make newtid)
+          (letIn 1 (nullary newtid)
           (letIn 2 (spawn (var 1) (unary read (var 0)))
           (letIn 3 (unary join (var 1))
           (write (var 0) (constant (int 1))))));
@@ -33,10 +33,10 @@ pub every-word-is-run : (program (barred everyWord) >>= λ p. on (eraseProgram p
       procedures = record { parameter = 0; body = if (unary read (var 0)) (constant (int 7)) }
           ∷ record { parameter = 1; body = write (var 1) (unary (call 0) (var 1)) }
           ∷ [];
-      root = letIn 2 (make newlock)
-          (letIn 3 (make newsem)
-          (letIn 4 (make (newrwlock 3))
-          (letIn 5 (make newtid)
+      root = letIn 2 (nullary newlock)
+          (letIn 3 (nullary newsem)
+          (letIn 4 (nullary (newrwlock 3))
+          (letIn 5 (nullary newtid)
           (letIn 6 (unary ref (constant (int 5)))
           (letIn 7 (spawn (var 5) (unary (call 1) (var 6)))
           (letIn 8 (unary lock (var 2))

@@ -10,20 +10,20 @@ use Rattle.spec.specs.Expression.{Expr, leaf, unary, binary}
 use Rattle.spec.specs.declared.LeafWord.the-variants.{Var, Int, Newtid, Newlock, Newsem, Newrwlock}
 use Rattle.spec.specs.declared.UnaryWord.the-variants.{While, Join, Ref, Read, Lock, Unlock, Post, Wait, Rdlock, Rdunlock, Wrlock, Wrunlock, Call}
 use Rattle.spec.specs.declared.BinaryWord.the-variants.{Let, If, Spawn, Write}
-use Rattle.calculus.specs.Expression.{Exp, value, int, var, letIn, if, while, spawn, write, unary as onePart, Unary, Maker, join, ref, read, lock, unlock, post, wait, hold, rdlock, rdunlock, wrlock, wrunlock, call, make, newtid, newlock, newsem, newrwlock, Procedure, Program}
+use Rattle.calculus.specs.Expression.{Exp, value, int, var, letIn, if, while, spawn, write, unary as onePart, Unary, Nullary, join, ref, read, lock, unlock, post, wait, hold, rdlock, rdunlock, wrlock, wrunlock, call, nullary, newtid, newlock, newsem, newrwlock, Procedure, Program}
 
--- What a word without parts is, with its number v: a variable, a constant, or a word that makes a new thing.
+-- What a word without parts is, with its number v: a variable, a constant, or a word that reduces.
 pub data LeafForm : Type 0 where
   variable constant : ℕ → LeafForm
-  makes : Maker → LeafForm
+  reduces : Nullary → LeafForm
 
 abbrev pub leafForm : LeafWord → (v : ℕ) → LeafForm
 leafForm Var v = variable v
 leafForm Int v = constant v
-leafForm Newtid v = makes newtid
-leafForm Newlock v = makes newlock
-leafForm Newsem v = makes newsem
-leafForm Newrwlock v = makes (newrwlock v)
+leafForm Newtid v = reduces newtid
+leafForm Newlock v = reduces newlock
+leafForm Newsem v = reduces newsem
+leafForm Newrwlock v = reduces (newrwlock v)
 
 -- What a word with one part is: a loop, or a word that wants its part to be a value.
 pub data UnaryForm : Type 0 where
@@ -48,7 +48,7 @@ unaryForm Call v = strict (call v)
 abbrev pub leafExp : LeafForm → Exp
 leafExp (variable x) = var x
 leafExp (constant n) = value (int n)
-leafExp (makes o) = make o
+leafExp (reduces o) = nullary o
 
 abbrev pub unaryExp : UnaryForm → Exp → Exp
 unaryExp loop e = while e

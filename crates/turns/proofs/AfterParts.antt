@@ -8,10 +8,10 @@ use Rattle.fill_theory.specs.declared.Effect.{Effect}
 use Rattle.fill_theory.specs.Found.{_>>=_, demand}
 use Rattle.fill_theory.specs.Flow.{taking}
 use Rattle.fill_theory.specs.Pass.{forth, turn}
-use Rattle.ways.specs.declared.UnaryWay.{UnaryWay}
-use Rattle.ways.specs.declared.UnaryWay.the-variants.{Loop, Call}
-use Rattle.ways.specs.declared.BinaryWay.{BinaryWay}
-use Rattle.ways.specs.declared.BinaryWay.the-variants.{Fork}
+use Rattle.fill_theory.specs.declared.UnaryWay.{UnaryWay}
+use Rattle.fill_theory.specs.declared.UnaryWay.the-variants.{Loop, Call}
+use Rattle.fill_theory.specs.declared.BinaryWay.{BinaryWay}
+use Rattle.fill_theory.specs.declared.BinaryWay.the-variants.{Fork}
 use Rattle.turns.specs.declared.Found.{Found}
 use Rattle.turns.specs.declared.Found.the-variants.{Number, Nothing}
 use Rattle.turns.specs.Turns.{asFound, afterUnary, afterBinary}

@@ -3,10 +3,10 @@
 use Prim.Native.Nat.{ℕ, min}
 use Rattle.fill_theory.specs.Flow.{taking}
 use Rattle.fill_theory.specs.Pass.{forth, back}
-use Rattle.ways.specs.declared.UnaryWay.{UnaryWay}
-use Rattle.ways.specs.declared.UnaryWay.the-variants.{After, Loop, Call}
-use Rattle.ways.specs.declared.BinaryWay.{BinaryWay}
-use Rattle.ways.specs.declared.BinaryWay.the-variants.{InTurn, Branch, Fork}
+use Rattle.fill_theory.specs.declared.UnaryWay.{UnaryWay}
+use Rattle.fill_theory.specs.declared.UnaryWay.the-variants.{After, Loop, Call}
+use Rattle.fill_theory.specs.declared.BinaryWay.{BinaryWay}
+use Rattle.fill_theory.specs.declared.BinaryWay.the-variants.{InTurn, Branch, Fork}
 
 -- no bound: 2^62, more than any post can be
 unfoldable pub top : ℕ

@@ -1,8 +1,8 @@
 // The arithmetic of the bounds: from the most that the post of a step may be to those of its parts, and from what its parts can start
 // with to what it can.
+use fill_theory::BinaryWay;
 use fill_theory::Effect;
-use ways::BinaryWay;
-use ways::UnaryWay;
+use fill_theory::UnaryWay;
 use ways::taking;
 ghost use mathlib.Core.Path.{_≡_};
 ghost use Prim.Native.Nat.{_<_, min};

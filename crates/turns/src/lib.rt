@@ -3,9 +3,9 @@
 pub mod bounds;
 
 use bounds::least;
+use fill_theory::BinaryWay;
 use fill_theory::Effect;
-use ways::BinaryWay;
-use ways::UnaryWay;
+use fill_theory::UnaryWay;
 use ways::taking;
 ghost use mathlib.Core.Path.{_≡_};
 ghost use Prim.Native.Nat.{_<_};

@@ -12,17 +12,17 @@ use Rattle.spec.specs.Split.{Row, Split, noRow}
 use Rattle.spec.specs.declared.Signature.{Signature}
 use Rattle.spec.specs.Conditions.{Env, mapAt, typeIn, row, post, bodyStart, signature}
 use Rattle.spec.specs.Words.{role}
-use Rattle.spec.specs.WellFormed.{StepInside, UsedInside}
 use Rattle.spec.specs.Ranges.{InRange}
 use Rattle.spec.specs.declared.MapNumber.{MapNumber}
 use Rattle.spec.specs.declared.TypeNumber.{TypeNumber}
 use Rattle.spec.specs.declared.LeafWord.{LeafWord}
-use Rattle.spec.specs.declared.LeafWord.the-variants.{Var, Int, Newtid, Newlock, Newsem, Newrwlock}
+use Rattle.spec.specs.declared.Role.the-variants.{Uses}
+use Rattle.spec.specs.declared.Word.the-variants.{Leaf}
 use Rattle.workspace.specs.Layout.{valuesAt, endsAt, procMark, rowTypesAt, postsAt, sigArgumentsAt}
 use Rattle.workspace.specs.Holds.{HoldsSplit}
 use Rattle.workspace.proofs.Region.{column}
 use Rattle.workspace.proofs.Shown.{type-number, Stands, row-at, row-type, post-at, start-at, argument-shown, argument-in, result-shown, result-in, before-at, after-at}
-use Rattle.workspace.proofs.Expression.{Here, leaf-number, here-let}
+use Rattle.workspace.proofs.Expression.{Here, leaf-number, here-used, here-let}
 use Rattle.views.specs.StepView.{cell, signatureOf, boundOf, viewOf}
 use Rattle.views.specs.declared.View.{View}
 use Rattle.views.proofs.Scopes.{BoundBy, by-let, by-procedure, Scoped}
@@ -42,14 +42,10 @@ pub record Signed (w : List ℕ) (S : Split) (r : Signature) (g : Signature) : T
   pub result-is : r .result ≡ g .result
   pub result-in : g .result .0 < length (S .types)
 
--- a `var` shows the type of its let's e1 or of its procedure's argument, a `newrwlock` its number of reading places
-abbrev pub Bound : Split → LeafWord → View → Env → (v : ℕ) → Type 0
-Bound S Var s Γ v = (s .bound ≡ typeIn Γ v) × (typeIn Γ v .0 < length (S .types))
-Bound S Int s Γ v = Unit {0}
-Bound S Newtid s Γ v = Unit {0}
-Bound S Newlock s Γ v = Unit {0}
-Bound S Newsem s Γ v = Unit {0}
-Bound S Newrwlock s Γ v = s .value ≡ v
+-- a step without parts shows its number, and if it uses a variable, the type of its let's e1 or of its procedure's argument
+pub record Bound (S : Split) (x : LeafWord) (s : View) (Γ : Env) (v : ℕ) : Type 0 where
+  pub number : s .value ≡ v
+  pub variable : role (Leaf x) ≡ Uses → (s .bound ≡ typeIn Γ v) × (typeIn Γ v .0 < length (S .types))
 
 module _ (w : List ℕ) (S : Split) (P : Program) (H : HoldsSplit w S) (R : InRange P S) where
   -- the numbers of a row are in range
@@ -115,12 +111,9 @@ module _ (w : List ℕ) (S : Split) (P : Program) (H : HoldsSplit w S) (R : InRa
 
     pub bound-shown : length (S .rows) ≤ 256 → (x : LeafWord) (l : Position) (v : ℕ) {Γ : Env} {inside : List (ℕ × ℕ)} {vars : List ℕ} {count : ℕ}
         → Here w count k inside vars (leaf x l v) → Scoped S Γ inside vars → Bound S x (viewOf w n d k) Γ v
-    unfolding UsedInside StepInside role
-    bound-shown few Var l v here C =
-        let t = bound-typed few _ _ (C .bound v (here .used)) in
-        (ap (boundOf w) (here-let l v here) ∙ t .0, t .1)
-    bound-shown few Int l v here C = tt
-    bound-shown few Newtid l v here C = tt
-    bound-shown few Newlock l v here C = tt
-    bound-shown few Newsem l v here C = tt
-    bound-shown few Newrwlock l v here C = leaf-number Newrwlock l v here
+    bound-shown few x l v here C = record {
+      number = leaf-number x l v here;
+      variable = λ u.
+          let t = bound-typed few _ _ (C .bound v (here-used x l v u here)) in
+          (ap (boundOf w) (here-let x l v u here) ∙ t .0, t .1);
+    }

@@ -5,8 +5,8 @@ use Prim.Native.Nat.{ℕ, _+_}
 use lib.ListN.{getD}
 use Rattle.workspace.specs.Layout.{valuesAt}
 use Rattle.ways.specs.declared.Column.{Column}
-use Rattle.ways.specs.declared.UnaryWay.{UnaryWay}
-use Rattle.ways.specs.declared.UnaryWay.the-variants.{Call}
+use Rattle.fill_theory.specs.declared.UnaryWay.{UnaryWay}
+use Rattle.fill_theory.specs.declared.UnaryWay.the-variants.{Call}
 use Rattle.ways.specs.Ways.{startNumberIn, beforeIn, afterIn, callingIn}
 
 pub calling-told : (w : List ℕ) (column : Column) (k : ℕ) {f kept before after : ℕ} → f ≡ getD w (valuesAt + k) 0 → kept ≡ startNumberIn w column k

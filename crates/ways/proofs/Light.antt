@@ -1,19 +1,28 @@
 -- How far a step moves the number: less than 2^34.
 use mathlib.Core.Path.{_≡_}
-use mathlib.Core.List.{List}
+use mathlib.Core.Bool.{Bool, true, false}
+use mathlib.Core.List.{List, [], _∷_}
 use Prim.Native.Nat.{ℕ, _+_, _<_}
 use native.Mathlib.Omega.{arith}
 use lib.ListN.{getD}
-use Rattle.workspace.specs.Layout.{wordsAt, ruleOf, mapCell}
-use Rattle.workspace.specs.declared.Rule.{Rule}
-use Rattle.workspace.specs.declared.Rule.the-variants.{VAR, INT, LET, IF, WHILE, NEWT, SPAWN, JOIN, REF, WRITE, READ, NEWL, LCK, ULCK, NEWSEM, POST, WAIT, NEWRWLOCK, RDLOCK, RDUNLOCK, WRLOCK, WRUNLOCK, CALL}
-use Rattle.fill_theory.specs.Flow.{unchanged, taking, giving, needing, lending}
+use Rattle.spec.specs.Choice.{if_then_else_}
+use Rattle.spec.specs.Words.{calls}
+use Rattle.spec.specs.Table as entry
+use Rattle.spec.specs.Table.{MapTerm, pre, s, post-of, K, «in», out, r, before, after, Entry, _a_, _is_, _shows_, _is-c-of_, _＝_, _≧_, N×_≦_, _⊕_＝_, _＝_⊕_, post-at-p＞0, post-at-p≧D, table}
+use Rattle.spec.specs.declared.Word.{Word}
+use Rattle.spec.specs.declared.Word.the-variants as word
+use Rattle.spec.specs.declared.UnaryWord.{UnaryWord}
+use Rattle.spec.specs.declared.BinaryWord.{BinaryWord}
+use Rattle.spec.specs.declared.BinaryWord.the-variants.{Let, If, Spawn, Write}
+use Rattle.workspace.specs.Layout.{wordsAt, wordOf, mapCell}
+use Rattle.fill_theory.specs.declared.Way.{Way}
+use Rattle.fill_theory.specs.declared.Way.the-variants.{Leaf, Unary, Binary}
+use Rattle.fill_theory.specs.declared.UnaryWay.the-variants.{After, Loop, Call}
+use Rattle.fill_theory.specs.declared.BinaryWay.the-variants.{InTurn, Branch, Fork}
+use Rattle.fill_theory.specs.Flow.{unchanged}
+use Rattle.fill_theory.specs.FlowOf.{Given, loops, moving, effectOf, partWay, binaryWay}
 use Rattle.ways.specs.declared.Column.{Column}
-use Rattle.ways.specs.declared.Way.{Way}
-use Rattle.ways.specs.declared.Way.the-variants.{Leaf, Unary, Binary}
-use Rattle.ways.specs.declared.UnaryWay.the-variants.{After, Loop, Call}
-use Rattle.ways.specs.declared.BinaryWay.the-variants.{InTurn, Branch, Fork}
-use Rattle.ways.specs.Ways.{cellIn, firstIn, secondIn, lendingIn, startNumberIn, beforeIn, afterIn, callingIn, wayBy, wayIn}
+use Rattle.ways.specs.Ways.{cellIn, firstIn, secondIn, startNumberIn, beforeIn, afterIn, callingIn, hasIn, givenIn, wayOf, wayIn}
 
 -- what a step moves, or starts or ends a part with
 unfoldable pub moved : Way → ℕ
@@ -28,45 +37,72 @@ moved (Binary (Fork start due)) = start
 abbrev pub Light : Way → Type 0
 Light way = moved way < 17179869184
 
-taken : {a : ℕ} → a < 4294967296 → a + 0 < 17179869184
-taken l = omega arith
-
-given : {a : ℕ} → a < 4294967296 → 0 + a < 17179869184
-given l = omega arith
-
-called : {a b c : ℕ} → a < 4294967296 → b < 4294967296 → c < 4294967296 → a + c + (b + c) < 17179869184
+called : {i j k : ℕ} → i < 4294967296 → j < 4294967296 → k < 4294967296 → i + k + (j + k) < 17179869184
 called l m n = omega arith
 
-started : {a : ℕ} → a < 4294967296 → a < 17179869184
-started l = omega arith
+-- each number that a line moves stands in the work space
+module _ (g : Given) (fits : (t : MapTerm) → g .has t < 4294967296) where
+  line-light : (line : List Entry) → (effectOf g line .takes < 4294967296) × (effectOf g line .gives < 4294967296)
+  unfolding effectOf moving unchanged
+  line-light [] = (omega arith, omega arith)
+  line-light (n a k ∷ line) = line-light line
+  line-light (n is t ∷ line) = line-light line
+  line-light (n shows t ∷ line) = line-light line
+  line-light (n is-c-of m ∷ line) = line-light line
+  line-light (l ＝ m ∷ line) = line-light line
+  line-light (l ≧ m ∷ line) = line-light line
+  line-light (N× l ≦ m ∷ line) = line-light line
+  line-light (l ⊕ m ＝ n ∷ line) = (fits m, line-light line .1)
+  line-light (l ＝ m ⊕ n ∷ line) = (line-light line .0, fits n)
+  line-light (post-at-p＞0 ∷ line) = line-light line
+  line-light (post-at-p≧D ∷ line) = line-light line
+
+  effect-light : (line : List Entry) → effectOf g line .takes + effectOf g line .gives < 17179869184
+  effect-light line = let both = line-light line in omega (arith, both .0, both .1)
+
+  part-light : (x : UnaryWord) → Light (Unary (partWay g x))
+  unfolding moved partWay
+  part-light x = by-loop (loops x)
+    where
+      by-loop : (b : Bool) → Light (Unary (if b then Loop else After (effectOf g (table (word.Unary x)))))
+      by-loop true = omega arith
+      by-loop false = effect-light (table (word.Unary x))
+
+  binary-light : (x : BinaryWord) → Light (Binary (binaryWay g x))
+  unfolding moved binaryWay
+  binary-light Let = effect-light (table (word.Binary Let))
+  binary-light If = omega arith
+  binary-light Spawn = omega (arith, fits s)
+  binary-light Write = effect-light (table (word.Binary Write))
 
 module _ (w : List ℕ) (column : Column) (fits : (i : ℕ) → getD w i 0 < 4294967296) where
-  rule-light : (r : Rule) (k : ℕ) → Light (wayBy r w column k)
-  unfolding moved wayBy unchanged taking giving needing lending firstIn secondIn lendingIn startNumberIn beforeIn afterIn callingIn cellIn mapCell
-  rule-light VAR k = omega arith
-  rule-light INT k = omega arith
-  rule-light LET k = omega arith
-  rule-light IF k = omega arith
-  rule-light WHILE k = omega arith
-  rule-light NEWT k = omega arith
-  rule-light SPAWN k = started (fits _)
-  rule-light JOIN k = given (fits _)
-  rule-light REF k = omega arith
-  rule-light WRITE k = omega arith
-  rule-light READ k = omega arith
-  rule-light NEWL k = taken (fits _)
-  rule-light LCK k = given (fits _)
-  rule-light ULCK k = taken (fits _)
-  rule-light NEWSEM k = omega arith
-  rule-light POST k = taken (fits _)
-  rule-light WAIT k = given (fits _)
-  rule-light NEWRWLOCK k = taken (fits _)
-  rule-light RDLOCK k = given (fits _)
-  rule-light RDUNLOCK k = taken (fits _)
-  rule-light WRLOCK k = given (fits _)
-  rule-light WRUNLOCK k = taken (fits _)
-  rule-light CALL k = called (fits _) (fits _) (fits _)
+  has-fits : (k h : ℕ) (t : MapTerm) → hasIn w column k h t < 4294967296
+  unfolding hasIn firstIn secondIn startNumberIn cellIn mapCell
+  has-fits k h pre = omega arith
+  has-fits k h (post-of n) = omega arith
+  has-fits k h s = fits _
+  has-fits k h K = fits _
+  has-fits k h «in» = fits _
+  has-fits k h out = fits _
+  has-fits k h r = fits _
+  has-fits k h entry.w = fits _
+  has-fits k h before = omega arith
+  has-fits k h after = omega arith
+
+  call-light : (k : ℕ) → Light (Unary (callingIn w column k))
+  unfolding moved callingIn beforeIn afterIn startNumberIn cellIn mapCell
+  call-light k = called (fits _) (fits _) (fits _)
+
+  word-light : (x : Word) (k : ℕ) → Light (wayOf x w column k)
+  unfolding moved wayOf givenIn
+  word-light (word.Leaf x) k = effect-light (givenIn w column k k) (has-fits k k) (table (word.Leaf x))
+  word-light (word.Unary x) k = by-call (calls x)
+    where
+      by-call : (b : Bool) → Light (Unary (if b then callingIn w column k else partWay (givenIn w column k (k + 1)) x))
+      by-call true = call-light k
+      by-call false = part-light (givenIn w column k (k + 1)) (has-fits k (k + 1)) x
+  word-light (word.Binary x) k = binary-light (givenIn w column k (k + 1)) (has-fits k (k + 1)) x
 
   pub way-light : (k : ℕ) {way : Way} → wayIn w column k ≡ way → Light way
   unfolding wayIn
-  way-light k e = rw (← e) (rule-light (ruleOf (getD w (wordsAt + k) 0)) k)
+  way-light k e = rw (← e) (word-light (wordOf (getD w (wordsAt + k) 0)) k)

@@ -5,25 +5,12 @@ use Prim.Native.Nat.{ℕ, _+_}
 use lib.ListN.{getD}
 use Rattle.workspace.specs.Layout.{endsAt}
 use Rattle.fill_theory.specs.declared.Effect.{Effect}
-use Rattle.fill_theory.specs.Flow.{Flow, alone, after, inTurn, branch, loop, fork, call, steps}
+use Rattle.fill_theory.specs.Flow.{Flow, alone, unaryFlow, binaryFlow, steps}
 use Rattle.ways.specs.declared.Column.{Column}
-use Rattle.ways.specs.declared.Way.the-variants.{Leaf, Unary, Binary}
-use Rattle.ways.specs.declared.UnaryWay.{UnaryWay}
-use Rattle.ways.specs.declared.UnaryWay.the-variants.{After, Loop, Call}
-use Rattle.ways.specs.declared.BinaryWay.{BinaryWay}
-use Rattle.ways.specs.declared.BinaryWay.the-variants.{InTurn, Branch, Fork}
+use Rattle.fill_theory.specs.declared.Way.the-variants.{Leaf, Unary, Binary}
+use Rattle.fill_theory.specs.declared.UnaryWay.{UnaryWay}
+use Rattle.fill_theory.specs.declared.BinaryWay.{BinaryWay}
 use Rattle.ways.specs.Ways.{wayIn}
-
--- the flow of a step with its parts
-unfoldable pub unaryFlow : UnaryWay → Flow → Flow
-unaryFlow (After E) f = after E f
-unaryFlow Loop f = loop f
-unaryFlow (Call wanted left) f = call wanted left f
-
-unfoldable pub binaryFlow : BinaryWay → Flow → Flow → Flow
-binaryFlow (InTurn E) f g = inTurn E f g
-binaryFlow Branch f g = branch f g
-binaryFlow (Fork start due) f g = fork start due f g
 
 -- the end of step k
 unfoldable pub endIn : List ℕ → (k : ℕ) → ℕ

@@ -1,22 +1,26 @@
--- The way in which the number at a location flows through a step, as the work space shows it: the table of `fill_theory`, by rule.
+-- The way in which the number at a location flows through a step, as the work space shows it: spec's table read there, as `fill_theory`
+-- reads it over the sheet.
 use mathlib.Core.List.{List}
 use Prim.Native.Nat.{ℕ, _+_, _*_}
 use lib.ListN.{getD}
+use Rattle.spec.specs.Choice.{if_then_else_}
+use Rattle.spec.specs.Words.{calls}
 use Rattle.spec.specs.Kinds.{refLocation, firstMap, secondMap}
+use Rattle.spec.specs.Table as entry
+use Rattle.spec.specs.Table.{MapTerm, pre, s, post-of, K, «in», out, r, before, after, table}
 use Rattle.spec.specs.declared.MapNumber.{MapNumber}
 use Rattle.spec.specs.declared.TypeLine.{TypeLine}
-use Rattle.workspace.specs.Layout.{wordsAt, valuesAt, rowTypesAt, startsAt, sigBeforesAt, sigAftersAt, ruleOf, typeAt, mapCell}
-use Rattle.workspace.specs.declared.Rule.{Rule}
-use Rattle.workspace.specs.declared.Rule.the-variants.{VAR, INT, LET, IF, WHILE, NEWT, SPAWN, JOIN, REF, WRITE, READ, NEWL, LCK, ULCK, NEWSEM, POST, WAIT, NEWRWLOCK, RDLOCK, RDUNLOCK, WRLOCK, WRUNLOCK, CALL}
-use Rattle.fill_theory.specs.Flow.{unchanged, taking, giving, needing, lending}
-use Rattle.fill_theory.specs.FlowOf.{asks}
+use Rattle.spec.specs.declared.Word.{Word}
+use Rattle.spec.specs.declared.Word.the-variants.{Leaf, Unary, Binary}
+use Rattle.workspace.specs.Layout.{wordsAt, valuesAt, rowTypesAt, startsAt, sigBeforesAt, sigAftersAt, wordOf, typeAt, mapCell}
+use Rattle.fill_theory.specs.Flow.{lending}
+use Rattle.fill_theory.specs.FlowOf.{asks, Given, effectOf, partWay, binaryWay}
 use Rattle.fill_theory.specs.declared.Effect.{Effect}
+use Rattle.fill_theory.specs.declared.Way.{Way}
+use Rattle.fill_theory.specs.declared.Way.the-variants as way
+use Rattle.fill_theory.specs.declared.UnaryWay.{UnaryWay}
+use Rattle.fill_theory.specs.declared.UnaryWay.the-variants.{Call}
 use Rattle.ways.specs.declared.Column.{Column}
-use Rattle.ways.specs.declared.Way.{Way}
-use Rattle.ways.specs.declared.Way.the-variants.{Leaf, Unary, Binary}
-use Rattle.ways.specs.declared.UnaryWay.{UnaryWay}
-use Rattle.ways.specs.declared.UnaryWay.the-variants.{After, Loop, Call}
-use Rattle.ways.specs.declared.BinaryWay.the-variants.{InTurn, Branch, Fork}
 
 -- ------------------------------------------------------------------ constants
 
@@ -59,32 +63,33 @@ lendingIn w column k = lending (getD w (valuesAt + k) 0 * firstIn w column k) (s
 
 -- ------------------------------------------------------------------ the table
 
--- in the printed order; a first part stands just behind its step
-unfoldable pub wayBy : Rule → List ℕ → Column → (k : ℕ) → Way
-wayBy VAR w column k = Leaf unchanged
-wayBy INT w column k = Leaf unchanged
-wayBy LET w column k = Binary (InTurn unchanged)
-wayBy IF w column k = Binary Branch
-wayBy WHILE w column k = Unary Loop
-wayBy NEWT w column k = Leaf unchanged
-wayBy SPAWN w column k = Binary (Fork (startNumberIn w column k) (firstIn w column (k + 1)))
-wayBy JOIN w column k = Unary (After (giving (firstIn w column (k + 1))))
-wayBy REF w column k = Unary (After unchanged)
-wayBy WRITE w column k = Binary (InTurn (needing (accessIn w column (k + 1) (column .denominator))))
-wayBy READ w column k = Unary (After (needing (accessIn w column (k + 1) 1)))
-wayBy NEWL w column k = Leaf (taking (secondIn w column k))
-wayBy LCK w column k = Unary (After (giving (firstIn w column (k + 1))))
-wayBy ULCK w column k = Unary (After (taking (secondIn w column (k + 1))))
-wayBy NEWSEM w column k = Leaf unchanged
-wayBy POST w column k = Unary (After (taking (firstIn w column (k + 1))))
-wayBy WAIT w column k = Unary (After (giving (firstIn w column (k + 1))))
-wayBy NEWRWLOCK w column k = Leaf (lendingIn w column k)
-wayBy RDLOCK w column k = Unary (After (giving (firstIn w column (k + 1))))
-wayBy RDUNLOCK w column k = Unary (After (taking (firstIn w column (k + 1))))
-wayBy WRLOCK w column k = Unary (After (giving (secondIn w column (k + 1))))
-wayBy WRUNLOCK w column k = Unary (After (taking (secondIn w column (k + 1))))
-wayBy CALL w column k = Unary (callingIn w column k)
+-- what step k is given, whose K, in, out, r, w and p are those of the type of step h
+unfoldable pub hasIn : List ℕ → Column → (k h : ℕ) → MapTerm → ℕ
+hasIn w column k h pre = 0
+hasIn w column k h (post-of n) = 0
+hasIn w column k h s = startNumberIn w column k
+hasIn w column k h K = firstIn w column h
+hasIn w column k h «in» = firstIn w column h
+hasIn w column k h out = secondIn w column h
+hasIn w column k h r = firstIn w column h
+hasIn w column k h entry.w = secondIn w column h
+hasIn w column k h before = 0
+hasIn w column k h after = 0
+
+unfoldable pub givenIn : List ℕ → Column → (k h : ℕ) → Given
+givenIn w column k h = record {
+  number = getD w (valuesAt + k) 0;
+  denominator = column .denominator;
+  has = hasIn w column k h;
+  needs = accessIn w column h;
+}
+
+-- the way of a word at step k: a first part stands just behind its step
+unfoldable pub wayOf : Word → List ℕ → Column → (k : ℕ) → Way
+wayOf (Leaf x) w column k = way.Leaf (effectOf (givenIn w column k k) (table (Leaf x)))
+wayOf (Unary x) w column k = way.Unary (if calls x then callingIn w column k else partWay (givenIn w column k (k + 1)) x)
+wayOf (Binary x) w column k = way.Binary (binaryWay (givenIn w column k (k + 1)) x)
 
 -- the way of step k
 unfoldable pub wayIn : List ℕ → Column → (k : ℕ) → Way
-wayIn w column k = wayBy (ruleOf (getD w (wordsAt + k) 0)) w column k
+wayIn w column k = wayOf (wordOf (getD w (wordsAt + k) 0)) w column k

@@ -1,5 +1,8 @@
 // The table: in which way the number flows through a step at the location, from the constants that the work space holds.
+use fill_theory::BinaryWay;
 use fill_theory::Effect;
+use fill_theory::UnaryWay;
+use fill_theory::Way;
 use spec::Location;
 use spec::MapNumber;
 use spec::TypeLine;
@@ -20,35 +23,14 @@ use workspace::wide;
 ghost use mathlib.Core.Path.{_≡_};
 ghost use Prim.Native.Nat.{_<_};
 ghost use Rattle.spec.specs.Kinds.{refLocation, firstMap, secondMap};
+ghost use Rattle.workspace.specs.Layout.{wordBy};
 ghost use Rattle.fill_theory.specs.Flow.{unchanged, taking, giving, needing, lending};
-ghost use Rattle.ways.specs.Ways.{cellIn, typeLineIn, firstIn, secondIn, lendingIn, startNumberIn, beforeIn, afterIn, callingIn, accessIn, wayBy, wayIn};
+ghost use Rattle.ways.specs.Ways.{cellIn, typeLineIn, firstIn, secondIn, lendingIn, startNumberIn, beforeIn, afterIn, callingIn, accessIn, wayOf, wayIn};
 
 // The location that is filled, and the sheet's denominator.
 pub struct Column {
     pub location: Location,
     pub denominator: u32,
-}
-
-// The way in which the number flows through a step, by the number of its parts.
-pub enum Way {
-    Leaf(Effect),
-    Unary(UnaryWay),
-    Binary(BinaryWay),
-}
-
-// With one part: after it; around it, again and again; or with exact numbers before and after the procedure that the step calls.
-pub enum UnaryWay {
-    After(Effect),
-    Loop,
-    Call(u64, u64),
-}
-
-// With two parts: after both, the second after the first; through one or the other; or to both at once. A fork has the start of its
-// second part and what that must leave.
-pub enum BinaryWay {
-    InTurn(Effect),
-    Branch,
-    Fork(u32, u32),
 }
 
 // A step that keeps the number, takes from it, gives to it, needs it to be large enough, or takes from it what it lends.
@@ -236,7 +218,7 @@ fn access_in(work: &[u32], column: Column, k: usize, d: u32) -> u32
 // The way of step k, whose word has the rule r. A first part stands just behind its step.
 fn way_by(r: Rule, work: &[u32], column: Column, k: usize) -> Way
     requires { ⌜ k < 256 ⌝ }
-    ensures { λ way. ⌜ way ≡ wayBy r (now (work .entry)) column k ⌝ }
+    ensures { λ way. ⌜ way ≡ wayOf (wordBy r) (now (work .entry)) column k ⌝ }
 {
     let part = k + 1;
     match r {

@@ -9,14 +9,14 @@ use Rattle.spec.specs.declared.Word.the-variants.{Leaf, Unary, Binary}
 use Rattle.spec.specs.declared.LeafWord.the-variants.{Var, Int, Newtid, Newlock, Newsem, Newrwlock}
 use Rattle.spec.specs.declared.UnaryWord.the-variants.{While, Join, Ref, Read, Lock, Unlock, Post, Wait, Rdlock, Rdunlock, Wrlock, Wrunlock, Call}
 use Rattle.spec.specs.declared.BinaryWord.the-variants.{Let, If, Spawn, Write}
-use Rattle.workspace.specs.Layout.{codeOf, printed, ruleOf, wordBy, wordOf, kindCode, firstOf, secondOf, typeOf}
+use Rattle.workspace.specs.Layout.{codeOf, printed, ruleOf, wordOf, kindCode, firstOf, secondOf, typeOf}
 
 -- one more than n is passed, for a number that is not n
 pub up : (n : ℕ) {k : ℕ} → n ≤ k → (k ≡ n → ⊥) → n + 1 ≤ k
 up n h e = omega arith
 
 pub word-of-code : (w : Word) → wordOf (codeOf w) ≡ w
-unfolding printed ruleOf wordBy wordOf
+unfolding printed ruleOf wordOf
 word-of-code (Leaf Var) = refl
 word-of-code (Leaf Int) = refl
 word-of-code (Leaf Newtid) = refl

@@ -1,20 +1,22 @@
 -- Where an expression stands in the work space: its steps from index k on, its parts behind them.
-use mathlib.Core.Path.{_≡_, ap, _∙_}
+use mathlib.Core.Path.{_≡_, ap, subst, _∙_}
+use mathlib.Core.Bool.{Bool, true}
 use mathlib.Core.Logic.{inl}
 use mathlib.Core.List.{List, _++_, map, map-append}
 use Prim.Native.Nat.{ℕ, _+_, _<_, _≤_}
 use native.Mathlib.Omega.{arith}
 use lib.ListN.{length, getD, length-map}
-use Rattle.spec.specs.Expression.{Step, Position, Expr, leaf, unary, binary, size, indexOf, lineOf}
+use Rattle.spec.specs.Expression.{Step, Position, Expr, leaf, unary, binary, size, indexOf, lineOf, among}
+use Rattle.spec.specs.Choice.{if_then_else_}
 use Rattle.spec.specs.Words.{role, binding, calls}
 use Rattle.spec.specs.WellFormed.{prefix, IndexesFrom, StepInside, UsedInside}
 use Rattle.spec.proofs.Listing.{prefix-length}
+use Rattle.spec.specs.declared.Role.{Role}
+use Rattle.spec.specs.declared.Role.the-variants.{Uses, Calls, Neither}
 use Rattle.spec.specs.declared.Word.{Word}
 use Rattle.spec.specs.declared.Word.the-variants.{Leaf, Unary, Binary}
 use Rattle.spec.specs.declared.LeafWord.{LeafWord}
-use Rattle.spec.specs.declared.LeafWord.the-variants.{Var}
 use Rattle.spec.specs.declared.UnaryWord.{UnaryWord}
-use Rattle.spec.specs.declared.UnaryWord.the-variants.{Call}
 use Rattle.spec.specs.declared.BinaryWord.{BinaryWord}
 use Rattle.workspace.specs.Layout.{wordsAt, valuesAt, endsAt, letsAt, linesAt, presAt, leafCode, unaryCode, binaryCode, codeOf}
 use Rattle.workspace.specs.Region.{Region, ChangedWithin}
@@ -204,14 +206,22 @@ module _ {w : List ℕ} {count k : ℕ} {inside : List (ℕ × ℕ)} {vars : Lis
   pub unary-number : (x : UnaryWord) (p : Position) (v : ℕ) (e : Expr) → Here w count k inside vars (unary x p v e) → getD w (valuesAt + k) 0 ≡ v
   unary-number x p v e H = unary-head x p v e (H .standing) .value
 
-  pub here-called : (p : Position) (f : ℕ) (e : Expr) → Here w count k inside vars (unary Call p f e) → f < count
-  unfolding UsedInside StepInside role calls
-  here-called p f e H = H .used .0
+  pub here-called : (x : UnaryWord) (p : Position) (f : ℕ) (e : Expr) → calls x ≡ true → Here w count k inside vars (unary x p f e) → f < count
+  unfolding UsedInside StepInside role
+  here-called x p f e q H = subst (λ (b : Bool). StepInside count vars (if b then Calls else Neither) f) q (H .used .0)
 
-  -- the let of a variable
-  pub here-let : (p : Position) (v : ℕ) → Here w count k inside vars (leaf Var p v) → getD w (letsAt + k) 0 ≡ letIn inside v
-  unfolding lets letOf role
-  here-let p v H = region-first (H .bound)
+  -- that of a step with two parts
+  pub binary-number : (x : BinaryWord) (p : Position) (v : ℕ) (e₁ e₂ : Expr) → Here w count k inside vars (binary x p v e₁ e₂) → getD w (valuesAt + k) 0 ≡ v
+  binary-number x p v e₁ e₂ H = binary-head x p v e₁ e₂ (H .standing) .value
+
+  -- of a step that uses a variable: the variable is in scope, and the step has its let
+  pub here-used : (x : LeafWord) (p : Position) (v : ℕ) → role (Leaf x) ≡ Uses → Here w count k inside vars (leaf x p v) → among v vars ≡ true
+  unfolding UsedInside StepInside
+  here-used x p v u H = subst (λ (r : Role). StepInside count vars r v) u (H .used)
+
+  pub here-let : (x : LeafWord) (p : Position) (v : ℕ) → role (Leaf x) ≡ Uses → Here w count k inside vars (leaf x p v) → getD w (letsAt + k) 0 ≡ letIn inside v
+  unfolding lets letOf
+  here-let x p v u H = region-first (H .bound) ∙ ap (λ (r : Role). letOf r inside v) u
 
   pub here-part : (x : UnaryWord) (p : Position) (v : ℕ) (e : Expr) → Here w count k inside vars (unary x p v e) → Here w count (k + 1) inside vars e
   unfolding lets UsedInside

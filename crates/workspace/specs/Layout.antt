@@ -20,6 +20,9 @@ use Rattle.spec.specs.declared.BinaryWord.{BinaryWord}
 use Rattle.spec.specs.declared.BinaryWord.the-variants.{Let, If, Spawn, Write}
 use Rattle.workspace.specs.declared.Rule.{Rule}
 use Rattle.workspace.specs.declared.Rule.the-variants.{VAR, INT, LET, IF, WHILE, NEWT, SPAWN, JOIN, REF, WRITE, READ, NEWL, LCK, ULCK, NEWSEM, POST, WAIT, NEWRWLOCK, RDLOCK, RDUNLOCK, WRLOCK, WRUNLOCK, CALL}
+use Rattle.workspace.specs.declared.Traits.{Traits}
+use Rattle.workspace.specs.declared.Shape.{Shape}
+use Rattle.workspace.specs.declared.Shape.the-variants as shape
 
 -- ------------------------------------------------------------------ offsets
 
@@ -120,31 +123,40 @@ printed =
 unfoldable pub ruleOf : ℕ → Rule
 ruleOf k = getD printed k CALL
 
--- the word that a rule is for
-unfoldable pub wordBy : Rule → Word
-wordBy VAR = Leaf Var
-wordBy INT = Leaf Int
-wordBy LET = Binary Let
-wordBy IF = Binary If
-wordBy WHILE = Unary While
-wordBy NEWT = Leaf Newtid
-wordBy SPAWN = Binary Spawn
-wordBy JOIN = Unary Join
-wordBy REF = Unary Ref
-wordBy WRITE = Binary Write
-wordBy READ = Unary Read
-wordBy NEWL = Leaf Newlock
-wordBy LCK = Unary Lock
-wordBy ULCK = Unary Unlock
-wordBy NEWSEM = Leaf Newsem
-wordBy POST = Unary Post
-wordBy WAIT = Unary Wait
-wordBy NEWRWLOCK = Leaf Newrwlock
-wordBy RDLOCK = Unary Rdlock
-wordBy RDUNLOCK = Unary Rdunlock
-wordBy WRLOCK = Unary Wrlock
-wordBy WRUNLOCK = Unary Wrunlock
-wordBy CALL = Unary Call
+-- what is known of a rule: the word that it is for, and how that is evaluated
+abbrev pub known : Word → Shape → Traits
+known x s = record { word = x; shape = s }
+
+abbrev pub traitsOf : Rule → Traits
+traitsOf VAR = known (Leaf Var) shape.Variable
+traitsOf INT = known (Leaf Int) shape.Constant
+traitsOf LET = known (Binary Let) shape.Let
+traitsOf IF = known (Binary If) shape.If
+traitsOf WHILE = known (Unary While) shape.While
+traitsOf NEWT = known (Leaf Newtid) shape.NoPart
+traitsOf SPAWN = known (Binary Spawn) shape.Spawn
+traitsOf JOIN = known (Unary Join) shape.OnePart
+traitsOf REF = known (Unary Ref) shape.OnePart
+traitsOf WRITE = known (Binary Write) shape.Write
+traitsOf READ = known (Unary Read) shape.OnePart
+traitsOf NEWL = known (Leaf Newlock) shape.NoPart
+traitsOf LCK = known (Unary Lock) shape.OnePart
+traitsOf ULCK = known (Unary Unlock) shape.OnePart
+traitsOf NEWSEM = known (Leaf Newsem) shape.NoPart
+traitsOf POST = known (Unary Post) shape.OnePart
+traitsOf WAIT = known (Unary Wait) shape.OnePart
+traitsOf NEWRWLOCK = known (Leaf Newrwlock) shape.NoPart
+traitsOf RDLOCK = known (Unary Rdlock) shape.OnePart
+traitsOf RDUNLOCK = known (Unary Rdunlock) shape.OnePart
+traitsOf WRLOCK = known (Unary Wrlock) shape.OnePart
+traitsOf WRUNLOCK = known (Unary Wrunlock) shape.OnePart
+traitsOf CALL = known (Unary Call) shape.Call
+
+abbrev pub wordBy : Rule → Word
+wordBy r = traitsOf r .word
+
+abbrev pub shapeOf : Rule → Shape
+shapeOf r = traitsOf r .shape
 
 unfoldable pub wordOf : ℕ → Word
 wordOf k = wordBy (ruleOf k)

@@ -11,7 +11,7 @@ use spec::Word;
 ghost use mathlib.Core.Path.{_≡_};
 ghost use Prim.Native.Nat.{_+_, _*_, _<_};
 ghost use lib.ListN.{length, getD, replicate};
-ghost use Rattle.workspace.specs.Layout.{codeOf, leafCode, unaryCode, binaryCode, ruleOf, wordBy, wordOf, kindCode, firstOf, secondOf, typeOf, typeAt, mapCell};
+ghost use Rattle.workspace.specs.Layout.{codeOf, leafCode, unaryCode, binaryCode, ruleOf, known as knownBy, traitsOf, shapeOf, wordOf, kindCode, firstOf, secondOf, typeOf, typeAt, mapCell};
 
 // How many 32-bit numbers a check works in.
 pub const SIZE: usize = 16384;
@@ -127,6 +127,27 @@ pub enum Rule {
     CALL,
 }
 
+// How a word is evaluated, one shape for each form of expression of the calculus; of the words with one part, a call by itself, since its
+// step enters a body.
+pub enum Shape {
+    Variable,
+    Constant,
+    NoPart,
+    While,
+    OnePart,
+    Call,
+    Let,
+    If,
+    Spawn,
+    Write,
+}
+
+// What is known of a rule: the word that it is for, and how that is evaluated.
+struct Traits {
+    word: Word,
+    shape: Shape,
+}
+
 fn leaf_code(w: LeafWord) -> u32
     ensures { λ r. ⌜ r ≡ leafCode w ⌝ }
 {
@@ -213,42 +234,56 @@ pub fn rule_of(code: u32) -> Rule
     }
 }
 
-// The word that a rule is for.
-fn word_by(r: Rule) -> Word
-    ensures { λ w. ⌜ w ≡ wordBy r ⌝ }
+fn known(word: Word, shape: Shape) -> Traits
+    ensures { λ r. ⌜ r ≡ knownBy word shape ⌝ }
+{
+    Traits { word, shape }
+}
+
+fn traits_of(r: Rule) -> Traits
+    ensures { λ t. ⌜ t ≡ traitsOf r ⌝ }
 {
     match r {
-        Rule::VAR => Word::Leaf(LeafWord::Var),
-        Rule::INT => Word::Leaf(LeafWord::Int),
-        Rule::LET => Word::Binary(BinaryWord::Let),
-        Rule::IF => Word::Binary(BinaryWord::If),
-        Rule::WHILE => Word::Unary(UnaryWord::While),
-        Rule::NEWT => Word::Leaf(LeafWord::Newtid),
-        Rule::SPAWN => Word::Binary(BinaryWord::Spawn),
-        Rule::JOIN => Word::Unary(UnaryWord::Join),
-        Rule::REF => Word::Unary(UnaryWord::Ref),
-        Rule::WRITE => Word::Binary(BinaryWord::Write),
-        Rule::READ => Word::Unary(UnaryWord::Read),
-        Rule::NEWL => Word::Leaf(LeafWord::Newlock),
-        Rule::LCK => Word::Unary(UnaryWord::Lock),
-        Rule::ULCK => Word::Unary(UnaryWord::Unlock),
-        Rule::NEWSEM => Word::Leaf(LeafWord::Newsem),
-        Rule::POST => Word::Unary(UnaryWord::Post),
-        Rule::WAIT => Word::Unary(UnaryWord::Wait),
-        Rule::NEWRWLOCK => Word::Leaf(LeafWord::Newrwlock),
-        Rule::RDLOCK => Word::Unary(UnaryWord::Rdlock),
-        Rule::RDUNLOCK => Word::Unary(UnaryWord::Rdunlock),
-        Rule::WRLOCK => Word::Unary(UnaryWord::Wrlock),
-        Rule::WRUNLOCK => Word::Unary(UnaryWord::Wrunlock),
-        Rule::CALL => Word::Unary(UnaryWord::Call),
+        Rule::VAR => known(Word::Leaf(LeafWord::Var), Shape::Variable),
+        Rule::INT => known(Word::Leaf(LeafWord::Int), Shape::Constant),
+        Rule::LET => known(Word::Binary(BinaryWord::Let), Shape::Let),
+        Rule::IF => known(Word::Binary(BinaryWord::If), Shape::If),
+        Rule::WHILE => known(Word::Unary(UnaryWord::While), Shape::While),
+        Rule::NEWT => known(Word::Leaf(LeafWord::Newtid), Shape::NoPart),
+        Rule::SPAWN => known(Word::Binary(BinaryWord::Spawn), Shape::Spawn),
+        Rule::JOIN => known(Word::Unary(UnaryWord::Join), Shape::OnePart),
+        Rule::REF => known(Word::Unary(UnaryWord::Ref), Shape::OnePart),
+        Rule::WRITE => known(Word::Binary(BinaryWord::Write), Shape::Write),
+        Rule::READ => known(Word::Unary(UnaryWord::Read), Shape::OnePart),
+        Rule::NEWL => known(Word::Leaf(LeafWord::Newlock), Shape::NoPart),
+        Rule::LCK => known(Word::Unary(UnaryWord::Lock), Shape::OnePart),
+        Rule::ULCK => known(Word::Unary(UnaryWord::Unlock), Shape::OnePart),
+        Rule::NEWSEM => known(Word::Leaf(LeafWord::Newsem), Shape::NoPart),
+        Rule::POST => known(Word::Unary(UnaryWord::Post), Shape::OnePart),
+        Rule::WAIT => known(Word::Unary(UnaryWord::Wait), Shape::OnePart),
+        Rule::NEWRWLOCK => known(Word::Leaf(LeafWord::Newrwlock), Shape::NoPart),
+        Rule::RDLOCK => known(Word::Unary(UnaryWord::Rdlock), Shape::OnePart),
+        Rule::RDUNLOCK => known(Word::Unary(UnaryWord::Rdunlock), Shape::OnePart),
+        Rule::WRLOCK => known(Word::Unary(UnaryWord::Wrlock), Shape::OnePart),
+        Rule::WRUNLOCK => known(Word::Unary(UnaryWord::Wrunlock), Shape::OnePart),
+        Rule::CALL => known(Word::Unary(UnaryWord::Call), Shape::Call),
     }
+}
+
+// How the word of a rule is evaluated.
+pub fn shape_of(r: Rule) -> Shape
+    ensures { λ s. ⌜ s ≡ shapeOf r ⌝ }
+{
+    let t = traits_of(r);
+    t.shape
 }
 
 // The word that a number stands for.
 pub fn word_of(code: u32) -> Word
     ensures { λ r. ⌜ r ≡ wordOf code ⌝ }
 {
-    word_by(rule_of(code))
+    let t = traits_of(rule_of(code));
+    t.word
 }
 
 // The number that stands for a type line's kind, and the line's two numbers.

@@ -8,7 +8,7 @@ use mathlib.Core.List.{List, [], _∷_}
 use native.Mathlib.Decide.{ℕ-discrete}
 use native.Mathlib.Omega.{arith}
 use lib.ListN.{getElem?}
-use Rattle.calculus.specs.Expression.{Value, Unary, join, ref, read, lock, unlock, post, wait, hold, call, Maker, newtid, newlock, newsem, newrwlock, Redex, letRedex, ifRedex, whileRedex, spawnRedex, writeRedex, unaryRedex, makeRedex, nextWord, choose, Procedure, Program}
+use Rattle.calculus.specs.Expression.{Value, Unary, join, ref, read, lock, unlock, post, wait, hold, call, Nullary, newtid, newlock, newsem, newrwlock, Redex, letRedex, ifRedex, whileRedex, spawnRedex, writeRedex, unaryRedex, nullaryRedex, nextWord, choose, Procedure, Program}
 use Rattle.calculus.specs.State.{LockState, opened, closed, Inside, Slot, unused, identifier, cell, aLock, semaphore, rwlock, Thread, State, Move, update}
 use Rattle.calculus.specs.Reduction.{nameOf, ifUnused, ifIdentifier, cellValue, lockState, ifOpened, count, oneLess, rwState, insideAfter, ifEqual, valueOf, wordOf, made, named, unaryReduct, reduct, reduce, orElse, attempt, states, startState}
 use Rattle.calculus.specs.Claim.{Every}
@@ -36,7 +36,7 @@ semaphore-is-used h = let z : _≡_ {A = ℕ} 0 1 = cc in omega (arith, z)
 rwlock-is-used : {N : ℕ} {i : Inside} → rwlock N i ≢ unused
 rwlock-is-used h = let z : _≡_ {A = ℕ} 0 1 = cc in omega (arith, z)
 
-made-is-used : (o : Maker) → made o ≢ unused
+made-is-used : (o : Nullary) → made o ≢ unused
 made-is-used newtid = identifier-is-used
 made-is-used newlock = lock-is-used
 made-is-used newsem = semaphore-is-used
@@ -105,7 +105,7 @@ module _ (P : List Procedure) (s : State) (m : Move) (t : Thread) where
       let (_, _, q₂) = bind-is-some (cellValue (s .names n)) q₁ in
       told (one-changed n (cell w) cell-is-used) q₂
   reduct-changes-one (unaryRedex o v) s′ q = unary-changes-one o v s′ q
-  reduct-changes-one (makeRedex o) s′ q = named-changes-one _ s′ (made-is-used o) q
+  reduct-changes-one (nullaryRedex o) s′ q = named-changes-one _ s′ (made-is-used o) q
 
 pub attempt-changes-one : (P : List Procedure) (s : State) (m : Move) → OneChanged (s .names) (attempt P s m .names)
 unfolding attempt reduce

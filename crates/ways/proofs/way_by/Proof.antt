@@ -1,16 +1,18 @@
 -- A row of the table for each rule: its constants are what the calls return.
 use mathlib.Core.Path.{ap, ap₂, _∙_}
-use Rattle.fill_theory.specs.Flow.{taking, giving, needing}
-use Rattle.ways.specs.declared.Way.the-variants.{Leaf, Unary, Binary}
-use Rattle.ways.specs.declared.UnaryWay.the-variants.{After}
-use Rattle.ways.specs.declared.BinaryWay.the-variants.{InTurn, Fork}
-use Rattle.ways.specs.Ways.{wayBy}
+use Rattle.spec.specs.Words.{calls}
+use Rattle.fill_theory.specs.Flow.{unchanged, taking, giving, needing, lending}
+use Rattle.fill_theory.specs.declared.Way.the-variants.{Leaf, Unary, Binary}
+use Rattle.fill_theory.specs.declared.UnaryWay.the-variants.{After}
+use Rattle.fill_theory.specs.declared.BinaryWay.the-variants.{InTurn, Fork}
+use Rattle.fill_theory.specs.FlowOf.{loops, moving, effectOf, partWay, binaryWay}
+use Rattle.ways.specs.Ways.{lendingIn, hasIn, givenIn, wayOf}
 use borrow.Author.Needs.{needs}
 use Rattle.ways.proofs.way_by.Statement.{statement}
 use Rattle.ways.proofs.way_by.Tie as tie
 
 pub way-by-spec : {M : Type 1} → statement M
-unfolding wayBy
+unfolding calls unchanged taking giving needing lending loops moving effectOf partWay binaryWay lendingIn hasIn givenIn wayOf
 way-by-spec =
     tie.close
     (tie.spec

@@ -1,10 +1,11 @@
-use Rattle.ways.specs.Ways.{wayIn}
+use Rattle.workspace.specs.Layout.{wordOf}
+use Rattle.ways.specs.Ways.{wayOf, wayIn}
 use borrow.Author.Needs.{needs}
 use Rattle.ways.proofs.way_in.Statement.{statement}
 use Rattle.ways.proofs.way_in.Tie as tie
 
 pub way-in-spec : {M : Type 1} → statement M
-unfolding wayIn
+unfolding wordOf wayOf wayIn
 way-in-spec =
     tie.close
     (tie.spec

@@ -1,36 +1,12 @@
--- A word a line: what it does with v.
-use Rattle.spec.specs.Words.{role}
+use mathlib.Core.Path.{ap}
+use Rattle.word_numbers.specs.declared.Number.{Number}
 use borrow.Author.Needs.{needs}
 use Rattle.word_numbers.proofs.role_of.Statement.{statement}
 use Rattle.word_numbers.proofs.role_of.Tie as tie
 
 pub role-of-spec : {M : Type 1} → statement M
-unfolding role
 role-of-spec =
     tie.close
     (tie.spec
-    (λ c. search needs)
-    (λ c. search needs)
-    (λ c. search needs)
-    (λ c. search needs)
-    (λ c. search needs)
-    (λ c. search needs)
-    (λ c. search needs)
-    (λ c. search needs)
     (λ c κs. search needs)
-    (λ c. search needs)
-    (λ c. search needs)
-    (λ c. search needs)
-    (λ c. search needs)
-    (λ c. search needs)
-    (λ c. search needs)
-    (λ c. search needs)
-    (λ c. search needs)
-    (λ c. search needs)
-    (λ c. search needs)
-    (λ c. search needs)
-    (λ c. rw (c .before .before .w2 .given .1) (c .call-role .ensures))
-    (λ c. search needs)
-    (λ c. search needs)
-    (λ c. search needs)
-    (λ c. search needs))
+    (λ c. ap (λ (n : Number). n .role) (c .number-of .ensures)))

@@ -1,30 +1,11 @@
-use Rattle.engine.specs.Races.{accessBy}
 use borrow.Author.Needs.{needs}
 use Rattle.engine.proofs.races.access_by.Statement.{statement}
 use Rattle.engine.proofs.races.access_by.Tie as tie
 
 pub access-by-spec : {M : Type 1} → statement M
-unfolding accessBy
 access-by-spec =
     tie.close
     (tie.spec
-    (λ c. search needs)
-    (λ c. search needs)
-    (λ c. search needs)
-    (λ c. search needs)
-    (λ c. search needs)
-    (λ c. search needs)
-    (λ c. search needs)
-    (λ c. search needs)
-    (λ c. search needs)
-    (λ c. search needs)
-    (λ c. search needs)
-    (λ c. search needs)
-    (λ c. search needs)
-    (λ c. search needs)
-    (λ c. search needs)
-    (λ c. search needs)
-    (λ c. search needs)
     (λ c. search needs)
     (λ c. search needs)
     (λ c. search needs)
@@ -36,21 +17,4 @@ access-by-spec =
     (λ c. rw (c .enum-told3 .given .1))
     (λ c. rw (c .enum-told4 .given .1))
     (λ c. rw (c .enum-told5 .given .1))
-    (λ c. rw (c .enum-told6 .given .1))
-    (λ c. rw (c .enum-told7 .given .1))
-    (λ c. rw (c .enum-told8 .given .1))
-    (λ c. rw (c .enum-told9 .given .1))
-    (λ c. rw (c .enum-told10 .given .1))
-    (λ c. rw (c .enum-told11 .given .1))
-    (λ c. rw (c .enum-told12 .given .1))
-    (λ c. rw (c .enum-told13 .given .1))
-    (λ c. rw (c .enum-told14 .given .1))
-    (λ c. rw (c .enum-told15 .given .1))
-    (λ c. rw (c .enum-told16 .given .1))
-    (λ c. rw (c .enum-told17 .given .1))
-    (λ c. rw (c .enum-told18 .given .1))
-    (λ c. rw (c .enum-told19 .given .1))
-    (λ c. rw (c .enum-told20 .given .1))
-    (λ c. rw (c .enum-told21 .given .1))
-    (λ c. rw (c .enum-told22 .given .1))
-    (λ c. rw (c .enum-told23 .given .1)))
+    (λ c. rw (c .enum-told6 .given .1)))

@@ -8,15 +8,16 @@ returns : tie.Need-returns
 unfolding accessOf accessAt
 returns c =
     rw (
-      ← (c .before .before .before .before .before .before .before .before .before .before .focus-at .ensures),
-      eq-eqb _ _ (c .before .before .before .before .before .before .before .before .if1 .taken),
-      ← (c .before .before .before .before .before .before .before .subject .ensures),
-      ← (c .before .before .before .before .before .before .slot-at .ensures),
-      eq-eqb _ _ (c .before .before .before .before .if2 .taken),
+      ← (c .before .before .before .before .before .before .before .before .before .before .before .focus-at .ensures),
+      eq-eqb _ _ (c .before .before .before .before .before .before .before .before .before .if1 .taken),
+      ← (c .before .before .before .before .before .before .before .before .subject .ensures),
+      ← (c .before .before .before .before .before .before .before .slot-at .ensures),
+      eq-eqb _ _ (c .before .before .before .before .before .if2 .taken),
       c .access-by .ensures,
-      c .before .rule-of .ensures,
-      c .before .before .at .ensures,
-      c .before .before .before .index .ensures .0,
+      c .before .used-by .ensures,
+      c .before .before .rule-of .ensures,
+      c .before .before .before .at .ensures,
+      c .before .before .before .before .index .ensures .0,
     )
 
 returns-2 : tie.Need-returns-2
@@ -40,6 +41,7 @@ access-of-spec =
     (λ c κs. search needs)
     (λ c κs. search needs)
     (λ c. search needs)
+    (λ c κs. search needs)
     (λ c κs. search needs)
     (λ c κs. search needs)
     (λ c κs. search needs)

@@ -1,6 +1,5 @@
 -- A rule a line: what its function answers, of what its row looks at, is the row of the table.
 use mathlib.Core.Path.{_∙_}
-use Rattle.workspace.specs.Layout.{wordBy}
 use Rattle.rules.specs.Table.{ruleRow}
 use Rattle.one_step.specs.Outcome.{ruleOutcome}
 use borrow.Author.Needs.{needs}
@@ -8,7 +7,7 @@ use Rattle.one_step.proofs.table.check_rule.Statement.{statement}
 use Rattle.one_step.proofs.table.check_rule.Tie as tie
 
 pub check-rule-spec : {M : Type 1} → statement M
-unfolding wordBy ruleRow ruleOutcome
+unfolding ruleRow ruleOutcome
 check-rule-spec =
     tie.close
     (tie.spec
