@@ -1,4 +1,6 @@
 -- What a thread does next, the body of each of its open calls does, in all runs that follow a trace from the start of a program.
+-- Run by run: a step moves one thread. Its open calls go on in what it becomes, a call that it takes begins where it stood, the other threads
+-- keep theirs, and a new one has none.
 use Prim.Native.Nat.{ℕ, zero, suc, _≤_}
 use mathlib.Core.Path.{_≡_, refl, sym, _∙_, ap, subst}
 use mathlib.Core.Bool.{Bool, true, false, not}
