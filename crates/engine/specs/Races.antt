@@ -31,7 +31,7 @@ accessBy Spawns v = None
 accessBy Joins v = None
 accessBy Stuck v = None
 
--- a word uses a cell with the 0 that stands for any value: what it does does not hang on it
+-- the value that a `write` would store is no matter here, so it is 0
 unfoldable pub accessAt : (p s : List ℕ) → Focus → Access
 accessAt p s f = let v = subject p s f in
     if eqb (f .mode) 3
