@@ -1,8 +1,9 @@
 -- Buffers whose fronts were lent: what they hold afterwards.
 use Prim.Native.Nat.{ℕ, _≤_}
 use mathlib.Core.Path.{_≡_, refl, sym, _∙_, ap, subst}
-use mathlib.Core.Bool.{true}
+use mathlib.Core.Bool.{Bool, true, false}
 use mathlib.Core.List.{List, _++_}
+use native.Mathlib.Omega.{arith}
 use lib.Dec.{leb}
 use lib.ListN.{length, take, drop}
 use lib.Seq.{length-take-le, take-at}
@@ -22,6 +23,10 @@ room-there job run e =
 room-again : (job job′ run run′ : List ℕ) → length job′ ≡ length job → length run′ ≡ length run → roomy job run ≡ true → roomy job′ run′ ≡ true
 unfolding roomy
 room-again job job′ run run′ j r e = rw (j, r) e
+
+pub never : {A : Type 0} (b : Bool) → b ≡ true → b ≡ false → A
+never true e f = let z : _≡_ {A = ℕ} 0 1 = cc in absurd (omega arith)
+never false e f = let z : _≡_ {A = ℕ} 0 1 = cc in absurd (omega arith)
 
 pub none-used : (N : ℕ) (w : List ℕ) → FrontUsed N w w
 none-used N w = record { long = refl; behind = refl }

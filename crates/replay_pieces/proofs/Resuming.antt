@@ -10,7 +10,7 @@ use Rattle.threads.specs.declared.Threads.{Threads}
 use Rattle.replay_theory.specs.declared.Ending.{Ending}
 use Rattle.replay_theory.specs.declared.FirstRace.{FirstRace}
 use Rattle.replay_theory.specs.declared.Replayed.{Replayed}
-use Rattle.replay_theory.specs.Replay.{replay, judged, replaySpace}
+use Rattle.replay_theory.specs.Replay.{replay, judged, replaySpace, returnedFor}
 use Rattle.replay_numbers.specs.Numbers.{raceNumbers}
 use Rattle.machine.specs.Replay.{ended, played}
 use Rattle.play.specs.declared.Progress.{Progress}
@@ -105,30 +105,41 @@ module _ (program trace job space : List ℕ) (q : Point) (R : RunOf program tra
 pub answer-in : (program trace job space w : List ℕ) → RunIn program trace job space w → toldIn w ≡ toldNumbers (replay (length space) program trace)
 answer-in program trace job space w I = I .kept .told ∙ ap toldNumbers (told-replays program trace job space (I .point) (I .is))
 
+-- a run that is kept, and the number of its answer; `room` is the length of the space as it was lent
+pub run-in : (program trace job space w : List ℕ) (q : Point) (n room : ℕ) → length space ≡ room → RunOf program trace job space q → Keeps q w × (n ≡ toldNumbers (telling q) .ending .number) →
+    RunIn program trace job space w × (n ≡ answerNumber room program trace)
+unfolding toldNumbers
+run-in program trace job space w q n room long R (K, e) = (
+  record { point = q; is = R; kept = K },
+  e ∙ ap (λ (r : Replayed). returnedFor (r .ending) .number) (told-replays program trace job space q R) ∙ ap (λ (m : ℕ). answerNumber m program trace) long,
+)
+
 module _ (program trace job space piece w : List ℕ) (I : RunIn program trace job space w) (ends : endsLine trace ≡ true) where
   abbrev q : Point
   q = I .point
 
-  pub stopped-in : getD w 0 0 ≡ 0 → RunIn program (trace ++ piece) job space w
+  stopped-in : getD w 0 0 ≡ 0 → RunIn program (trace ++ piece) job space w
   stopped-in z =
       let S = stops-kept (q .progress) (sym (I .kept .goes) ∙ z) in
       record { point = q; is = stopped-run program trace job space piece q (S .is) (I .is) ends; kept = I .kept }
+
+  -- a run that has stopped stays, and so does what it tells
+  pub stopped-told : {t : Told} → getD w 0 0 ≡ 0 → t ≡ toldIn w → RunIn program (trace ++ piece) job space w × (t .ending .number ≡ answerNumber (length space) program (trace ++ piece))
+  unfolding toldNumbers
+  stopped-told z e = (stopped-in z, ap (λ (t : Told). t .ending .number) (e ∙ answer-in program (trace ++ piece) job space w (stopped-in z)))
 
   steps-told : q .steps ≡ replay (length space) program trace .report .steps
   unfolding toldIn toldNumbers
   steps-told = sym (steps-kept q w (I .kept)) ∙ ap (λ (t : Told). t .steps) (answer-in program trace job space w I)
 
-  pub further-in : (p after : Point) (space′ w′ : List ℕ) → (getD w 0 0 ≡ 0 → ⊥) → ((r : Point) → Keeps r w → length (r .threads .records) ≡ 16 → p ≡ atStart r) →
+  -- one that goes on is read back, and goes on with the piece
+  pub further-of : (p after : Point) (space′ : List ℕ) → (getD w 0 0 ≡ 0 → ⊥) → ((r : Point) → Keeps r w → length (r .threads .records) ≡ 16 → p ≡ atStart r) →
       ((text lines : List ℕ) → RunOf text lines job space p → endsLine lines ≡ true → p .steps + length piece < 18446744073709551616 → RunOf text (lines ++ piece) job space′ after) →
-      Keeps after w′ → replay (length space) program trace .report .steps + length piece < 18446744073709551616 → RunIn program (trace ++ piece) job space′ w′
+      replay (length space) program trace .report .steps + length piece < 18446744073709551616 → RunOf program (trace ++ piece) job space′ after
   unfolding atStart
-  further-in p after space′ w′ z back goes K room =
+  further-of p after space′ z back goes room =
       let g = goes-kept (q .progress) (λ e. z (I .kept .goes ∙ e)) in
       let e = back q (I .kept) (records-long program trace job space q (I .is) g) in
       let same = ap (λ (x : Point). x .steps) e in
       let told = steps-told in
-      record {
-        point = after;
-        is = goes program trace (subst (λ (x : Point). RunOf program trace job space x) (sym e) (resumed program trace job space q (I .is) g)) ends (omega (arith, same, told, room));
-        kept = K;
-      }
+      goes program trace (subst (λ (x : Point). RunOf program trace job space x) (sym e) (resumed program trace job space q (I .is) g)) ends (omega (arith, same, told, room))

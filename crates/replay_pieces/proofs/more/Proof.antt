@@ -1,62 +1,46 @@
+-- The front of the run is lent on; what is behind it stays.
+use mathlib.Core.Path.{refl, sym, _∙_}
+use lib.Seq.{length-take-le}
+use Rattle.replay.specs.Pieces.{jobSize}
+use Rattle.replay_kept.specs.Kept.{keptSize}
+use Rattle.replay_pieces.proofs.Lending.{room-there, never, none-used, front-used, run-kept}
 use borrow.Author.Needs.{needs}
 use Rattle.replay_pieces.proofs.more.Statement.{statement}
 use Rattle.replay_pieces.proofs.more.Tie as tie
-use Rattle.replay_pieces.proofs.more.Reads as reads
-use Rattle.replay_pieces.proofs.more.Lts as lts
-use Rattle.replay_pieces.proofs.go_on.Reads as go-on-reads
-use Rattle.replay_pieces.proofs.roomy.Reads as roomy-reads
 
--- src/lib.rt:98:8
-roomy-requires : tie.Need-roomy-requires
-roomy-requires c κs = search needs
-
--- src/lib.rt:99:22
-slice-aggregate-go-on : tie.Need-slice-aggregate-go-on
-slice-aggregate-go-on c = ?
-
--- src/lib.rt:99:46
-slice-relend-prefix-go-on : tie.Need-slice-relend-prefix-go-on
-slice-relend-prefix-go-on c = ?
-
--- src/lib.rt:99:46
-slice-aggregate-go-on-2 : tie.Need-slice-aggregate-go-on-2
-slice-aggregate-go-on-2 c = ?
-
--- src/lib.rt:99:9
-go-on-requires : tie.Need-go-on-requires
-go-on-requires c κs = ?
-
--- src/lib.rt:99:9
-same-length : tie.Need-same-length
-same-length c = search needs
-
--- src/lib.rt:99:9
-same-length-2 : tie.Need-same-length-2
-same-length-2 c = search needs
-
--- src/lib.rt:99:9
 returns : tie.Need-returns
-returns c = ?
+returns c =
+    let at-go = c .before .before .before .before in
+    let then = at-go .before .before .before .before in
+    let start = then .before .before .before .before .before .before .before in
+    let room = sym (then .before .roomy .ensures) ∙ then .if1 .taken in
+    let (goes, kept, used) = at-go .go-on .ensures in
+    let long = at-go .go-on .kept .1 .1 .0 in (
+      λ program trace K ends bound. run-kept _ _ _ _ _ _ room long (goes program trace (K .held) ends bound .0),
+      (
+        λ program trace K ends bound. goes program trace (K .held) ends bound .1,
+        (λ short. never _ room short, ((refl, refl), (kept, (used, front-used keptSize (start .args .run .now) (at-go .go-on .last .1 .1 .0) (room-there _ _ room .1) long)))),
+      ),
+    )
 
--- src/lib.rt:90:1
-same-length-3 : tie.Need-same-length-3
-same-length-3 c = search needs
-
--- src/lib.rt:90:1
 returns-2 : tie.Need-returns-2
-returns-2 c = ?
+returns-2 c =
+    let short = sym (c .before .roomy .ensures) ∙ c .if1 .left in (
+      λ program trace K ends bound. never _ (K .room) short,
+      (λ program trace K ends bound. never _ (K .room) short, (λ no. (refl, refl, refl), ((refl, refl), (λ l. refl, (none-used _ _, none-used _ _))))),
+    )
 
 pub more-spec : {M : Type 1} → statement M
 more-spec =
     tie.close
     (tie.spec
-    roomy-requires
-    slice-aggregate-go-on
-    slice-relend-prefix-go-on
-    slice-aggregate-go-on-2
-    go-on-requires
-    same-length
-    same-length-2
+    (λ c κs. search needs)
+    (λ c. let then = c .before in sym (length-take-le jobSize _ (room-there _ _ (sym (then .before .roomy .ensures) ∙ then .if1 .taken) .0)))
+    (λ c. let then = c .before .before in room-there _ _ (sym (then .before .roomy .ensures) ∙ then .if1 .taken) .1)
+    (λ c. let then = c .before .before .before in sym (length-take-le keptSize _ (room-there _ _ (sym (then .before .roomy .ensures) ∙ then .if1 .taken) .1)))
+    (λ c κs. let then = c .before .before .before in length-take-le keptSize _ (room-there _ _ (sym (then .before .roomy .ensures) ∙ then .if1 .taken) .1))
+    (λ c. search needs)
+    (λ c. search needs)
     returns
-    same-length-3
+    (λ c. search needs)
     returns-2)

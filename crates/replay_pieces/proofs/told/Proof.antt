@@ -1,32 +1,32 @@
+-- A run that is too short holds none; of another the numbers are told.
+use mathlib.Core.Path.{refl, sym, _∙_}
+use native.Mathlib.Omega.{arith}
+use lib.Seq.{length-take-le}
+use Rattle.replay_kept.specs.Kept.{keptSize}
+use Rattle.replay_pieces.proofs.Resuming.{answer-in}
+use Rattle.replay_pieces.proofs.Lending.{room-there}
 use borrow.Author.Needs.{needs}
 use Rattle.replay_pieces.proofs.told.Statement.{statement}
 use Rattle.replay_pieces.proofs.told.Tie as tie
-use Rattle.replay_pieces.proofs.told.Reads as reads
-use Rattle.replay_pieces.proofs.told.Lts as lts
-use Rattle.replay_kept.proofs.short_told.Reads as short-told-reads
-use Rattle.replay_kept.proofs.told_in.Reads as told-in-reads
 
--- src/lib.rt:114:9
-short-told-requires : tie.Need-short-told-requires
-short-told-requires c κs = search needs
-
--- src/lib.rt:114:9
 returns : tie.Need-returns
-returns c = ?
+returns c = (
+  λ program trace job space K. absurd (let fits = room-there job _ (K .room) .1 in let t = c .before .if1 .taken in omega (arith, fits, t)),
+  (λ l. c .short-told .ensures, refl),
+)
 
--- src/lib.rt:116:13
-slice-aggregate-told-in : tie.Need-slice-aggregate-told-in
-slice-aggregate-told-in c = ?
-
--- src/lib.rt:116:5
-told-in-requires : tie.Need-told-in-requires
-told-in-requires c κs = search needs
-
--- src/lib.rt:108:1
 returns-2 : tie.Need-returns-2
-returns-2 c = ?
+returns-2 c = (
+  λ program trace job space K. c .told-in .ensures ∙ answer-in program trace _ space _ (K .held),
+  (λ l. absurd (let t = c .before .before .if1 .left in omega (arith, l, t)), refl),
+)
 
 pub told-spec : {M : Type 1} → statement M
 told-spec =
     tie.close
-    (tie.spec short-told-requires returns slice-aggregate-told-in told-in-requires returns-2)
+    (tie.spec
+    (λ c κs. search needs)
+    returns
+    (λ c. sym (length-take-le keptSize (c .before .before .before .args .run .now) (c .before .if1 .left)))
+    (λ c κs. search needs)
+    returns-2)

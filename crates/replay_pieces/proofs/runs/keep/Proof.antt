@@ -1,56 +1,32 @@
+-- The records first, then the numbers in front of them.
+use mathlib.Core.Path.{_∙_, ap}
+use Rattle.replay_kept.specs.declared.numbers.Told.{Told}
+use Rattle.replay_kept.specs.Kept.{toldNumbers}
+use Rattle.replay_pieces.proofs.Resuming.{keeps}
 use borrow.Author.Needs.{needs}
 use Rattle.replay_pieces.proofs.runs.keep.Statement.{statement}
 use Rattle.replay_pieces.proofs.runs.keep.Tie as tie
-use Rattle.replay_pieces.proofs.runs.keep.Reads as reads
-use Rattle.replay_pieces.proofs.runs.keep.Lts as lts
-use Rattle.replay.proofs.told.Reads as told-reads
-use Rattle.replay_kept.proofs.keep_front.Reads as keep-front-reads
-use Rattle.replay_kept.proofs.keep_records.Reads as keep-records-reads
-use Rattle.replay_kept.proofs.numbers_told.Reads as numbers-told-reads
-use Rattle.replay_kept.proofs.raced_number.Reads as raced-number-reads
-use Rattle.replay_pieces.proofs.runs.goes_number.Reads as goes-number-reads
 
--- src/runs.rt:52:9
-goes-number-requires : tie.Need-goes-number-requires
-goes-number-requires c κs = search needs
-
--- src/runs.rt:53:9
-raced-number-requires : tie.Need-raced-number-requires
-raced-number-requires c κs = search needs
-
--- src/runs.rt:54:29
-told-requires : tie.Need-told-requires
-told-requires c κs = search needs
-
--- src/runs.rt:54:9
-numbers-told-requires : tie.Need-numbers-told-requires
-numbers-told-requires c κs = search needs
-
--- src/runs.rt:55:5
-keep-records-requires : tie.Need-keep-records-requires
-keep-records-requires c κs = search needs
-
--- src/runs.rt:56:5
-keep-front-requires : tie.Need-keep-front-requires
-keep-front-requires c κs = search needs
-
--- src/runs.rt:45:1
-same-length : tie.Need-same-length
-same-length c = search needs
-
--- src/runs.rt:45:1
 returns : tie.Need-returns
-returns c = ?
+returns c =
+    let at-front = c .before .before .before in
+    let at-records = at-front .before .before .before .before in
+    let at-numbers = at-records .before .before in
+    let at-raced = at-numbers .before .before in
+    let told = at-numbers .numbers-told .ensures ∙ ap toldNumbers (at-numbers .before .told .ensures .0) in (
+      keeps _ _ _ (at-raced .before .goes-number .ensures) told (at-raced .raced-number .ensures) (at-records .keep-records .ensures) (at-front .keep-front .ensures),
+      ap (λ (t : Told). t .ending .number) told,
+    )
 
 pub keep-spec : {M : Type 1} → statement M
 keep-spec =
     tie.close
     (tie.spec
-    goes-number-requires
-    raced-number-requires
-    told-requires
-    numbers-told-requires
-    keep-records-requires
-    keep-front-requires
-    same-length
+    (λ c κs. search needs)
+    (λ c κs. search needs)
+    (λ c κs. search needs)
+    (λ c κs. search needs)
+    (λ c κs. search needs)
+    (λ c κs. search needs)
+    (λ c. search needs)
     returns)
