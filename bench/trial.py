@@ -10,8 +10,11 @@ ENTRIES = {
     "racecheck_drill": ("nssrrr", "0, &mut first, &mut second, &mut a, &mut b, &mut c"),
     "racecheck_fill": ("ssssrrr", "b\"P\", b\"C\", &mut work, &mut first, &mut a, &mut b, &mut c"),
     "racecheck_replay": ("sssrrrrrrr", "b\"P\", b\"0\", &mut work, &mut d, &mut a, &mut b, &mut e, &mut f, &mut c, &mut g"),
+    "racecheck_replay_begin": ("ssss", "b\"P\", &mut job, &mut work, &mut run"),
+    "racecheck_replay_more": ("ssss", "&job, &mut work, &mut run, b\"0\""),
+    "racecheck_replay_told": ("srrrrrrr", "&run, &mut d, &mut a, &mut b, &mut e, &mut f, &mut c, &mut g"),
 }
-LOCALS = [("work", "[0u32; 16]"), ("first", "[0u8; 16]"), ("second", "[0u8; 16]")]
+LOCALS = [("work", "[0u32; 16]"), ("job", "[0u32; 16]"), ("run", "[0u64; 16]"), ("first", "[0u8; 16]"), ("second", "[0u8; 16]")]
 LOCALS += [(name, "0u32") for name in "abcg"] + [(name, "0u64") for name in "def"]
 
 

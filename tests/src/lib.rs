@@ -10,6 +10,7 @@ pub mod draw;
 pub mod drill;
 pub mod filling;
 pub mod known;
+pub mod pieces;
 pub mod product;
 pub mod replaying;
 pub mod second;

@@ -1,6 +1,6 @@
 //! The calls of the product through its C entries, where the library is linked (see `build.rs`).
 
-pub use calls::{CHECK, DRILL, FILL, REPLAY};
+pub use calls::{CHECK, DRILL, FILL, PIECES, REPLAY};
 
 /// What a command that needs the product says before it fails without it.
 pub const NOT_LINKED: &str = "the product is not linked: name the folder of its library in RACECHECK_LIB_DIR";
@@ -11,12 +11,14 @@ mod calls {
     use crate::checking::Checker;
     use crate::drill::Driller;
     use crate::filling::Filler;
+    use crate::pieces::Pieces;
     use crate::replaying::Replayer;
 
     pub const CHECK: Option<Checker> = None;
     pub const DRILL: Option<Driller> = None;
     pub const FILL: Option<Filler> = None;
     pub const REPLAY: Option<Replayer> = None;
+    pub const PIECES: Option<Pieces> = None;
 }
 
 #[cfg(product)]
@@ -25,12 +27,14 @@ mod calls {
     use crate::checking::Checker;
     use crate::drill::{Drilled, Driller};
     use crate::filling::Filler;
+    use crate::pieces::Pieces;
     use crate::replaying::Replayer;
 
     pub const CHECK: Option<Checker> = Some(check);
     pub const DRILL: Option<Driller> = Some(drill);
     pub const FILL: Option<Filler> = Some(fill);
     pub const REPLAY: Option<Replayer> = Some(replay);
+    pub const PIECES: Option<Pieces> = Some(Pieces { begin, more, told });
 
     extern "C" {
         fn racecheck_check(
@@ -77,6 +81,40 @@ mod calls {
             trace_len: usize,
             space: *mut u32,
             space_len: usize,
+            line: *mut u64,
+            condition: *mut u32,
+            location: *mut u32,
+            steps: *mut u64,
+            state: *mut u64,
+            first: *mut u32,
+            second: *mut u32,
+        ) -> u32;
+
+        fn racecheck_replay_begin(
+            program: *const u8,
+            program_len: usize,
+            job: *mut u32,
+            job_len: usize,
+            space: *mut u32,
+            space_len: usize,
+            run: *mut u64,
+            run_len: usize,
+        ) -> u32;
+
+        fn racecheck_replay_more(
+            job: *const u32,
+            job_len: usize,
+            space: *mut u32,
+            space_len: usize,
+            run: *mut u64,
+            run_len: usize,
+            piece: *const u8,
+            piece_len: usize,
+        ) -> u32;
+
+        fn racecheck_replay_told(
+            run: *const u64,
+            run_len: usize,
             line: *mut u64,
             condition: *mut u32,
             location: *mut u32,
@@ -153,11 +191,13 @@ mod calls {
     /// Without a race the state and the threads are the largest numbers of their kinds.
     const NO_RACE: Race = Race { state: u64::MAX, first: u32::MAX, second: u32::MAX };
 
+    /// What must be overwritten by what a replay stores.
+    const NOTHING: Replayed = Replayed { number: 77, line: 77, condition: 77, location: 77, steps: 77, race: None };
+    const NOWHERE: Race = Race { state: 77, first: 77, second: 77 };
+
     /// Calls the product's replay on a program, a trace and a lent space.
     fn replay(program: &[u8], trace: &[u8], space: &mut [u32]) -> Replayed {
-        // What is stored must overwrite this.
-        let mut race = Race { state: 77, first: 77, second: 77 };
-        let mut done = Replayed { number: 77, line: 77, condition: 77, location: 77, steps: 77, race: None };
+        let (mut done, mut race) = (NOTHING, NOWHERE);
         // The three slices and the seven places are live and apart for the whole call.
         done.number = unsafe {
             racecheck_replay(
@@ -167,6 +207,60 @@ mod calls {
                 trace.len(),
                 space.as_mut_ptr(),
                 space.len(),
+                &mut done.line,
+                &mut done.condition,
+                &mut done.location,
+                &mut done.steps,
+                &mut race.state,
+                &mut race.first,
+                &mut race.second,
+            )
+        };
+        Replayed { race: (race != NO_RACE).then_some(race), ..done }
+    }
+
+    /// Begins a replay in pieces in three lent buffers.
+    fn begin(program: &[u8], job: &mut [u32], space: &mut [u32], run: &mut [u64]) -> u32 {
+        // The four slices are live and apart for the whole call.
+        unsafe {
+            racecheck_replay_begin(
+                program.as_ptr(),
+                program.len(),
+                job.as_mut_ptr(),
+                job.len(),
+                space.as_mut_ptr(),
+                space.len(),
+                run.as_mut_ptr(),
+                run.len(),
+            )
+        }
+    }
+
+    /// Goes on with a piece in the same buffers.
+    fn more(job: &[u32], space: &mut [u32], run: &mut [u64], piece: &[u8]) -> u32 {
+        // The four slices are live and apart for the whole call.
+        unsafe {
+            racecheck_replay_more(
+                job.as_ptr(),
+                job.len(),
+                space.as_mut_ptr(),
+                space.len(),
+                run.as_mut_ptr(),
+                run.len(),
+                piece.as_ptr(),
+                piece.len(),
+            )
+        }
+    }
+
+    /// What has become of the run that a buffer holds.
+    fn told(run: &[u64]) -> Replayed {
+        let (mut done, mut race) = (NOTHING, NOWHERE);
+        // The slice and the seven places are live and apart for the whole call.
+        done.number = unsafe {
+            racecheck_replay_told(
+                run.as_ptr(),
+                run.len(),
                 &mut done.line,
                 &mut done.condition,
                 &mut done.location,

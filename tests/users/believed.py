@@ -18,6 +18,7 @@ TWICE = {
     "outputLine": "the line of a program, of racecheck and of racereplay",
     "returnedBy": "the numbers of the code's answer, of a practice pair and of a filling",
     "returnedFor": "the numbers of an outcome, of a replay and of a filling",
+    "roomy": "whether buffers are long enough, of a drill and of a replay in pieces",
 }
 # How far a number of the page may be from the count.
 NEAR = 0.03

@@ -31,6 +31,8 @@ static const char NESTED[] = TEN_LINES TEN_LINES TEN_LINES TEN_LINES TEN_LINES T
 struct desk {
     uint32_t work[RACECHECK_WORK];
     uint32_t space[RACECHECK_REPLAY_SPACE];
+    uint32_t job[RACECHECK_REPLAY_JOB + 1];
+    uint64_t run[RACECHECK_REPLAY_RUN + 1];
     uint8_t out[RACECHECK_SPLIT_BYTES];
     uint8_t program[RACECHECK_DRILL_PROGRAM_BYTES];
     uint8_t split[RACECHECK_DRILL_SPLIT_BYTES];
@@ -125,6 +127,48 @@ static void call_replay(struct desk *desk)
     want(desk, r.number == 1 && r.line == 0 && desk->space[0] == MARK, "too little space is told, and left as it was");
 }
 
+static uint32_t begin(struct desk *desk, const char *program, size_t job, size_t run)
+{
+    return racecheck_replay_begin((const uint8_t *)program, strlen(program), desk->job, job, desk->space, RACECHECK_REPLAY_SPACE, desk->run, run);
+}
+
+static uint32_t more(struct desk *desk, const char *piece, size_t length)
+{
+    return racecheck_replay_more(desk->job, RACECHECK_REPLAY_JOB, desk->space, RACECHECK_REPLAY_SPACE, desk->run, RACECHECK_REPLAY_RUN,
+        (const uint8_t *)piece, length);
+}
+
+static struct replayed told(struct desk *desk, size_t run)
+{
+    struct replayed r = {7, 7, 7, 7, 7, 7, 7, 7};
+    r.number = racecheck_replay_told(desk->run, run, &r.line, &r.condition, &r.location, &r.steps, &r.state, &r.first, &r.second);
+    want(desk, r.condition == 0 && r.location == 0, "a replay in pieces stores no condition and no location");
+    return r;
+}
+
+static void call_pieces(struct desk *desk)
+{
+    struct replayed r;
+    size_t line;
+    desk->job[RACECHECK_REPLAY_JOB] = desk->run[RACECHECK_REPLAY_RUN] = MARK;
+    want(desk, begin(desk, RACING, RACECHECK_REPLAY_JOB + 1, RACECHECK_REPLAY_RUN + 1) == 0, "a replay in pieces is begun");
+    for (line = 0; line < strlen(ORDER); line += 4)
+        want(desk, more(desk, ORDER + line, 4) == 0, "a piece is done");
+    want(desk, desk->job[RACECHECK_REPLAY_JOB] == MARK && desk->run[RACECHECK_REPLAY_RUN] == MARK, "behind job and run all is as it was");
+    r = told(desk, RACECHECK_REPLAY_RUN);
+    want(desk, r.number == 0 && r.line == 0 && r.steps == 6, "an order in pieces is done");
+    want(desk, r.state == 6 && r.first == 0 && r.second == 1, "a race in pieces is stored with its state and threads");
+    want(desk, more(desk, "9,0\n", 4) == 47 && more(desk, "0,0\n", 4) == 47, "a line that cannot be done stops the run");
+    r = told(desk, RACECHECK_REPLAY_RUN);
+    want(desk, r.number == 47 && r.line == 7 && r.steps == 6 && r.state == 6, "a stopped run is told with its race");
+    want(desk, begin(desk, "", RACECHECK_REPLAY_JOB, RACECHECK_REPLAY_RUN) == 11 && more(desk, ORDER, 4) == 11, "a refused program stays so");
+    want(desk, begin(desk, PROGRAM, RACECHECK_REPLAY_JOB - 1, RACECHECK_REPLAY_RUN) == 1, "a short job is told");
+    want(desk, begin(desk, PROGRAM, RACECHECK_REPLAY_JOB, RACECHECK_REPLAY_RUN - 1) == 1, "a short run is told");
+    want(desk, told(desk, RACECHECK_REPLAY_RUN).number == 11, "a short buffer is left as it was");
+    r = told(desk, RACECHECK_REPLAY_RUN - 1);
+    want(desk, r.number == 1 && r.steps == 0 && r.state == RACECHECK_NO_STATE, "a short run is told by 1");
+}
+
 /* Appends a line as often as is said, and returns the new length. */
 static size_t lines(uint8_t *text, size_t length, const char *line, int times)
 {
@@ -160,6 +204,7 @@ static void *caller(void *own)
         call_drill(own, round * 2654435761u);
         call_fill(own);
         call_replay(own);
+        call_pieces(own);
     }
     call_deepest(own);
     return NULL;

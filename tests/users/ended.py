@@ -19,6 +19,9 @@ unsigned racecheck_check(const char *program, size_t length) {
 unsigned racecheck_drill(void) { return 0; }
 unsigned racecheck_fill(void) { return 0; }
 unsigned racecheck_replay(void) { return 0; }
+unsigned racecheck_replay_begin(void) { return 0; }
+unsigned racecheck_replay_more(void) { return 0; }
+unsigned racecheck_replay_told(void) { return 0; }
 """
 
 

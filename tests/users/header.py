@@ -15,7 +15,8 @@ ENTRIES = ROOT / "crates" / "entries" / "src" / "lib.rt"
 C_TYPES = {
     "u32": "uint32_t {0}", "&mut u32": "uint32_t *{0}", "&mut u64": "uint64_t *{0}",
     "&[u8]": "const uint8_t *{0}, size_t {0}_len", "&mut [u8]": "uint8_t *{0}, size_t {0}_len",
-    "&mut [u32]": "uint32_t *{0}, size_t {0}_len"}
+    "&[u32]": "const uint32_t *{0}, size_t {0}_len", "&mut [u32]": "uint32_t *{0}, size_t {0}_len",
+    "&[u64]": "const uint64_t *{0}, size_t {0}_len", "&mut [u64]": "uint64_t *{0}, size_t {0}_len"}
 KILOBYTE = 1024
 
 

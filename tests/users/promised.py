@@ -6,9 +6,10 @@ from checks import ROOT, check
 from where import named_in_row
 
 # The crates of the offered calls, and that of the entries for C.
-CRATES = ["checker", "drill", "fill", "replay", "entries"]
-# What an entry for C leaves out: it hands out numbers alone.
-NOT_FOR_C = {"replay": {"ending"}}
+CRATES = ["checker", "drill", "fill", "replay", "replay_pieces", "entries"]
+# What an entry for C leaves out, since it hands out numbers alone; and what it says beside, as that of a whole replay does.
+LEFT_OUT = {"racecheck_replay": {"ending"}}
+BESIDE = {"racecheck_replay_told": {"report", "stops", "first_race", "safe"}}
 HEAD = "| clause | says | read | theorem |\n|---|---|---|---|\n"
 TABLE = re.compile(r"^`(\w+)` in (\S+\.rt):\n\n" + re.escape(HEAD) + r"((?:\|.*\|\n)+)", re.M)
 # A function that others may call, up to its body.
@@ -48,17 +49,22 @@ def theorem_faults(cells):
 
 
 def entry_faults(promised):
-    clauses_of = {call: set(clauses) for (_, call), clauses in promised.items()}
-    entries = {call: clauses for call, clauses in clauses_of.items() if call.startswith("racecheck_")}
-    behind = {entry: entry.removeprefix("racecheck_") for entry in entries}
-    return [f"{entry} has other clauses than {call}" for entry, call in behind.items()
-            if entries[entry] != clauses_of.get(call, set()) - NOT_FOR_C.get(call, set())]
+    entries = {call: set(clauses) for (_, call), clauses in promised.items() if call.startswith("racecheck_")}
+    return [f"{entry} has other clauses than the call behind it" for entry, clauses in entries.items()
+            if clauses != behind(entry, promised) - LEFT_OUT.get(entry, set()) | BESIDE.get(entry, set())]
+
+
+def behind(entry, promised):
+    """The clauses of the call behind an entry: racecheck_replay_more has behind it `more` of replay_pieces."""
+    name = entry.removeprefix("racecheck_")
+    pieces = name.startswith("replay_")
+    return {clause for (file, call), clauses in promised.items() if call == name.removeprefix("replay_") and ("/replay_pieces/" in file) == pieces
+            for clause in clauses}
 
 
 def spoilt(page, promised):
     """Pages and contracts with one thing wrong, and what it is."""
     row = "| `solvable` |" + page.split("| `solvable` |")[1].split("\n")[0] + "\n"
-    place_of = {call: (file, call) for file, call in promised}
     for what, old, new in [
             ("a row left out", row, ""),
             ("a row twice", row, row + row),
@@ -71,7 +77,7 @@ def spoilt(page, promised):
             ("a call without a table", "`told` in crates/replay/src/pieces.rt:", "told:"),
             ("a table of no call", "`told` in crates/replay/src/pieces.rt:", "`tell` in crates/replay/src/pieces.rt:")]:
         yield what, page.replace(old, new, 1), promised
-    call, entry = place_of["begin"], place_of["racecheck_drill"]
+    call, entry = ("crates/checker/src/lib.rt", "check"), ("crates/entries/src/lib.rt", "racecheck_drill")
     yield "a new clause", page, {**promised, call: [*promised[call], "quick"]}
     yield "an entry for C without a clause", page, {**promised, entry: promised[entry][1:]}
 
@@ -80,7 +86,7 @@ def check_promised():
     page, promised = (ROOT / "docs" / "PROMISES.md").read_text(), contracts()
     check("PROMISES.md, each clause of an offered call once, with its theorem", faults_of(page, promised), [])
     check("the offered calls", sorted(call for _, call in promised if not call.startswith("racecheck_")),
-          ["begin", "check", "drill", "fill", "more", "replay", "told"])
+          ["begin", "begin", "check", "drill", "fill", "more", "more", "replay", "told", "told"])
     for what, other, contract in spoilt(page, promised):
         check(f"PROMISES.md with {what} is found out", faults_of(other, contract) != [], True)
     heads = [row for row in re.findall(r"^\|.*\|(?=\n\|---)", (ROOT / "docs" / "PROOFS.md").read_text(), re.M) if "clause" in row]

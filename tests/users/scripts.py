@@ -19,9 +19,11 @@ from racecheck import library
 # What a parameter of the header is to ctypes.
 C_TYPES = {
     "const uint8_t *": ctypes.c_char_p, "uint8_t *": ctypes.c_char_p, "size_t ": ctypes.c_size_t, "uint32_t ": ctypes.c_uint32,
-    "uint32_t *": ctypes.POINTER(ctypes.c_uint32), "uint64_t *": ctypes.POINTER(ctypes.c_uint64)}
+    "uint32_t *": ctypes.POINTER(ctypes.c_uint32), "uint64_t *": ctypes.POINTER(ctypes.c_uint64),
+    "const uint32_t *": ctypes.POINTER(ctypes.c_uint32), "const uint64_t *": ctypes.POINTER(ctypes.c_uint64)}
 NUMBERS = {
     "RACECHECK_WORK": library.WORK, "RACECHECK_REPLAY_SPACE": library.REPLAY_SPACE, "RACECHECK_SPLIT_BYTES": library.SPLIT_BYTES,
+    "RACECHECK_REPLAY_JOB": library.REPLAY_JOB, "RACECHECK_REPLAY_RUN": library.REPLAY_RUN,
     "RACECHECK_DRILL_PROGRAM_BYTES": library.DRILL_PROGRAM_BYTES, "RACECHECK_DRILL_SPLIT_BYTES": library.DRILL_SPLIT_BYTES}
 
 
@@ -35,8 +37,8 @@ def check_declared():
 
 def check_typed():
     """Every call says what it takes and gives."""
-    calls = [racecheck.check, racecheck.drill, racecheck.fill, racecheck.replay, racecheck.find_library]
-    calls += [getattr(library.Library, name) for name in ("__init__", "check", "drill", "fill", "replay")]
+    calls = [racecheck.check, racecheck.drill, racecheck.fill, racecheck.replay, racecheck.replay_pieces, racecheck.find_library]
+    calls += [getattr(library.Library, name) for name in ("__init__", "check", "drill", "fill", "replay", "replay_pieces")]
     for call in calls:
         taken = set(inspect.signature(call).parameters) - {"self"} | {"return"}
         check(f"{call.__qualname__} has its types", set(typing.get_type_hints(call)), taken)
@@ -46,7 +48,7 @@ def check_page(shared):
     """Each example of the page, as a script of its own."""
     page = (ROOT / "docs" / "PYTHON.md").read_text()
     scripts, outputs = ([lines for _, lines in fenced(page, kind)] for kind in ("python", "output"))
-    check("PYTHON.md has examples", (len(scripts), len(outputs)), (2, 2))
+    check("PYTHON.md has examples", (len(scripts), len(outputs)), (3, 3))
     for number, (lines, output) in enumerate(zip(scripts, outputs)):
         done = run("\n".join(lines), RACECHECK_LIBRARY=shared)
         check(f"PYTHON.md, example {number}", (done.returncode, done.stdout.splitlines(), done.stderr), (0, output, ""))
@@ -68,14 +70,30 @@ def check_answers(shared, programs):
         filling = calls.fill(program, split)
         check(f"module, filling of {folder.name}", str(filling).rstrip("\n").encode(), answer_in(racefill, folder).rstrip(b"\n"))
         if (folder / "trace.txt").exists():
-            replay = calls.replay(program, (folder / "trace.txt").read_bytes())
-            check(f"module, replay of {folder.name}", f"{replay}\n".encode(), answer_in(racereplay, folder))
+            trace, told = (folder / "trace.txt").read_bytes(), answer_in(racereplay, folder)
+            check(f"module, replay of {folder.name}", f"{calls.replay(program, trace)}\n".encode(), told)
+            for size in (1, 7, 4096):
+                pieces = [trace[at:at + size] for at in range(0, len(trace), size)]
+                check(f"module, replay of {folder.name} by {size}", f"{calls.replay_pieces(program, pieces)}\n".encode(), told)
     refused = calls.replay((ROOT / "examples" / "refill" / "program.txt").read_bytes(), b"0,0\n9,0\n")
     check("module, a line that cannot be done", str(refused), "REFUSE,47,2,0,0,1")
+    check_pieces(calls)
     check("module, empty texts", str(calls.check(b"", b"")), "REFUSE,11,1,0,0")
     for what, call in [("a text that is none", lambda: calls.check("P,1", b"")), ("no text", lambda: calls.check(None, b"")),
                        ("a seed out of range", lambda: calls.drill(2**32))]:
         check(f"module, {what}", raised(call), True)
+
+
+def check_pieces(calls):
+    """Pieces that are cut within a line, that none follows, and that are not asked for."""
+    program = (HOUSE / "examples" / "refill" / "program.txt").read_bytes()
+    for pieces, told in [([], "RAN,0"), ([b"0", b",0\n0,", b"0\n"], "RAN,2"), ([b"0,0\n0,0"], "REFUSE,46,2,0,0,1"),
+                         ([b"0,0\n9,0\n", b"0,0\n"], "REFUSE,47,2,0,0,1")]:
+        check(f"module, the pieces {pieces}", str(calls.replay_pieces(program, iter(pieces))), told)
+    left = iter([b"9,0\n", b"0,0\n"])
+    check("module, pieces behind a stop", (str(calls.replay_pieces(program, left)), list(left)), ("REFUSE,47,1,0,0,0", [b"0,0\n"]))
+    check("module, pieces of a refused job", (str(calls.replay_pieces(b"", left)), calls.replay(b"", b"")), (
+        "REFUSE,11,1,0,0,0", calls.replay_pieces(b"", [])))
 
 
 def raised(call):

@@ -6,13 +6,15 @@ this module use buffers of the thread's own.
 from __future__ import annotations
 
 import threading
+from typing import Iterable
 
 from .answers import Answer, Drill, Filling, Race, Replay
 from .finding import NoLibrary, find_library
 from .library import Library
 
 __all__ = [
-    "Answer", "Drill", "Filling", "Library", "NoLibrary", "Race", "Replay", "check", "drill", "fill", "find_library", "replay"]
+    "Answer", "Drill", "Filling", "Library", "NoLibrary", "Race", "Replay", "check", "drill", "fill", "find_library", "replay",
+    "replay_pieces"]
 
 _own = threading.local()
 
@@ -41,3 +43,8 @@ def drill(seed: int) -> Drill:
 def replay(program: bytes, trace: bytes) -> Replay:
     """What became of a recorded order: the report of the program racereplay."""
     return _library().replay(program, trace)
+
+
+def replay_pieces(program: bytes, pieces: Iterable[bytes]) -> Replay:
+    """The same of an order that comes in pieces, as a file that is read line by line."""
+    return _library().replay_pieces(program, pieces)

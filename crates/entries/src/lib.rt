@@ -4,10 +4,10 @@ use drill::Drilled;
 use fill::Filled;
 use spec::Answer;
 ghost use mathlib.Core.Path.{_≡_};
-ghost use mathlib.Core.List.{List};
-ghost use mathlib.Core.Bool.{true};
+ghost use mathlib.Core.List.{List, [], _++_};
+ghost use mathlib.Core.Bool.{true, false};
 ghost use mathlib.Core.Logic.{_↔_};
-ghost use Prim.Native.Nat.{ℕ, _≤_, _<_};
+ghost use Prim.Native.Nat.{ℕ, _+_, _≤_, _<_};
 ghost use lib.ListN.{length, take, drop};
 ghost use Rattle.spec.specs.Program.{Program};
 ghost use Rattle.spec.specs.Split.{Map, Split};
@@ -24,9 +24,13 @@ ghost use Rattle.checker.specs.Promise.{RefutedAs};
 ghost use Rattle.fill_theory.specs.AfterMaps.{AfterMaps};
 ghost use Rattle.fill_theory.specs.Answer.{fill as filling, returnedFor, bufferAfter, Fillable, FilledSheet, GreatestOverLimits};
 ghost use Rattle.replay_theory.specs.declared.FirstRace.the-variants.{None};
-ghost use Rattle.replay_theory.specs.Replay.{replaySpace, replay as replayed, returnedFor as endingNumbers};
+ghost use Rattle.spec.specs.declared.Refusal.the-variants.{ShortWorkspace};
+ghost use Rattle.replay_theory.specs.Replay.{replaySpace, replay as replayed, refused as refusedBy, returnedFor as endingNumbers};
 ghost use Rattle.replay_theory.specs.Claim.{TraceFollowed, RaceFound};
 ghost use Rattle.replay_numbers.specs.Numbers.{answerTold, raceNumbers, raceTold, Stored};
+ghost use Rattle.replay.specs.Pieces.{endsLine, jobSize};
+ghost use Rattle.replay_kept.specs.Kept.{keptSize};
+ghost use Rattle.replay_pieces.specs.Pieces.{roomy, answerNumber, FrontUsed, KeptRun};
 
 // The answer to a pair of texts: `check` of the crate `checker`, clause by clause.
 #[no_mangle]
@@ -163,4 +167,74 @@ pub extern "C" fn racecheck_replay(
     *first = pair.first;
     *second = pair.second;
     four.number
+}
+
+// The same of a trace that comes in pieces, all of it kept in three lent buffers: `begin` of the crate `replay_pieces`, clause by clause.
+#[no_mangle]
+pub extern "C" fn racecheck_replay_begin(
+    program: &[u8],
+    job: &mut [u32],
+    space: &mut [u32],
+    run: &mut [u64],
+) -> u32
+    ensures begun { λ n. ⌜ (roomy (now (job .entry)) (now (run .entry)) ≡ true → KeptRun (now (program .entry)) [] (now (job .exit)) (now (space .exit)) (now (run .exit))) ⌝ }
+    ensures answer { λ n. ⌜ (roomy (now (job .entry)) (now (run .entry)) ≡ true → n ≡ answerNumber (length (now (space .entry))) (now (program .entry)) []) ⌝ }
+    ensures short { λ n. ⌜ (roomy (now (job .entry)) (now (run .entry)) ≡ false → (n ≡ 1) × (now (job .exit) ≡ now (job .entry)) × (now (space .exit) ≡ now (space .entry)) × (now (run .exit) ≡ now (run .entry))) ⌝ }
+    ensures unchanged { λ n. ⌜ now (program .exit) ≡ now (program .entry) ⌝ }
+    ensures kept { λ n. ⌜ (length (now (space .entry)) < replaySpace → now (space .exit) ≡ now (space .entry)) ⌝ }
+    ensures free { λ n. ⌜ FrontUsed jobSize (now (job .entry)) (now (job .exit)) × FrontUsed replaySpace (now (space .entry)) (now (space .exit)) × FrontUsed keptSize (now (run .entry)) (now (run .exit)) ⌝ }
+{
+    replay_pieces::begin(program, job, space, run)
+}
+
+// `more` of the crate `replay_pieces`, clause by clause.
+#[no_mangle]
+pub extern "C" fn racecheck_replay_more(
+    job: &[u32],
+    space: &mut [u32],
+    run: &mut [u64],
+    piece: &[u8],
+) -> u32
+    ensures goes_on { λ n. ⌜ ((program trace : List ℕ) → KeptRun program trace (now (job .entry)) (now (space .entry)) (now (run .entry)) → endsLine trace ≡ true → replayed (length (now (space .entry))) program trace .report .steps + length (now (piece .entry)) < 18446744073709551616 → KeptRun program (trace ++ now (piece .entry)) (now (job .entry)) (now (space .exit)) (now (run .exit))) ⌝ }
+    ensures answer { λ n. ⌜ ((program trace : List ℕ) → KeptRun program trace (now (job .entry)) (now (space .entry)) (now (run .entry)) → endsLine trace ≡ true → replayed (length (now (space .entry))) program trace .report .steps + length (now (piece .entry)) < 18446744073709551616 → n ≡ answerNumber (length (now (space .entry))) program (trace ++ now (piece .entry))) ⌝ }
+    ensures short { λ n. ⌜ (roomy (now (job .entry)) (now (run .entry)) ≡ false → (n ≡ 1) × (now (space .exit) ≡ now (space .entry)) × (now (run .exit) ≡ now (run .entry))) ⌝ }
+    ensures unchanged { λ n. ⌜ (now (job .exit) ≡ now (job .entry)) × (now (piece .exit) ≡ now (piece .entry)) ⌝ }
+    ensures kept { λ n. ⌜ (length (now (space .entry)) < replaySpace → now (space .exit) ≡ now (space .entry)) ⌝ }
+    ensures free { λ n. ⌜ FrontUsed replaySpace (now (space .entry)) (now (space .exit)) × FrontUsed keptSize (now (run .entry)) (now (run .exit)) ⌝ }
+{
+    replay_pieces::more(job, space, run, piece)
+}
+
+// What `racecheck_replay` says of a program and a trace, of the run of both that the buffers hold: `told` of the crate `replay_pieces`. Of a run
+// that has no room it says what a replay says of a short space.
+#[no_mangle]
+pub extern "C" fn racecheck_replay_told(
+    run: &[u64],
+    line: &mut u64,
+    condition: &mut u32,
+    location: &mut u32,
+    steps: &mut u64,
+    state: &mut u64,
+    first: &mut u32,
+    second: &mut u32,
+) -> u32
+    ensures answer { λ n. ⌜ ((program trace job space : List ℕ) → KeptRun program trace job space (now (run .entry)) → answerTold n (now (line .exit)) (now (condition .exit)) (now (location .exit)) ≡ endingNumbers (replayed (length space) program trace .ending)) ⌝ }
+    ensures report { λ n. ⌜ ((program trace job space : List ℕ) → KeptRun program trace job space (now (run .entry)) → (now (steps .exit) ≡ replayed (length space) program trace .report .steps) × (raceTold (now (state .exit)) (now (first .exit)) (now (second .exit)) ≡ raceNumbers (replayed (length space) program trace .report .race))) ⌝ }
+    ensures short { λ n. ⌜ (length (now (run .entry)) < keptSize → (answerTold n (now (line .exit)) (now (condition .exit)) (now (location .exit)) ≡ endingNumbers (refusedBy ShortWorkspace .ending)) × (now (steps .exit) ≡ 0) × (raceTold (now (state .exit)) (now (first .exit)) (now (second .exit)) ≡ raceNumbers None)) ⌝ }
+    ensures unchanged { λ n. ⌜ now (run .exit) ≡ now (run .entry) ⌝ }
+    ensures stops { λ n. ⌜ ((program trace job space : List ℕ) → KeptRun program trace job space (now (run .entry)) → TraceFollowed (length space) program trace (now (steps .exit)) (answerTold n (now (line .exit)) (now (condition .exit)) (now (location .exit)))) ⌝ }
+    ensures first_race { λ n. ⌜ ((program trace job space : List ℕ) → KeptRun program trace job space (now (run .entry)) → Stored (RaceFound (length space) program trace) (now (state .exit)) (now (first .exit)) (now (second .exit))) ⌝ }
+    ensures safe { λ n. ⌜ ((program trace job space : List ℕ) → KeptRun program trace job space (now (run .entry)) → (room : ℕ) (split : List ℕ) → verdict room program split ≡ Accept → raceTold (now (state .exit)) (now (first .exit)) (now (second .exit)) ≡ raceNumbers None) ⌝ }
+{
+    let told = replay_pieces::told(run);
+    let answer = told.ending;
+    let race = told.race;
+    *line = answer.line as u64;
+    *condition = answer.condition;
+    *location = answer.location;
+    *steps = told.steps as u64;
+    *state = race.state as u64;
+    *first = race.first;
+    *second = race.second;
+    answer.number
 }

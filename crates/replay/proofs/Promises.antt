@@ -23,14 +23,14 @@ front-long N w h e = length-take-le N w h ∙ e
 
 -- The first N numbers of w are lent, and come back as x. N is a variable here for the same reason.
 module _ (N : ℕ) (w x : List ℕ) (h : N ≤ length w) (k : length x ≡ length (take N w)) where
-  same-length : length (x ++ drop N w) ≡ length w
+  pub same-length : length (x ++ drop N w) ≡ length w
   same-length =
       let all = length-append x (drop N w) in
       let first = k ∙ length-take-le N w h in
       let rest = length-drop N w in
       omega (arith, all, first, rest, h)
 
-  rest-kept : drop N (x ++ drop N w) ≡ drop N w
+  pub rest-kept : drop N (x ++ drop N w) ≡ drop N w
   rest-kept = drop-at x (drop N w) N (k ∙ length-take-le N w h)
 
 -- The clauses `kept` and `free`.

@@ -13,15 +13,17 @@ use Rattle.spec.specs.declared.Refusal.{Refusal}
 use Rattle.control.specs.Layout.{spaceSize}
 use Rattle.replay_theory.specs.Replay as definition
 use Rattle.replay_theory.specs.Replay.{replaySpace, judged, refused}
+use Rattle.replay_theory.specs.declared.Ending.{Ending}
 use Rattle.replay_theory.specs.declared.Replayed.{Replayed}
 use Rattle.machine.specs.Replay.{startReplay, ended, play, played, replay}
 use Rattle.machine.proofs.Replay.{machine-replays}
+use Rattle.play.specs.declared.Progress.the-variants.{Stops}
 use Rattle.play.specs.declared.Point.{Point}
 use Rattle.play.specs.Play.{ComesTo}
 use Rattle.replay.specs.Start.{refusedPoint}
 use Rattle.replay.specs.Pieces.{endsLine, tellingBy, telling, RunOf}
 use Rattle.replay.proofs.Starting.{room-enough}
-use Rattle.replay.proofs.Joined.{lines-joined, joined-again, none-behind, short-stays, tells}
+use Rattle.replay.proofs.Joined.{lines-joined, joined-again, none-behind, stopped-stays, short-stays, tells}
 
 -- ------------------------------------------------------------------ begun
 
@@ -83,18 +85,29 @@ module _ (N : ℕ) (is : N ≡ replaySpace) (s x : List ℕ) (h : N ≤ length s
             all : (ls : List Line) → lines trace ++ (lines piece ++ ls) ≡ lines (trace ++ piece) ++ ls
             all ls = sym (joined-again (lines trace) (lines piece) ls) ∙ ap (λ (ms : List Line). ms ++ ls) (sym (lines-joined trace piece ends))
 
--- a space that is too short holds no run that goes on
-pub short-run : (text trace job s piece : List ℕ) (q : Point) → length s < spaceSize → RunOf text trace job s q → endsLine trace ≡ true → RunOf text (trace ++ piece) job s q
-short-run text trace job s piece q short R ends = record {
-  comes = subst (λ (whole : List Line → Replayed). ComesTo (q .progress) whole job (take replaySpace s) q) same
-      (short-stays (λ ls. played (judged (length s) text) (lines trace ++ ls)) job (take replaySpace s) piece q (q .progress) (let l = length-take replaySpace s in omega (arith, l, short)) (R .comes));
-}
-  where
-    same : _≡_ {A = List Line → Replayed} (λ ls. played (judged (length s) text) (lines trace ++ (lines piece ++ ls))) (λ ls. played (judged (length s) text) (lines (trace ++ piece) ++ ls))
-    same = λ i ls. played (judged (length s) text) (all ls i)
-      where
-        all : (ls : List Line) → lines trace ++ (lines piece ++ ls) ≡ lines (trace ++ piece) ++ ls
-        all ls = sym (joined-again (lines trace) (lines piece) ls) ∙ ap (λ (ms : List Line). ms ++ ls) (sym (lines-joined trace piece ends))
+module _ (text trace job s piece : List ℕ) (q : Point) where
+  -- a run that the piece does not change
+  staying-run : RunOf text trace job s q → endsLine trace ≡ true →
+      ((whole : List Line → Replayed) → ComesTo (q .progress) whole job (take replaySpace s) q → ComesTo (q .progress) (λ ls. whole (lines piece ++ ls)) job (take replaySpace s) q) →
+      RunOf text (trace ++ piece) job s q
+  staying-run R ends stays = record {
+    comes = subst (λ (whole : List Line → Replayed). ComesTo (q .progress) whole job (take replaySpace s) q) same
+        (stays (λ ls. played (judged (length s) text) (lines trace ++ ls)) (R .comes));
+  }
+    where
+      same : _≡_ {A = List Line → Replayed} (λ ls. played (judged (length s) text) (lines trace ++ (lines piece ++ ls))) (λ ls. played (judged (length s) text) (lines (trace ++ piece) ++ ls))
+      same = λ i ls. played (judged (length s) text) (all ls i)
+        where
+          all : (ls : List Line) → lines trace ++ (lines piece ++ ls) ≡ lines (trace ++ piece) ++ ls
+          all ls = sym (joined-again (lines trace) (lines piece) ls) ∙ ap (λ (ms : List Line). ms ++ ls) (sym (lines-joined trace piece ends))
+
+  -- a space that is too short holds no run that goes on
+  pub short-run : length s < spaceSize → RunOf text trace job s q → endsLine trace ≡ true → RunOf text (trace ++ piece) job s q
+  short-run short R ends =
+      staying-run R ends (λ whole C. short-stays whole job (take replaySpace s) piece q (q .progress) (let l = length-take replaySpace s in omega (arith, l, short)) C)
+
+  pub stopped-run : {e : Ending} → q .progress ≡ Stops e → RunOf text trace job s q → endsLine trace ≡ true → RunOf text (trace ++ piece) job s q
+  stopped-run is R ends = staying-run R ends (λ whole C. stopped-stays whole job (take replaySpace s) piece q is C)
 
 -- ------------------------------------------------------------------ told
 

@@ -1,0 +1,14 @@
+use lib.ListN.{List·getD-eq-default}
+use mathlib.Core.Path.{sym}
+use borrow.Author.Needs.{needs}
+use Rattle.replay_kept.proofs.at.Statement.{statement}
+use Rattle.replay_kept.proofs.at.Tie as tie
+
+pub at-spec : {M : Type 1} → statement M
+at-spec =
+    tie.close
+    (tie.spec
+    (λ c. search needs)
+    (λ c. search needs)
+    (λ c. search needs)
+    (λ c. sym (List·getD-eq-default (c .before .args .run .now) 0 (c .if1 .left))))
