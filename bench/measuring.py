@@ -5,8 +5,8 @@ import sys
 import time
 from pathlib import Path
 
-HOUSE = Path(__file__).resolve().parents[1]
-PROGRAMS = Path(sys.argv[1] if len(sys.argv) > 1 else HOUSE / "target" / "bin").resolve()
+ROOT = Path(__file__).resolve().parents[1]
+PROGRAMS = Path(sys.argv[1] if len(sys.argv) > 1 else ROOT / "target" / "bin").resolve()
 
 
 def program(name, *words):

@@ -86,7 +86,7 @@ def check_answers(shared, programs):
 
 def check_pieces(calls):
     """Pieces that are cut within a line, that none follows, and that are not asked for."""
-    program = (HOUSE / "examples" / "refill" / "program.txt").read_bytes()
+    program = (ROOT / "examples" / "refill" / "program.txt").read_bytes()
     for pieces, told in [([], "RAN,0"), ([b"0", b",0\n0,", b"0\n"], "RAN,2"), ([b"0,0\n0,0"], "REFUSE,46,2,0,0,1"),
                          ([b"0,0\n9,0\n", b"0,0\n"], "REFUSE,47,2,0,0,1")]:
         check(f"module, the pieces {pieces}", str(calls.replay_pieces(program, iter(pieces))), told)
