@@ -34,8 +34,12 @@ def named_in_row(cells, part=None):
             yield name, path
 
 
+# What stands between names: in definitions and proofs a name may have nearly any character.
+APART = {".antt": r"[\s(){}.;,@]+", ".rt": r"[\s(){}\[\],;:.&<>]+"}
+
+
 def words_of(path):
-    return set(re.split(r"[\s(){}\[\],;:.&<>]+", ASIDE.sub("", path.read_text()))) if path.is_file() else set()
+    return set(re.split(APART.get(path.suffix, APART[".rt"]), ASIDE.sub("", path.read_text()))) if path.is_file() else set()
 
 
 def check_where():

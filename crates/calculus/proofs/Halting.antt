@@ -14,7 +14,7 @@ use Rattle.calculus.specs.Capability.{Cap}
 use Rattle.calculus.specs.Figure5.{Ty, refType, tidType, asItIs, Signatures, empty}
 use Rattle.calculus.proofs.Laws.Maps.{some-is-not-none, bind-goes-on}
 use Rattle.calculus.proofs.Laws.NextWord.{next-is-value}
-use Rattle.calculus.proofs.Laws.Questions.{equal-is-told}
+use Rattle.calculus.proofs.Laws.Questions.{equal-complete}
 use Rattle.calculus.proofs.Typing.{ValueTyped, name-typed, OwnLock, own-lock, UnaryTyped, join-typed, ref-typed, read-typed, lock-typed, unlock-typed, post-typed, wait-typed, hold-typed, call-typed}
 use Rattle.calculus.proofs.Focus.{RedexTyped, let-redex-typed, if-redex-typed, while-redex-typed, spawn-redex-typed, write-redex-typed, unary-redex-typed, nullary-redex-typed, focus, closed-has-no-variable}
 use Rattle.calculus.proofs.Bodies.{BodiesTyped}
@@ -57,7 +57,7 @@ module _ {D : ℕ} {S : Signatures} {s : State} (P : List Procedure) (bodies : B
       none-finished j u at-j same (finished v ended) =
           let h₁ = bind-goes-on (ifIdentifier (s .names n)) _ (ap ifIdentifier kind) (no-reduct word j 0) in
           let h₂ = bind-goes-on (getElem? (s .threads) j) _ at-j h₁ in
-          let h₃ = bind-goes-on (ifEqual (u .tid) n) _ (equal-is-told (u .tid) n same) h₂ in
+          let h₃ = bind-goes-on (ifEqual (u .tid) n) _ (equal-complete (u .tid) n same) h₂ in
           some-is-not-none (bind-goes-on (valueOf (nextWord (u .body))) _ (ap (λ e. valueOf (nextWord e)) ended) h₃)
 
   -- A name that is shown as a lock is one.

@@ -17,7 +17,7 @@ use Rattle.calculus.proofs.Laws.Maps.{some-injective, none-is-not-some,
 use Rattle.calculus.proofs.Laws.Places.{set-elsewhere}
 use Rattle.calculus.proofs.Laws.Order.{_+ᶜ_, Gains, Pays, ≥-trans, ≥-refl, gains-at-most}
 use Rattle.calculus.proofs.Laws.NextWord.{word-is-no-value}
-use Rattle.calculus.proofs.Laws.Questions.{opened-tells, one-less-tells, equal-tells, value-tells, word-tells}
+use Rattle.calculus.proofs.Laws.Questions.{opened-tells, one-less-tells, equal-sound, value-tells, word-tells}
 use Rattle.calculus.proofs.Typing.{ValueTyped, int-typed, name-typed, OwnLock, own-lock, UnaryTyped, join-typed, ref-typed, read-typed, lock-typed, unlock-typed, post-typed, wait-typed, HoldTyped, hold-typed, call-typed, newtid-typed, newlock-typed, newsem-typed, newrwlock-typed, Typed, value-typed, let-typed, if-typed, while-typed, typing-weakens}
 use Rattle.calculus.proofs.Substitution.{⊆-refl, value-grows, typing-grows, bind-extends-empty, substitution-keeps}
 use Rattle.calculus.proofs.Focus.{RedexTyped, let-redex-typed, if-redex-typed, while-redex-typed, spawn-redex-typed, write-redex-typed, unary-redex-typed, nullary-redex-typed, focus, typed-is-value}
@@ -61,7 +61,7 @@ module _ {D : ℕ} {S : Signatures} {s : State} (P : List Procedure) (bodies : B
       word-is-no-value word (ap (λ (x : Thread). nextWord (x .body)) t-is-u ∙ ended) in
       let pool = moved-pool M (I .N) (h .own +ᶜ K) zeroExp (⊆-refl (I .N)) (zero-typed-with gains) in
       let j = member (m .finished) pool (set-elsewhere (s .threads) (m .thread) (m .finished) _ apart ∙ at-u) in
-      let gives = finished-holds {Ψ = j .own} (j .ok) ended (ap (I .N) (equal-tells (u .tid) n same) ∙ known) in
+      let gives = finished-holds {Ψ = j .own} (j .ok) ended (ap (I .N) (equal-sound (u .tid) n same) ∙ known) in
       told (threads-change-keeps I (pool-weakens {Ω = j .rest}
       (record { at = λ ρ. omega (arith, gives .at ρ, j .split .at ρ, h .split .at ρ) }) (j .taken-out))) q₄
 

@@ -6,9 +6,9 @@ use mathlib.Core.Option.{none, some}
 use native.Mathlib.Decide.{ℕ-discrete}
 use Rattle.calculus.specs.Expression.{Value, Exp, value, var, choose, substitute}
 use Rattle.calculus.specs.Capability.{Cap, _≥ᶜ_}
-use Rattle.calculus.specs.Figure5.{Ty, _shown-as_, Signatures, Env, empty, bind}
+use Rattle.calculus.specs.Figure5.{Ty, _<:_, Signatures, Env, empty, bind}
 use Rattle.calculus.proofs.Laws.Maps.{some-injective, none-is-not-some}
-use Rattle.calculus.proofs.Typing.{ValueTyped, int-typed, name-typed, value-shown-as, Typed, value-typed, var-typed, let-typed, if-typed, while-typed, spawn-typed, write-typed, unary-typed, nullary-typed}
+use Rattle.calculus.proofs.Typing.{ValueTyped, int-typed, name-typed, value-subtype, Typed, value-typed, var-typed, let-typed, if-typed, while-typed, spawn-typed, write-typed, unary-typed, nullary-typed}
 
 -- ---- More names and more variables
 
@@ -79,8 +79,8 @@ bind-extends-empty x σ y τ = by-cases (ℕ-discrete y x)
     by-cases (no e) k = none-is-not-some k
 
 variable-keeps : {D : ℕ} {S : Signatures} {N Γ′ : Env} {Ψ Φ : Cap} {v : Value} {σ υ τ : Ty} (x y : ℕ) (d : Dec (y ≡ x)) → ValueTyped N v σ →
-    Known Γ′ x σ y υ → υ shown-as τ → Ψ ≥ᶜ Φ → Typed D S N Γ′ Ψ (choose d (value v) (var y)) τ Φ
-variable-keeps x y (yes p) t (inl r) f h = value-typed (value-shown-as (rw (r .1) at t) f) h
+    Known Γ′ x σ y υ → υ <: τ → Ψ ≥ᶜ Φ → Typed D S N Γ′ Ψ (choose d (value v) (var y)) τ Φ
+variable-keeps x y (yes p) t (inl r) f h = value-typed (value-subtype (rw (r .1) at t) f) h
 variable-keeps x y (yes p) t (inr r) f h = absurd (r .0 p)
 variable-keeps x y (no p) t (inl r) f h = absurd (p (r .0))
 variable-keeps x y (no p) t (inr r) f h = var-typed (r .1) f h

@@ -6,24 +6,24 @@ use native.Mathlib.Nat.{le-trans}
 use lib.ListN.{getElem?}
 use Rattle.calculus.specs.Expression.{Value, int, name, HoldWord, rdlock, rdunlock, wrlock, wrunlock, Unary, join, ref, read, lock, unlock, post, wait, hold, call, Nullary, newtid, newlock, newsem, newrwlock, Exp, value, var, letIn, if, while, spawn, write, unary, nullary}
 use Rattle.calculus.specs.Capability.{Cap, _×ᶜ_, _≥ᶜ_}
-use Rattle.calculus.specs.Figure5.{Ty, intType, refType, lockType, tidType, semType, rwlockType, _shown-as_, asItIs, looser, Signature, Signatures, Env, bind, _∣_∣_∣_⊢_∶_∣_, VAR, INT, LET, IF, WHILE, NEWT, SPAWN, JOIN, REF, WRITE, READ, NEWL, LCK, ULCK, NEWSEM, POST, WAIT, NEWRWLOCK, RDLOCK, RDUNLOCK, WRLOCK, WRUNLOCK, CALL}
+use Rattle.calculus.specs.Figure5.{Ty, intType, refType, lockType, tidType, semType, rwlockType, _<:_, asItIs, looser, Signature, Signatures, Env, bind, _∣_∣_∣_⊢_∶_∣_, VAR, INT, LET, IF, WHILE, NEWT, SPAWN, JOIN, REF, WRITE, READ, NEWL, LCK, ULCK, NEWSEM, POST, WAIT, NEWRWLOCK, RDLOCK, RDUNLOCK, WRLOCK, WRUNLOCK, CALL}
 use Rattle.calculus.proofs.Laws.Order.{Gains, Pays, ≥-trans, ≥-refl, gains-weakens, pays-weakens, sum-gains, sum-pays}
 
 -- ---- Values
 
-pub shown-as-trans : {σ τ υ : Ty} → σ shown-as τ → τ shown-as υ → σ shown-as υ
-shown-as-trans asItIs g = g
-shown-as-trans (looser i o) asItIs = looser i o
-shown-as-trans (looser i o) (looser i′ o′) = looser (≥-trans i i′) (≥-trans o′ o)
+pub subtype-trans : {σ τ υ : Ty} → σ <: τ → τ <: υ → σ <: υ
+subtype-trans asItIs g = g
+subtype-trans (looser i o) asItIs = looser i o
+subtype-trans (looser i o) (looser i′ o′) = looser (≥-trans i i′) (≥-trans o′ o)
 
 -- N has the types of the names. A name may be shown as a variable of its type may.
 pub data ValueTyped (N : Env) : Value → Ty → Type 0 where
   int-typed : {k : ℕ} → ValueTyped N (int k) intType
-  name-typed : {n : ℕ} {σ τ : Ty} → N n ≡ some σ → σ shown-as τ → ValueTyped N (name n) τ
+  name-typed : {n : ℕ} {σ τ : Ty} → N n ≡ some σ → σ <: τ → ValueTyped N (name n) τ
 
-pub value-shown-as : {N : Env} {v : Value} {σ τ : Ty} → ValueTyped N v σ → σ shown-as τ → ValueTyped N v τ
-value-shown-as int-typed asItIs = int-typed
-value-shown-as (name-typed h f) g = name-typed h (shown-as-trans f g)
+pub value-subtype : {N : Env} {v : Value} {σ τ : Ty} → ValueTyped N v σ → σ <: τ → ValueTyped N v τ
+value-subtype int-typed asItIs = int-typed
+value-subtype (name-typed h f) g = name-typed h (subtype-trans f g)
 
 -- The own type of a name that is shown as a lock.
 pub record OwnLock (N : Env) (n : ℕ) (Ψᵢ′ Ψₒ′ : Cap) : Type 0 where
@@ -33,7 +33,7 @@ pub record OwnLock (N : Env) (n : ℕ) (Ψᵢ′ Ψₒ′ : Cap) : Type 0 where
   pub no-more-out : Ψᵢ ≥ᶜ Ψᵢ′
   pub no-less-in : Ψₒ′ ≥ᶜ Ψₒ
 
-pub own-lock : {N : Env} {n : ℕ} {σ : Ty} {Ψᵢ′ Ψₒ′ : Cap} → N n ≡ some σ → σ shown-as lockType Ψᵢ′ Ψₒ′ → OwnLock N n Ψᵢ′ Ψₒ′
+pub own-lock : {N : Env} {n : ℕ} {σ : Ty} {Ψᵢ′ Ψₒ′ : Cap} → N n ≡ some σ → σ <: lockType Ψᵢ′ Ψₒ′ → OwnLock N n Ψᵢ′ Ψₒ′
 own-lock h asItIs = record { Ψᵢ = _; Ψₒ = _; known = h; no-more-out = ≥-refl; no-less-in = ≥-refl }
 own-lock h (looser i o) = record { Ψᵢ = _; Ψₒ = _; known = h; no-more-out = i; no-less-in = o }
 
@@ -68,7 +68,7 @@ pub data NullaryTyped : Nullary → Cap → Ty → Cap → Type 0 where
 -- Typed D S N Γ Ψ e τ Φ: with these types of names and variables e has type τ, can be run with Ψ, and leaves at least Φ.
 pub data Typed (D : ℕ) (S : Signatures) (N : Env) : Env → Cap → Exp → Ty → Cap → Type 0 where
   value-typed : {Γ : Env} {Ψ Φ : Cap} {v : Value} {τ : Ty} → ValueTyped N v τ → Ψ ≥ᶜ Φ → Typed D S N Γ Ψ (value v) τ Φ
-  var-typed : {Γ : Env} {Ψ Φ : Cap} {x : ℕ} {σ τ : Ty} → Γ x ≡ some σ → σ shown-as τ → Ψ ≥ᶜ Φ → Typed D S N Γ Ψ (var x) τ Φ
+  var-typed : {Γ : Env} {Ψ Φ : Cap} {x : ℕ} {σ τ : Ty} → Γ x ≡ some σ → σ <: τ → Ψ ≥ᶜ Φ → Typed D S N Γ Ψ (var x) τ Φ
   let-typed : {Γ : Env} {Ψ Ψ₁ Φ : Cap} {x : ℕ} {e₁ e₂ : Exp} {σ τ : Ty} →
       Typed D S N Γ Ψ e₁ σ Ψ₁ → Typed D S N (bind Γ x σ) Ψ₁ e₂ τ Φ → Typed D S N Γ Ψ (letIn x e₁ e₂) τ Φ
   if-typed : {Γ : Env} {Ψ Φ : Cap} {e₁ e₂ : Exp} {τ : Ty} →

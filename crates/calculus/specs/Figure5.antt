@@ -23,10 +23,10 @@ pub data Ty : Type 0 where
 -- What a variable of the first type may be shown as: a lock as one that hands out no more and takes no less, anything else as it is.
 -- Section 3.1.6 prints the second inequality the other way round; "that lets a thread lock, give back nothing and lock again, so ours
 -- holds" (request (ix)).
-infix 40 _shown-as_
-pub data _shown-as_ : Ty → Ty → Type 0 where
-  asItIs : {τ : Ty} → τ shown-as τ
-  looser : {Ψᵢ Ψₒ Ψᵢ′ Ψₒ′ : Cap} → Ψᵢ ≥ᶜ Ψᵢ′ → Ψₒ′ ≥ᶜ Ψₒ → lockType Ψᵢ Ψₒ shown-as lockType Ψᵢ′ Ψₒ′
+infix 40 _<:_
+pub data _<:_ : Ty → Ty → Type 0 where
+  asItIs : {τ : Ty} → τ <: τ
+  looser : {Ψᵢ Ψₒ Ψᵢ′ Ψₒ′ : Cap} → Ψᵢ ≥ᶜ Ψᵢ′ → Ψₒ′ ≥ᶜ Ψₒ → lockType Ψᵢ Ψₒ <: lockType Ψᵢ′ Ψₒ′
 
 -- What a procedure asks of its callers and gives them: Section 3.1.3's (Ψpre, τ) → (Ψpost, τret), under the names of request (xiv).
 pub record Signature : Type 0 where
@@ -57,7 +57,7 @@ bind Γ x τ = update Γ x (some τ)
 -- out no more and takes no less.
 infix 20 _∣_∣_∣_⊢_∶_∣_
 pub data _∣_∣_∣_⊢_∶_∣_ (D : ℕ) (S : Signatures) : Env → Cap → Exp → Ty → Cap → Type 0 where
-  VAR : {Γ : Env} {Ψ : Cap} {x : ℕ} {σ τ : Ty} → Γ x ≡ some σ → σ shown-as τ → D ∣ S ∣ Γ ∣ Ψ ⊢ var x ∶ τ ∣ Ψ
+  VAR : {Γ : Env} {Ψ : Cap} {x : ℕ} {σ τ : Ty} → Γ x ≡ some σ → σ <: τ → D ∣ S ∣ Γ ∣ Ψ ⊢ var x ∶ τ ∣ Ψ
   INT : {Γ : Env} {Ψ : Cap} {n : ℕ} → D ∣ S ∣ Γ ∣ Ψ ⊢ value (int n) ∶ intType ∣ Ψ
   LET : {Γ : Env} {Ψ Ψ₁ Ψ₂ : Cap} {x : ℕ} {e₁ e₂ : Exp} {τ₁ τ₂ : Ty} →
       D ∣ S ∣ Γ ∣ Ψ ⊢ e₁ ∶ τ₁ ∣ Ψ₁ → D ∣ S ∣ bind Γ x τ₁ ∣ Ψ₁ ⊢ e₂ ∶ τ₂ ∣ Ψ₂ →

@@ -6,7 +6,7 @@ use lib.ListN.{getD, set}
 use Rattle.spec.specs.Choice.{if_then_else_}
 use Rattle.workspace.specs.Layout.{valuesAt, procVarsAt}
 use Rattle.control.specs.Layout.{environmentsAt, openCallsAt}
-use Rattle.control.specs.declared.Focus.{Focus}
+use Rattle.control.specs.declared.ControlPoint.{ControlPoint}
 use Rattle.control.specs.Control.{firstOf, entering}
 
 unfoldable pub above : ℕ → ℕ
@@ -24,12 +24,12 @@ rowCleared s r = rowClearedFrom s r 0 256
 unfoldable pub calleeOf : (p : List ℕ) (k : ℕ) → ℕ
 calleeOf p k = getD p (valuesAt + k) 0
 
-unfoldable pub callEntered : (p : List ℕ) → Focus → Focus
+unfoldable pub callEntered : (p : List ℕ) → ControlPoint → ControlPoint
 callEntered p f = entering (above (f .row)) (firstOf p (calleeOf p (f .at)))
 
 -- the argument x of the body, and the step of the call, in the row r
 unfoldable pub argumentPut : (s : List ℕ) (r x v k : ℕ) → List ℕ
 argumentPut s r x v k = set (set (rowCleared s r) (environmentsAt + 256 * r + x) v) (openCallsAt + r) k
 
-unfoldable pub calledSpace : (p s : List ℕ) → Focus → List ℕ
+unfoldable pub calledSpace : (p s : List ℕ) → ControlPoint → List ℕ
 calledSpace p s f = argumentPut s (above (f .row)) (getD p (procVarsAt + calleeOf p (f .at)) 0) (f .value) (f .at)

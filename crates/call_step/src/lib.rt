@@ -1,6 +1,6 @@
 // The step of a call: its body is entered, in a row of its own.
+use control::ControlPoint;
 use control::ENTER;
-use control::Focus;
 use control::layout;
 use control::put;
 use workspace::at;
@@ -30,9 +30,9 @@ fn clear_row(space: &mut [u32], row: u32)
     }
 }
 
-// The call at that focus becomes the body of its procedure, which knows its argument alone. The step of the call is kept for the
+// The call at that control point becomes the body of its procedure, which knows its argument alone. The step of the call is kept for the
 // body's end.
-pub fn call(program: &[u32], space: &mut [u32], f: Focus) -> Focus
+pub fn call(program: &[u32], space: &mut [u32], f: ControlPoint) -> ControlPoint
     ensures { λ r. ⌜ (r ≡ callEntered (now (program .entry)) f) × (now (space .exit) ≡ calledSpace (now (program .entry)) (now (space .entry)) f) ⌝ }
 {
     let k = f.at;
@@ -43,7 +43,7 @@ pub fn call(program: &[u32], space: &mut [u32], f: Focus) -> Focus
     let argument = layout::ENVIRONMENTS + layout::ROW * index(row) + index(x);
     put(space, argument, f.value);
     put(space, layout::OPEN_CALLS + index(row), k);
-    Focus {
+    ControlPoint {
         mode: ENTER,
         at: control::first(program, procedure),
         value: 0,

@@ -4,7 +4,7 @@ use mathlib.Core.List.{List}
 use Prim.Native.Nat.{ℕ, _≤_}
 use native.Mathlib.Omega.{arith}
 use borrow.Author.Tests.{le-leb}
-use Rattle.spec.specs.Reading.{Out, _>>=_, demand}
+use Rattle.spec.specs.Reading.{Result, _>>=_, require}
 use Rattle.spec.specs.Workspace.{workspaceSize}
 use Rattle.spec.specs.Verdict.{checked, answer, verdict}
 use Rattle.spec.specs.declared.Answer.{Answer}
@@ -20,16 +20,16 @@ use Rattle.reading.specs.declared.Reading.the-variants as reading
 use Rattle.reading.proofs.Found.{refused-by, held-by}
 use Rattle.conditions.specs.Outcome.{outcome}
 use Rattle.spec.specs.declared.Ruling.{Ruling}
-use Rattle.spec.specs.declared.Ruling.the-variants.{Met, Refused}
+use Rattle.spec.specs.declared.Ruling.the-variants.{Holds, Refused}
 use Rattle.checker.specs.Stages.{RulesAnswered}
 
 -- ------------------------------------------------------------------ the rules
 
-pub met-accepts : {o : Out (Unit {0})} (r : Ruling) → r ≡ Met → outcome r ≡ o → Accept ≡ answer o
+pub met-accepts : {o : Result (Unit {0})} (r : Ruling) → r ≡ Holds → outcome r ≡ o → Accept ≡ answer o
 unfolding outcome answer
 met-accepts r e h = ap answer (sym (ap outcome e) ∙ h)
 
-pub refused-refuses : {o : Out (Unit {0})} (r : Ruling) (x : Refusal) → r ≡ Refused x → outcome r ≡ o → Refuse x ≡ answer o
+pub refused-refuses : {o : Result (Unit {0})} (r : Ruling) (x : Refusal) → r ≡ Refused x → outcome r ≡ o → Refuse x ≡ answer o
 unfolding outcome answer
 refused-refuses r x e h = ap answer (sym (ap outcome e) ∙ h)
 
@@ -51,5 +51,5 @@ module _ (p s w : List ℕ) (answered : Reading) (told : SheetsAnswered Check p 
 
 -- any work space that is long enough gives the same verdict
 pub room-enough : (room : ℕ) (p s : List ℕ) → workSize ≤ room → verdict workspaceSize p s ≡ verdict room p s
-unfolding verdict checked demand _>>=_ workspaceSize
+unfolding verdict checked require _>>=_ workspaceSize
 room-enough room p s h = rw (le-leb _ _ h)

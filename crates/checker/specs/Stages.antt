@@ -6,7 +6,7 @@ use lib.ListN.{length}
 use Rattle.spec.specs.Reading.{_>>=_}
 use Rattle.spec.specs.Program.{Program}
 use Rattle.spec.specs.Split.{Split}
-use Rattle.spec.specs.Verdict.{locksTakeEnough, startAtMostOne, ruled, answer}
+use Rattle.spec.specs.Verdict.{locksTakeEnough, startAtMostOne, conditionsHold, answer}
 use Rattle.spec.specs.declared.Answer.{Answer}
 use Rattle.workspace.specs.Layout.{workSize}
 use Rattle.spec.specs.declared.Header.{Header}
@@ -24,4 +24,4 @@ pub record RulesAsked (w : List ℕ) (steps procedures : ℕ) (header : Header) 
 abbrev pub RulesAnswered : (w : List ℕ) (steps procedures : ℕ) → Header → Answer → Type 0
 RulesAnswered w steps procedures header a =
     (P : Program) (S : Split) → HoldsBoth w header steps procedures P S
-    → a ≡ answer (locksTakeEnough S >>= λ enough. startAtMostOne P S >>= λ whole. ruled P S)
+    → a ≡ answer (locksTakeEnough S >>= λ enough. startAtMostOne P S >>= λ whole. conditionsHold P S)

@@ -10,7 +10,7 @@ ghost use mathlib.Core.Bool.{true};
 ghost use mathlib.Core.Logic.{_↔_};
 ghost use Prim.Native.Nat.{_≤_};
 ghost use lib.ListN.{length};
-ghost use Rattle.spec.specs.Verdict.{verdict, returned, four, onConditions};
+ghost use Rattle.spec.specs.Verdict.{verdict, returned, numbers4, onConditions};
 ghost use Rattle.spec.specs.Workspace.{workspaceSize, workspaceAfter};
 ghost use Rattle.spec.specs.Accepted.{Right};
 ghost use Rattle.soundness.specs.SafeText.{SafeText};
@@ -24,8 +24,8 @@ fn check_rules(work: &mut [u32], steps: usize, procedures: usize, header: Header
     requires { ⌜ RulesAsked (now work) steps procedures header ⌝ }
     ensures { λ a. ⌜ RulesAnswered (now (work .entry)) steps procedures header a ⌝ }
 {
-    match walk::rule(work, Purpose::Check, steps, procedures, header) {
-        Ruling::Met => Answer::Accept,
+    match walk::check(work, Purpose::Check, steps, procedures, header) {
+        Ruling::Holds => Answer::Accept,
         Ruling::Refused(r) => Answer::Refuse(r),
     }
 }
@@ -55,10 +55,10 @@ pub fn check(program: &[u8], split: &[u8], work: &mut [u32]) -> Answer
     ensures answer { λ a. ⌜ returned a ≡ returned (verdict (length (now (work .entry))) (now (program .entry)) (now (split .entry))) ⌝ }
     ensures cleared { λ a. ⌜ now (work .exit) ≡ workspaceAfter (now (work .entry)) ⌝ }
     ensures unchanged { λ a. ⌜ (now (program .exit) ≡ now (program .entry)) × (now (split .exit) ≡ now (split .entry)) ⌝ }
-    ensures derivation { λ a. ⌜ (workspaceSize ≤ length (now (work .entry)) → (returned a ≡ four 0 0 0 0) ↔ Right (now (program .entry)) (now (split .entry))) ⌝ }
+    ensures derivation { λ a. ⌜ (workspaceSize ≤ length (now (work .entry)) → (returned a ≡ numbers4 0 0 0 0) ↔ Right (now (program .entry)) (now (split .entry))) ⌝ }
     ensures first_false { λ a. ⌜ (onConditions (returned a .number) ≡ true → RefutedBy (now (program .entry)) (now (split .entry)) a) ⌝ }
-    ensures safe { λ a. ⌜ (returned a ≡ four 0 0 0 0 → SafeText (now (program .entry))) ⌝ }
-    ensures either_order { λ a. ⌜ (returned a ≡ four 0 0 0 0 → EitherOrderText (now (program .entry))) ⌝ }
+    ensures safe { λ a. ⌜ (returned a ≡ numbers4 0 0 0 0 → SafeText (now (program .entry))) ⌝ }
+    ensures either_order { λ a. ⌜ (returned a ≡ numbers4 0 0 0 0 → EitherOrderText (now (program .entry))) ⌝ }
 {
     if work.len() < workspace::SIZE {
         return Answer::Refuse(Refusal::ShortWorkspace);

@@ -7,7 +7,7 @@ use native.Mathlib.Omega.{arith}
 use native.Mathlib.Numerals.{add-one}
 use lib.ListN.{length, getD, drop, drop-of-length-le}
 use lib.Seq.{drop-cons}
-use Rattle.spec.specs.Reading.{on, demand}
+use Rattle.spec.specs.Reading.{ok, require}
 use Rattle.spec.specs.Program.{Program}
 use Rattle.spec.specs.Split.{Split, typeAt}
 use Rattle.spec.specs.Kinds.{lock, sameKind, is, firstMap, secondMap}
@@ -27,19 +27,19 @@ use Rattle.conditions.specs.Agreement.{takesEnoughIn}
 use Rattle.conditions.specs.SheetOutcomes.{lockOutcome, locksOutcome}
 use Rattle.conditions.specs.declared.Relation.the-variants.{AtLeast}
 use Rattle.spec.specs.declared.Ruling.{Ruling}
-use Rattle.spec.specs.declared.Ruling.the-variants.{Met, Refused}
+use Rattle.spec.specs.declared.Ruling.the-variants.{Holds, Refused}
 use Rattle.conditions.proofs.FirstFalse.{refused-stops, met-goes-on}
 use Rattle.conditions.proofs.Agreement.{takes-enough-shown}
 
 -- ------------------------------------------------------------------ a line
 
 module _ (w : List ℕ) (n : ℕ) (t : TypeNumber) {x : TypeLine} (e : x ≡ layout.typeAt w t) where
-  pub no-lock-line : is lock x ≡ false → on tt ≡ lockOutcome w n t
-  unfolding lockOutcome demand takesEnoughIn
+  pub no-lock-line : is lock x ≡ false → ok tt ≡ lockOutcome w n t
+  unfolding lockOutcome require takesEnoughIn
   no-lock-line h = rw (← e, h)
 
   pub lock-line : {i o : MapNumber} → x ≡ Lock i o → (b : Bool) → b ≡ everywhere w n (AtLeast o i)
-      → lockOutcome w n t ≡ demand b (LockTakesLess (t .0 + 2))
+      → lockOutcome w n t ≡ require b (LockTakesLess (t .0 + 2))
   unfolding lockOutcome takesEnoughIn is sameKind firstMap secondMap
   lock-line is-lock b q = rw (← e, is-lock, q)
 
@@ -59,10 +59,10 @@ module _ (w : List ℕ) (n t types : ℕ) where
     pub locks-refused : {z : Refusal} → r ≡ Refused z → outcome r ≡ locksOutcome w n t (types - t)
     locks-refused e = sym (refused-stops r _ e) ∙ here
 
-    pub locks-later : r ≡ Met → locksOutcome w n t (types - t) ≡ locksOutcome w n (t + 1) (types - (t + 1))
+    pub locks-later : r ≡ Holds → locksOutcome w n t (types - t) ≡ locksOutcome w n (t + 1) (types - (t + 1))
     locks-later e = sym here ∙ met-goes-on r _ e
 
-  pub locks-done : types ≤ t → on tt ≡ locksOutcome w n t (types - t)
+  pub locks-done : types ≤ t → ok tt ≡ locksOutcome w n t (types - t)
   unfolding locksOutcome
   locks-done h =
       let none-left : types - t ≡ 0 = omega arith in
@@ -75,15 +75,15 @@ module _ (w : List ℕ) (S : Split) (P : Program) (H : HoldsSplit w S) (R : InRa
   unfolding locksOutcome lockOutcome allTakeEnough both typeAt
   types-left t zero all = rw (drop-of-length-le (S .types) {i = t} (omega (arith, all)))
   types-left t (suc k) all =
-      let asked = demand (takesEnough S (getD (S .types) t Int)) (LockTakesLess (t + 2)) in
+      let asked = require (takesEnough S (getD (S .types) t Int)) (LockTakesLess (t + 2)) in
       let next : t + 1 + 2 ≡ t + 2 + 1 = omega arith in
       ap (λ o. both o (locksOutcome w n (t + 1) k)) (line-shown t (omega (arith, all)))
       ∙ ap (both asked) (types-left (t + 1) k (omega (arith, all)) ∙ ap (λ l. allTakeEnough S l (drop (t + 1) (S .types))) next)
       ∙ ap (λ l. both asked (allTakeEnough S (t + 2 + 1) (drop l (S .types)))) (add-one t)
       ∙ sym (ap (allTakeEnough S (t + 2)) (drop-cons (S .types) t Int (omega (arith, all))))
     where
-      line-shown : (t : ℕ) → t < length (S .types) → lockOutcome w n (record { 0 = t }) ≡ demand (takesEnough S (getD (S .types) t Int)) (LockTakesLess (t + 2))
-      line-shown t h = ap (λ b. demand b (LockTakesLess (t + 2))) (takes-enough-shown w S P H R n located (record { 0 = t }) h)
+      line-shown : (t : ℕ) → t < length (S .types) → lockOutcome w n (record { 0 = t }) ≡ require (takesEnough S (getD (S .types) t Int)) (LockTakesLess (t + 2))
+      line-shown t h = ap (λ b. require b (LockTakesLess (t + 2))) (takes-enough-shown w S P H R n located (record { 0 = t }) h)
 
   pub locks-shown : (types : ℕ) → types ≡ S .header .types → locksOutcome w n 0 types ≡ locksTakeEnough S
   unfolding locksTakeEnough

@@ -10,9 +10,9 @@ use lib.ListN.{length}
 use borrow.Author.Tests.{eqb-true, eq-eqb, ltb-true, ltb-false, lt-ltb, le-ltb, lt-leb, le-leb, leb-true}
 use Rattle.spec.specs.Choice.{if_then_else_}
 use Rattle.spec.specs.Maps.{lowest, atLeast, _+ᵐ_, _×ᵐ_, overWhole, holdsEverywhere}
-use Rattle.spec.specs.Reading.{on}
+use Rattle.spec.specs.Reading.{ok}
 use Rattle.spec.specs.Conditions.{F}
-use Rattle.spec.specs.Sites.{judge}
+use Rattle.spec.specs.StepContexts.{judge}
 use Rattle.spec.specs.declared.Location.{Location}
 use Rattle.spec.specs.declared.MapNumber.{MapNumber}
 use Rattle.spec.proofs.Clashes.{true-is-not-false}
@@ -79,7 +79,7 @@ module _ (w : List ℕ) where
   itself-everywhere r e n = rw (itself-nowhere r e 0 (asked w r n))
 
   -- a flow condition on a map and itself
-  pub itself-flows : (line i : ℕ) (r : Relation) → ofItself r ≡ true → (n : ℕ) → on tt ≡ judge line i (F (fails w n r))
+  pub itself-flows : (line i : ℕ) (r : Relation) → ofItself r ≡ true → (n : ℕ) → ok tt ≡ judge line i (F (fails w n r))
   unfolding judge fails
   itself-flows line i r e n = rw (itself-nowhere r e 0 (asked w r n))
 

@@ -18,7 +18,7 @@ use workspace::wide;
 ghost use mathlib.Core.Path.{_≡_};
 ghost use mathlib.Core.Bool.{false};
 ghost use Rattle.spec.specs.Conditions.{T, F};
-ghost use Rattle.spec.specs.Sites.{judge};
+ghost use Rattle.spec.specs.StepContexts.{judge};
 ghost use Rattle.workspace.specs.Layout.{mapCell};
 ghost use Rattle.conditions.specs.Outcome.{outcome, both};
 ghost use Rattle.conditions.specs.SheetOutcomes.{startOutcome};
@@ -34,10 +34,10 @@ pub enum Relation {
 }
 
 // The first refusal of two rulings.
-pub fn also(a: Ruling, b: Ruling) -> Ruling
+pub fn and_then(a: Ruling, b: Ruling) -> Ruling
     ensures { λ r. ⌜ outcome r ≡ both (outcome a) (outcome b) ⌝ }
 {
-    let Ruling::Met = a else {
+    let Ruling::Holds = a else {
         return a;
     };
     b
@@ -151,7 +151,7 @@ pub fn flow(line: u32, condition: u32, work: &[u32], locations: u32, relation: R
     ensures { λ r. ⌜ outcome r ≡ judge line condition (F (fails (now (work .entry)) locations relation)) ⌝ }
 {
     if of_itself(relation) {
-        return Ruling::Met;
+        return Ruling::Holds;
     }
     let p = lowest_failing(work, locations, relation);
     if p.0 < locations {
@@ -161,15 +161,22 @@ pub fn flow(line: u32, condition: u32, work: &[u32], locations: u32, relation: R
             location: p,
         });
     }
-    Ruling::Met
+    Ruling::Holds
 }
 
 // A map has at least so much of a location.
-pub fn has(line: u32, condition: u32, work: &[u32], m: MapNumber, p: Location, least: u32) -> Ruling
+pub fn holds_at_least(
+    line: u32,
+    condition: u32,
+    work: &[u32],
+    m: MapNumber,
+    p: Location,
+    least: u32,
+) -> Ruling
     ensures { λ r. ⌜ outcome r ≡ judge line condition (hasAtLeast (now (work .entry)) m p least) ⌝ }
 {
     if least <= map_cell(work, m, index(p.0)) {
-        return Ruling::Met;
+        return Ruling::Holds;
     }
     Ruling::Refused(Refusal::AccessFalse {
         line: line,
@@ -195,5 +202,5 @@ pub fn check_start(
             location: p,
         });
     }
-    Ruling::Met
+    Ruling::Holds
 }

@@ -21,10 +21,10 @@ fn check_lock(work: &[u32], locations: u32, t: TypeNumber) -> Ruling
 {
     let line = t.0 + FIRST_LINE;
     let TypeLine::Lock(load, out) = type_at(work, t) else {
-        return Ruling::Met;
+        return Ruling::Holds;
     };
     if everywhere(work, locations, Relation::AtLeast(out, load)) {
-        Ruling::Met
+        Ruling::Holds
     } else {
         Ruling::Refused(Refusal::LockTakesLess(line))
     }
@@ -38,10 +38,10 @@ pub fn check_locks(work: &[u32], locations: u32, types: u32) -> Ruling
     let mut t = 0;
     while t < types {
         let ruling = check_lock(work, locations, TypeNumber(t));
-        let Ruling::Met = ruling else {
+        let Ruling::Holds = ruling else {
             return ruling;
         };
         t += 1;
     }
-    Ruling::Met
+    Ruling::Holds
 }

@@ -8,7 +8,7 @@ use Rattle.spec.specs.Choice.{if_then_else_}
 use Rattle.workspace.specs.Layout.{valuesAt, endsAt, procFirstsAt}
 use Rattle.control.specs.Layout.{continuationsAt, secondPart, finish, leave, proceduresAt, environmentsAt, keptValuesAt, openCallsAt}
 use Rattle.control.specs.Shapes.{shapeAt, isWrite}
-use Rattle.control.specs.declared.Focus.{Focus}
+use Rattle.control.specs.declared.ControlPoint.{ControlPoint}
 use Rattle.workspace.specs.declared.Shape.{Shape}
 use Rattle.workspace.specs.declared.Shape.the-variants.{Variable, Constant, NoPart, While, OnePart, Call, Let, If, Spawn, Write}
 
@@ -41,30 +41,30 @@ behind k = if ltb k finish then k + 1 else k
 
 -- ------------------------------------------------------------------ where a thread is
 
-abbrev pub focus : (mode at value row : ℕ) → Focus
-focus m k v r = record { mode = m; at = k; value = v; row = r }
+abbrev pub controlPoint : (mode at value row : ℕ) → ControlPoint
+controlPoint m k v r = record { mode = m; at = k; value = v; row = r }
 
-abbrev pub entering : (r k : ℕ) → Focus
-entering r k = focus 0 k 0 r
+abbrev pub entering : (r k : ℕ) → ControlPoint
+entering r k = controlPoint 0 k 0 r
 
-abbrev pub returning : (r c v : ℕ) → Focus
-returning r c v = focus 1 c v r
+abbrev pub returning : (r c v : ℕ) → ControlPoint
+returning r c v = controlPoint 1 c v r
 
-abbrev pub stoppedAt : (r k : ℕ) → Focus
-stoppedAt r k = focus 2 k 0 r
+abbrev pub stoppedAt : (r k : ℕ) → ControlPoint
+stoppedAt r k = controlPoint 2 k 0 r
 
-abbrev pub readyAt : (r k v : ℕ) → Focus
-readyAt r k v = focus 3 k v r
+abbrev pub readyAt : (r k v : ℕ) → ControlPoint
+readyAt r k v = controlPoint 3 k v r
 
-abbrev pub unrolledAt : (r k : ℕ) → Focus
-unrolledAt r k = focus 4 k 0 r
+abbrev pub unrolledAt : (r k : ℕ) → ControlPoint
+unrolledAt r k = controlPoint 4 k 0 r
 
-abbrev pub doneWith : (r v : ℕ) → Focus
-doneWith r v = focus 5 0 v r
+abbrev pub doneWith : (r v : ℕ) → ControlPoint
+doneWith r v = controlPoint 5 0 v r
 
--- ------------------------------------------------------------------ one turn
+-- ------------------------------------------------------------------ one advance
 
-unfoldable pub enteredBy : Shape → (r k c x : ℕ) → Focus
+unfoldable pub enteredBy : Shape → (r k c x : ℕ) → ControlPoint
 enteredBy Variable r k c x = returning r c x
 enteredBy Constant r k c x = returning r c 0
 enteredBy NoPart r k c x = stoppedAt r k
@@ -76,17 +76,17 @@ enteredBy If r k c x = stoppedAt r k
 enteredBy Spawn r k c x = entering r (behind k)
 enteredBy Write r k c x = entering r (behind k)
 
-unfoldable pub entered : (p s : List ℕ) (r k : ℕ) → Focus
+unfoldable pub entered : (p s : List ℕ) (r k : ℕ) → ControlPoint
 entered p s r k = enteredBy (shapeAt p k) r k (continuation p k) (variable s r (getD p (valuesAt + k) 0))
 
 unfoldable pub halfWritten : (p : List ℕ) (c : ℕ) → Bool
 halfWritten p c = if ltb c secondPart then isWrite (shapeAt p c) else false
 
 -- an open call ends with its body's value, in the row before
-unfoldable pub left : (p s : List ℕ) (r v : ℕ) → Focus
+unfoldable pub left : (p s : List ℕ) (r v : ℕ) → ControlPoint
 left p s r v = returning (r - 1) (continuation p (calledFrom s r)) v
 
-unfoldable pub returned : (p s : List ℕ) (r c v : ℕ) → Focus
+unfoldable pub returned : (p s : List ℕ) (r c v : ℕ) → ControlPoint
 returned p s r c v =
     if halfWritten p c then entering r (second p c)
     else if ltb c secondPart then readyAt r c v
@@ -97,14 +97,14 @@ returned p s r c v =
 unfoldable pub returnedSpace : (p s : List ℕ) (r c v : ℕ) → List ℕ
 returnedSpace p s r c v = if halfWritten p c then set s (keptValuesAt + 256 * r + c) v else s
 
-unfoldable pub turned : (p s : List ℕ) → Focus → Focus
-turned p s f = if eqb (f .mode) 0 then entered p s (f .row) (f .at) else returned p s (f .row) (f .at) (f .value)
+unfoldable pub advanced : (p s : List ℕ) → ControlPoint → ControlPoint
+advanced p s f = if eqb (f .mode) 0 then entered p s (f .row) (f .at) else returned p s (f .row) (f .at) (f .value)
 
-unfoldable pub turnedSpace : (p s : List ℕ) → Focus → List ℕ
-turnedSpace p s f = if eqb (f .mode) 0 then s else returnedSpace p s (f .row) (f .at) (f .value)
+unfoldable pub advancedSpace : (p s : List ℕ) → ControlPoint → List ℕ
+advancedSpace p s f = if eqb (f .mode) 0 then s else returnedSpace p s (f .row) (f .at) (f .value)
 
--- ------------------------------------------------------------------ turns
+-- ------------------------------------------------------------------ the loop
 
-unfoldable pub found : (n : ℕ) (p s : List ℕ) → Focus → Focus × List ℕ
+unfoldable pub found : (n : ℕ) (p s : List ℕ) → ControlPoint → ControlPoint × List ℕ
 found zero p s f = (f, s)
-found (suc n) p s f = if ltb (f .mode) 2 then found n p (turnedSpace p s f) (turned p s f) else (f, s)
+found (suc n) p s f = if ltb (f .mode) 2 then found n p (advancedSpace p s f) (advanced p s f) else (f, s)

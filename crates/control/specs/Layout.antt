@@ -30,17 +30,17 @@ keptValuesAt = 270336
 abbrev pub openCallsAt : ℕ
 openCallsAt = 540672
 
-abbrev pub focusModesAt : ℕ
-focusModesAt = 541728
+abbrev pub controlPointModesAt : ℕ
+controlPointModesAt = 541728
 
-abbrev pub focusPlacesAt : ℕ
-focusPlacesAt = 541744
+abbrev pub controlPointPlacesAt : ℕ
+controlPointPlacesAt = 541744
 
-abbrev pub focusValuesAt : ℕ
-focusValuesAt = 541760
+abbrev pub controlPointValuesAt : ℕ
+controlPointValuesAt = 541760
 
-abbrev pub focusRowsAt : ℕ
-focusRowsAt = 541776
+abbrev pub controlPointRowsAt : ℕ
+controlPointRowsAt = 541776
 
 abbrev pub thingCountsAt : ℕ
 thingCountsAt = 541792

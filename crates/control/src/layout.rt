@@ -38,14 +38,14 @@ pub const KEPT_VALUES: usize = 270336;
 // By row: the step of the open call whose body runs there.
 pub const OPEN_CALLS: usize = 540672;
 
-// By thread: where it stands between two steps, the four numbers of its `Focus`.
-pub const FOCUS_MODES: usize = 541728;
+// By thread: where it stands between two steps, the four numbers of its `ControlPoint`.
+pub const CONTROL_POINT_MODES: usize = 541728;
 
-pub const FOCUS_PLACES: usize = 541744;
+pub const CONTROL_POINT_PLACES: usize = 541744;
 
-pub const FOCUS_VALUES: usize = 541760;
+pub const CONTROL_POINT_VALUES: usize = 541760;
 
-pub const FOCUS_ROWS: usize = 541776;
+pub const CONTROL_POINT_ROWS: usize = 541776;
 
 // How many things of each kind there are, by kind, up to 8 kinds; and the value that stands for the next name. The 7 numbers behind
 // it are not used.

@@ -25,10 +25,10 @@ ghost use mathlib.Core.Path.{_≡_};
 ghost use Prim.Native.Nat.{_<_, _-_};
 ghost use lib.ListN.{set};
 ghost use Rattle.control.specs.Shapes.{shapeAt};
-ghost use Rattle.control.specs.Control.{variable as variableOf, behind as behindOf, second as secondOf, firstOf, rootOf, entering as enteringAt, returning as returningTo, stoppedAt, enteredBy, entered, halfWritten, left, returned, returnedSpace, turned, turnedSpace, found};
+ghost use Rattle.control.specs.Control.{variable as variableOf, behind as behindOf, second as secondOf, firstOf, rootOf, entering as enteringAt, returning as returningTo, stoppedAt, enteredBy, entered, halfWritten, left, returned, returnedSpace, advanced, advancedSpace, found};
 
 // Where a thread is, while its next word is looked for and once it is found; its variables stand in that row.
-pub struct Focus {
+pub struct ControlPoint {
     pub mode: u32,
     pub at: u32,
     pub value: u32,
@@ -53,8 +53,8 @@ pub const UNROLLED: u32 = 4;
 // The thread has finished with `value`.
 pub const DONE: u32 = 5;
 
-// More turns than the steps of a program can take.
-const TURNS: u32 = 2048;
+// The fuel of that loop, more than the steps of a program can take.
+const FUEL: u32 = 2048;
 
 // A number of the space is set; past its end there is none.
 pub fn put(space: &mut [u32], i: usize, v: u32)
@@ -108,10 +108,10 @@ pub fn root(program: &[u32]) -> u32
 }
 
 // To a step k.
-fn entering(row: u32, k: u32) -> Focus
+fn entering(row: u32, k: u32) -> ControlPoint
     ensures { λ r. ⌜ r ≡ enteringAt row k ⌝ }
 {
-    Focus {
+    ControlPoint {
         mode: ENTER,
         at: k,
         value: 0,
@@ -120,10 +120,10 @@ fn entering(row: u32, k: u32) -> Focus
 }
 
 // With a value v to a continuation c.
-fn returning(row: u32, c: u32, v: u32) -> Focus
+fn returning(row: u32, c: u32, v: u32) -> ControlPoint
     ensures { λ r. ⌜ r ≡ returningTo row c v ⌝ }
 {
-    Focus {
+    ControlPoint {
         mode: RETURN,
         at: c,
         value: v,
@@ -132,10 +132,10 @@ fn returning(row: u32, c: u32, v: u32) -> Focus
 }
 
 // At the word of a step k.
-fn stopped_at(row: u32, k: u32) -> Focus
+fn stopped_at(row: u32, k: u32) -> ControlPoint
     ensures { λ r. ⌜ r ≡ stoppedAt row k ⌝ }
 {
-    Focus {
+    ControlPoint {
         mode: STOPPED,
         at: k,
         value: 0,
@@ -144,7 +144,7 @@ fn stopped_at(row: u32, k: u32) -> Focus
 }
 
 // From a step k of that shape, with continuation c and, of a variable, its value x.
-fn entered_by(s: Shape, row: u32, k: u32, c: u32, x: u32) -> Focus
+fn entered_by(s: Shape, row: u32, k: u32, c: u32, x: u32) -> ControlPoint
     ensures { λ r. ⌜ r ≡ enteredBy s row k c x ⌝ }
 {
     match s {
@@ -161,8 +161,8 @@ fn entered_by(s: Shape, row: u32, k: u32, c: u32, x: u32) -> Focus
     }
 }
 
-// One turn from a step.
-fn enter(program: &[u32], space: &[u32], row: u32, k: u32) -> Focus
+// One advance from a step.
+fn enter(program: &[u32], space: &[u32], row: u32, k: u32) -> ControlPoint
     ensures { λ r. ⌜ r ≡ entered (now (program .entry)) (now (space .entry)) row k ⌝ }
 {
     let s = shape_at(program, k);
@@ -189,12 +189,12 @@ fn below(row: u32) -> u32
 }
 
 // The open call of that row ends with the value v, and the call's step is this value, in the row before.
-fn leave(program: &[u32], space: &[u32], row: u32, v: u32) -> Focus
+fn leave(program: &[u32], space: &[u32], row: u32, v: u32) -> ControlPoint
     ensures { λ r. ⌜ r ≡ left (now (program .entry)) (now (space .entry)) row v ⌝ }
 {
     let k = at(space, OPEN_CALLS + index(row));
     let c = at(program, CONTINUATIONS + index(k));
-    Focus {
+    ControlPoint {
         mode: RETURN,
         at: c,
         value: v,
@@ -202,12 +202,12 @@ fn leave(program: &[u32], space: &[u32], row: u32, v: u32) -> Focus
     }
 }
 
-// One turn from a value: to the word around it, to the second part of a `write`, or out of an open call.
-fn return_to(program: &[u32], space: &[u32], row: u32, c: u32, v: u32) -> Focus
+// One advance from a value: to the word around it, to the second part of a `write`, or out of an open call.
+fn return_to(program: &[u32], space: &[u32], row: u32, c: u32, v: u32) -> ControlPoint
     ensures { λ r. ⌜ r ≡ returned (now (program .entry)) (now (space .entry)) row c v ⌝ }
 {
     if half_written(program, c) {
-        return Focus {
+        return ControlPoint {
             mode: ENTER,
             at: second(program, c),
             value: 0,
@@ -215,7 +215,7 @@ fn return_to(program: &[u32], space: &[u32], row: u32, c: u32, v: u32) -> Focus
         };
     }
     if c < SECOND_PART {
-        return Focus {
+        return ControlPoint {
             mode: READY,
             at: c,
             value: v,
@@ -223,7 +223,7 @@ fn return_to(program: &[u32], space: &[u32], row: u32, c: u32, v: u32) -> Focus
         };
     }
     if c < FINISH {
-        return Focus {
+        return ControlPoint {
             mode: READY,
             at: c - SECOND_PART,
             value: v,
@@ -231,7 +231,7 @@ fn return_to(program: &[u32], space: &[u32], row: u32, c: u32, v: u32) -> Focus
         };
     }
     if c < LEAVE {
-        return Focus {
+        return ControlPoint {
             mode: DONE,
             at: 0,
             value: v,
@@ -250,9 +250,9 @@ fn keep(program: &[u32], space: &mut [u32], row: u32, c: u32, v: u32)
     }
 }
 
-// One turn.
-fn turn(program: &[u32], space: &mut [u32], f: Focus) -> Focus
-    ensures { λ r. ⌜ (r ≡ turned (now (program .entry)) (now (space .entry)) f) × (now (space .exit) ≡ turnedSpace (now (program .entry)) (now (space .entry)) f) ⌝ }
+// One advance.
+fn advance(program: &[u32], space: &mut [u32], f: ControlPoint) -> ControlPoint
+    ensures { λ r. ⌜ (r ≡ advanced (now (program .entry)) (now (space .entry)) f) × (now (space .exit) ≡ advancedSpace (now (program .entry)) (now (space .entry)) f) ⌝ }
 {
     let mode = f.mode;
     let k = f.at;
@@ -265,18 +265,18 @@ fn turn(program: &[u32], space: &mut [u32], f: Focus) -> Focus
     next
 }
 
-// The next word of a thread: turns until it is found.
-pub fn find(program: &[u32], space: &mut [u32], f: Focus) -> Focus
+// The next word of a thread: advances until it is found.
+pub fn next_redex(program: &[u32], space: &mut [u32], f: ControlPoint) -> ControlPoint
     ensures { λ r. ⌜ found 2048 (now (program .entry)) (now (space .entry)) f ≡ (r, now (space .exit)) ⌝ }
 {
     let mut g = f;
     let mut i: u32 = 0;
-    while i < TURNS {
+    while i < FUEL {
         let mode = g.mode;
         if STOPPED <= mode {
             return g;
         }
-        g = turn(program, space, g);
+        g = advance(program, space, g);
         i += 1;
     }
     g

@@ -7,7 +7,7 @@ use writer::write_field;
 ghost use mathlib.Core.List.{[], _∷_};
 ghost use Prim.Native.Nat.{_≤_};
 ghost use Rattle.written.specs.Text.{text};
-ghost use Rattle.writer.specs.Buffer.{Written};
+ghost use Rattle.writer.specs.Buffer.{WrittenAt};
 ghost use Rattle.drill_theory.specs.Draw.{Drawable};
 ghost use Rattle.drill_theory.specs.Pair.{header, typeLines, row, startRow, fallingMaps, spawnRows, allSpawnRows, joinRows, allJoinRows, splitText};
 
@@ -22,7 +22,7 @@ const FULL: MapNumber = MapNumber(0);
 
 // Writes a row without a start.
 fn write_row(buffer: &mut [u8], at: usize, t: TypeNumber, m: MapNumber) -> usize
-    ensures { λ r. ⌜ Written (now (buffer .entry)) (now (buffer .exit)) at (text (row (t .0) (m .0) ∷ [])) r ⌝ }
+    ensures { λ r. ⌜ WrittenAt (now (buffer .entry)) (now (buffer .exit)) at (text (row (t .0) (m .0) ∷ [])) r ⌝ }
 {
     let typed = write_field(buffer, at, t.0 as u64, b',');
     let left = write_field(buffer, typed, m.0 as u64, b',');
@@ -31,7 +31,7 @@ fn write_row(buffer: &mut [u8], at: usize, t: TypeNumber, m: MapNumber) -> usize
 
 // Writes a row with a start.
 fn write_start_row(buffer: &mut [u8], at: usize, t: TypeNumber, m: MapNumber, s: MapNumber) -> usize
-    ensures { λ r. ⌜ Written (now (buffer .entry)) (now (buffer .exit)) at (text (startRow (t .0) (m .0) (s .0) ∷ [])) r ⌝ }
+    ensures { λ r. ⌜ WrittenAt (now (buffer .entry)) (now (buffer .exit)) at (text (startRow (t .0) (m .0) (s .0) ∷ [])) r ⌝ }
 {
     let typed = write_field(buffer, at, t.0 as u64, b',');
     let left = write_field(buffer, typed, m.0 as u64, b',');
@@ -40,7 +40,7 @@ fn write_start_row(buffer: &mut [u8], at: usize, t: TypeNumber, m: MapNumber, s:
 
 // Writes so many maps, the last of which holds 0.
 fn write_maps(buffer: &mut [u8], at: usize, count: u64) -> usize
-    ensures { λ r. ⌜ Written (now (buffer .entry)) (now (buffer .exit)) at (text (fallingMaps count)) r ⌝ }
+    ensures { λ r. ⌜ WrittenAt (now (buffer .entry)) (now (buffer .exit)) at (text (fallingMaps count)) r ⌝ }
 {
     let mut to = at;
     let mut n = count;
@@ -54,7 +54,7 @@ fn write_maps(buffer: &mut [u8], at: usize, count: u64) -> usize
 // Writes the rows of a spawn with map m before it.
 fn write_spawn_rows(buffer: &mut [u8], at: usize, share: MapNumber, m: MapNumber) -> usize
     requires { ⌜ m .0 ≤ 31 ⌝ }
-    ensures { λ r. ⌜ Written (now (buffer .entry)) (now (buffer .exit)) at (text (spawnRows (share .0) (m .0))) r ⌝ }
+    ensures { λ r. ⌜ WrittenAt (now (buffer .entry)) (now (buffer .exit)) at (text (spawnRows (share .0) (m .0))) r ⌝ }
 {
     let less = MapNumber(m.0 + 1);
     let bound = write_row(buffer, at, INT, FULL);
@@ -67,7 +67,7 @@ fn write_spawn_rows(buffer: &mut [u8], at: usize, share: MapNumber, m: MapNumber
 // Writes the rows of so many spawns, the first with map 0 before it.
 fn write_all_spawn_rows(buffer: &mut [u8], at: usize, share: MapNumber, count: u64) -> usize
     requires { ⌜ count ≤ 31 ⌝ }
-    ensures { λ r. ⌜ Written (now (buffer .entry)) (now (buffer .exit)) at (text (allSpawnRows (share .0) 0 count)) r ⌝ }
+    ensures { λ r. ⌜ WrittenAt (now (buffer .entry)) (now (buffer .exit)) at (text (allSpawnRows (share .0) 0 count)) r ⌝ }
 {
     let mut to = at;
     let mut m = 0;
@@ -82,7 +82,7 @@ fn write_all_spawn_rows(buffer: &mut [u8], at: usize, share: MapNumber, count: u
 // Writes the rows of a join with map m behind it.
 fn write_join_rows(buffer: &mut [u8], at: usize, m: MapNumber) -> usize
     requires { ⌜ m .0 ≤ 31 ⌝ }
-    ensures { λ r. ⌜ Written (now (buffer .entry)) (now (buffer .exit)) at (text (joinRows (m .0))) r ⌝ }
+    ensures { λ r. ⌜ WrittenAt (now (buffer .entry)) (now (buffer .exit)) at (text (joinRows (m .0))) r ⌝ }
 {
     let less = MapNumber(m.0 + 1);
     let bound = write_row(buffer, at, INT, FULL);
@@ -93,7 +93,7 @@ fn write_join_rows(buffer: &mut [u8], at: usize, m: MapNumber) -> usize
 // Writes the rows of so many joins, the last with map 0 behind it.
 fn write_all_join_rows(buffer: &mut [u8], at: usize, count: u64) -> usize
     requires { ⌜ count ≤ 31 ⌝ }
-    ensures { λ r. ⌜ Written (now (buffer .entry)) (now (buffer .exit)) at (text (allJoinRows count)) r ⌝ }
+    ensures { λ r. ⌜ WrittenAt (now (buffer .entry)) (now (buffer .exit)) at (text (allJoinRows count)) r ⌝ }
 {
     let mut to = at;
     let mut n = count;
@@ -108,7 +108,7 @@ fn write_all_join_rows(buffer: &mut [u8], at: usize, count: u64) -> usize
 // Writes the header and the type lines of k readers, and hands back the place behind them.
 fn write_head(buffer: &mut [u8], k: u64) -> usize
     requires { ⌜ Drawable k ⌝ }
-    ensures { λ r. ⌜ Written (now (buffer .entry)) (now (buffer .exit)) 0 (text (header k ∷ typeLines k)) r ⌝ }
+    ensures { λ r. ⌜ WrittenAt (now (buffer .entry)) (now (buffer .exit)) 0 (text (header k ∷ typeLines k)) r ⌝ }
 {
     let headed = write_bytes(buffer, 0, b"C,");
     let whole = write_field(buffer, headed, k, b',');
@@ -122,7 +122,7 @@ fn write_head(buffer: &mut [u8], k: u64) -> usize
 // Writes the split text of k readers, and hands back its length.
 pub(crate) fn write_split(buffer: &mut [u8], k: u64) -> usize
     requires { ⌜ Drawable k ⌝ }
-    ensures { λ r. ⌜ Written (now (buffer .entry)) (now (buffer .exit)) 0 (splitText k) r ⌝ }
+    ensures { λ r. ⌜ WrittenAt (now (buffer .entry)) (now (buffer .exit)) 0 (splitText k) r ⌝ }
 {
     let headed = write_head(buffer, k);
     let mapped = write_maps(buffer, headed, k + 1);

@@ -16,14 +16,14 @@ use Rattle.threads.specs.declared.Found.{Found}
 use Rattle.threads.specs.declared.Found.the-variants.{At, Nothing}
 use Rattle.threads.specs.Records.{noRecord, lowest}
 use Rattle.threads.specs.Threads.{spawned, turned, finished, joined, runs}
-use Rattle.control.specs.declared.Focus.{Focus}
+use Rattle.control.specs.declared.ControlPoint.{ControlPoint}
 use Rattle.control.specs.Control.{second, entering}
 use Rattle.reduction.specs.Words.{given, acted}
 use Rattle.reduction.specs.declared.words.Act.{Act}
 use Rattle.reduction.specs.declared.words.Act.the-variants as act
 use Rattle.engine.specs.declared.Outcome.the-variants.{Stuck, Past}
 use Rattle.engine.specs.declared.Stepped.{Stepped}
-use Rattle.engine.specs.Focuses.{focusAt, wentOn}
+use Rattle.engine.specs.ControlPoints.{controlPointAt, wentOn}
 use Rattle.engine.specs.Steps.{mayChoose, recorded, proceeded, ending, movedTo, copied, givesZero, spawnedStep, joinedBy, joinedStep, actStep, afterAct, steppedFrom, stepped}
 
 abbrev Few : Threads → Type 0
@@ -59,7 +59,7 @@ recorded-few : (T : Threads) (t : ℕ) (x : Bool × List ℕ) → Few T → Few 
 unfolding recorded finished
 recorded-few T t (d, s) h = either d (turned Finished T t) T (turned-few Finished T t h) h
 
-proceeded-few : (p s : List ℕ) (T : Threads) (t : ℕ) (f : Focus) → Few T → Few (proceeded p s T t f .0)
+proceeded-few : (p s : List ℕ) (T : Threads) (t : ℕ) (f : ControlPoint) → Few T → Few (proceeded p s T t f .0)
 unfolding proceeded
 proceeded-few p s T t f h = recorded-few T t (wentOn p s t f) h
 
@@ -67,11 +67,11 @@ moved-few : (t : ℕ) (x : Threads × List ℕ) → Few (x .0) → FewAfter (mov
 unfolding movedTo
 moved-few t (T, s) h = h
 
-zero-few : (p : List ℕ) (t : ℕ) (f : Focus) (x : Threads × List ℕ) → Few (x .0) → FewAfter (givesZero p t f x)
+zero-few : (p : List ℕ) (t : ℕ) (f : ControlPoint) (x : Threads × List ℕ) → Few (x .0) → FewAfter (givesZero p t f x)
 unfolding givesZero
 zero-few p t f (T, s) h = moved-few t (proceeded p s T t (given p (f .row) (f .at) 0)) (proceeded-few p s T t (given p (f .row) (f .at) 0) h)
 
-spawn-few : (p s : List ℕ) (T : Threads) (t : ℕ) (f : Focus) (tid : ℕ) → Few T → FewAfter (spawnedStep p s T t f tid)
+spawn-few : (p s : List ℕ) (T : Threads) (t : ℕ) (f : ControlPoint) (tid : ℕ) → Few T → FewAfter (spawnedStep p s T t f tid)
 unfolding spawnedStep
 spawn-few p s T t f tid h =
     either-after (leb 16 (T .count)) (ending Past T, s) (givesZero p t f added) h
@@ -80,12 +80,12 @@ spawn-few p s T t f tid h =
     added : Threads × List ℕ
     added = proceeded p (copied s (f .row) (66 * T .count)) (spawned T tid) (T .count) (entering (66 * T .count) (second p (f .at)))
 
-join-few : (p s : List ℕ) (T : Threads) (t : ℕ) (f : Focus) (x : Found) → Few T → FewAfter (joinedBy x p s T t f)
+join-few : (p s : List ℕ) (T : Threads) (t : ℕ) (f : ControlPoint) (x : Found) → Few T → FewAfter (joinedBy x p s T t f)
 unfolding joinedBy joined
 join-few p s T t f (At i) h = zero-few p t f (turned Joined T i, s) (turned-few Joined T i h)
 join-few p s T t f Nothing h = h
 
-act-few : (p s : List ℕ) (T : Threads) (t : ℕ) (f : Focus) (a : Act) → Few T → FewAfter (actStep p s T t f a)
+act-few : (p s : List ℕ) (T : Threads) (t : ℕ) (f : ControlPoint) (a : Act) → Few T → FewAfter (actStep p s T t f a)
 unfolding actStep joinedStep
 act-few p s T t f (act.Go g) h = moved-few t (proceeded p s T t g) (proceeded-few p s T t g h)
 act-few p s T t f (act.Spawn tid) h = spawn-few p s T t f tid h
@@ -93,14 +93,14 @@ act-few p s T t f (act.Join tid) h = join-few p s T t f (lowest (T .records) tid
 act-few p s T t f act.Stuck h = h
 act-few p s T t f act.Past h = h
 
-after-few : (p : List ℕ) (T : Threads) (t : ℕ) (f : Focus) (x : Act × List ℕ) → Few T → FewAfter (afterAct p T t f x)
+after-few : (p : List ℕ) (T : Threads) (t : ℕ) (f : ControlPoint) (x : Act × List ℕ) → Few T → FewAfter (afterAct p T t f x)
 unfolding afterAct
 after-few p T t f (a, s) h = act-few p s T t f a h
 
 pub stepped-few : (p s : List ℕ) (T : Threads) (t c : ℕ) → T .count ≤ 16 → stepped p s T t c .0 .threads .count ≤ 16
 unfolding stepped steppedFrom
 stepped-few p s T t c h =
-    either-after (runs T t) (if mayChoose p (focusAt s t) c then afterAct p T t (focusAt s t) (acted p s (focusAt s t) c) else (ending Stuck T, s)) (ending Stuck T, s)
-    (either-after (mayChoose p (focusAt s t) c) (afterAct p T t (focusAt s t) (acted p s (focusAt s t) c)) (ending Stuck T, s)
-    (after-few p T t (focusAt s t) (acted p s (focusAt s t) c) h) h)
+    either-after (runs T t) (if mayChoose p (controlPointAt s t) c then afterAct p T t (controlPointAt s t) (acted p s (controlPointAt s t) c) else (ending Stuck T, s)) (ending Stuck T, s)
+    (either-after (mayChoose p (controlPointAt s t) c) (afterAct p T t (controlPointAt s t) (acted p s (controlPointAt s t) c)) (ending Stuck T, s)
+    (after-few p T t (controlPointAt s t) (acted p s (controlPointAt s t) c) h) h)
     h

@@ -1,3 +1,3 @@
-pub mod Focuses
+pub mod ControlPoints
 pub mod Steps
 pub mod Races

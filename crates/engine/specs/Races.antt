@@ -6,12 +6,12 @@ use lib.Dec.{eqb}
 use lib.ListN.{getD}
 use Rattle.spec.specs.Choice.{if_then_else_}
 use Rattle.workspace.specs.Layout.{wordsAt, ruleOf}
-use Rattle.control.specs.declared.Focus.{Focus}
-use Rattle.things.specs.Uses.{usedBy}
-use Rattle.things.specs.declared.Used.{Used}
-use Rattle.things.specs.declared.Used.the-variants.{Gives, Leaves, Makes, Spawns, Joins, Stuck}
+use Rattle.control.specs.declared.ControlPoint.{ControlPoint}
+use Rattle.things.specs.Uses.{effectOf}
+use Rattle.things.specs.declared.StepEffect.{StepEffect}
+use Rattle.things.specs.declared.StepEffect.the-variants.{Returns, Updates, Makes, Spawns, Joins, Stuck}
 use Rattle.reduction.specs.Slots.{slotAt}
-use Rattle.engine.specs.Focuses.{focusAt}
+use Rattle.engine.specs.ControlPoints.{controlPointAt}
 use Rattle.reduction.specs.Words.{subject}
 use Rattle.engine.specs.declared.races.Access.{Access}
 use Rattle.engine.specs.declared.races.Access.the-variants.{None, Read, Write}
@@ -23,23 +23,23 @@ use Rattle.engine.specs.declared.races.Pair.the-variants as pair
 -- ------------------------------------------------------------------ one thread
 
 -- of a word at the cell that v names: it reads the cell if it becomes what the cell holds, and writes it if it leaves something there
-abbrev pub accessBy : Used → (v : ℕ) → Access
-accessBy (Gives w) v = Read v
-accessBy (Leaves x) v = Write v
+abbrev pub accessBy : StepEffect → (v : ℕ) → Access
+accessBy (Returns w) v = Read v
+accessBy (Updates x) v = Write v
 accessBy (Makes x) v = None
 accessBy Spawns v = None
 accessBy Joins v = None
 accessBy Stuck v = None
 
 -- the value that a `write` would store is no matter here, so it is 0
-unfoldable pub accessAt : (p s : List ℕ) → Focus → Access
+unfoldable pub accessAt : (p s : List ℕ) → ControlPoint → Access
 accessAt p s f = let v = subject p s f in
     if eqb (f .mode) 3
-    then (if eqb (slotAt s v .kind) 2 then accessBy (usedBy (ruleOf (getD p (wordsAt + f .at) 0)) (slotAt s v) 0) v else None)
+    then (if eqb (slotAt s v .kind) 2 then accessBy (effectOf (ruleOf (getD p (wordsAt + f .at) 0)) (slotAt s v) 0) v else None)
     else None
 
 unfoldable pub accessOf : (p s : List ℕ) (t : ℕ) → Access
-accessOf p s t = accessAt p s (focusAt s t)
+accessOf p s t = accessAt p s (controlPointAt s t)
 
 -- ------------------------------------------------------------------ two threads
 

@@ -10,11 +10,11 @@ use Rattle.threads.specs.declared.Found.{Found}
 use Rattle.threads.specs.declared.Found.the-variants.{At, Nothing}
 use Rattle.threads.specs.Records.{lowest}
 use Rattle.threads.specs.Threads.{started, spawned, finished, joined, runs}
-use Rattle.control.specs.Layout.{environmentsAt, focusRowsAt, thingCountsAt, nextValueAt, thingKindsAt}
-use Rattle.control.specs.declared.Focus.{Focus}
+use Rattle.control.specs.Layout.{environmentsAt, controlPointRowsAt, thingCountsAt, nextValueAt, thingKindsAt}
+use Rattle.control.specs.declared.ControlPoint.{ControlPoint}
 use Rattle.control.specs.Shapes.{shapeAt, isIf}
 use Rattle.control.specs.Control.{variable, second, rootOf, entering}
-use Rattle.engine.specs.Focuses.{focusAt, wentOn}
+use Rattle.engine.specs.ControlPoints.{controlPointAt, wentOn}
 use Rattle.reduction.specs.Words.{given, acted}
 use Rattle.reduction.specs.declared.words.Act.{Act}
 use Rattle.reduction.specs.declared.words.Act.the-variants as act
@@ -22,7 +22,7 @@ use Rattle.engine.specs.declared.Outcome.{Outcome}
 use Rattle.engine.specs.declared.Outcome.the-variants.{Moved, Stuck, Past}
 use Rattle.engine.specs.declared.Stepped.{Stepped}
 
-unfoldable pub mayChoose : (p : List ℕ) → Focus → (choice : ℕ) → Bool
+unfoldable pub mayChoose : (p : List ℕ) → ControlPoint → (choice : ℕ) → Bool
 mayChoose p f c =
     if eqb c 0 then true
     else if eqb c 1 then (if eqb (f .mode) 4 then true else isIf (shapeAt p (f .at)))
@@ -33,7 +33,7 @@ mayChoose p f c =
 unfoldable pub recorded : Threads → (t : ℕ) → Bool × List ℕ → Threads × List ℕ
 recorded T t (done, s) = ((if done then finished T t else T), s)
 
-unfoldable pub proceeded : (p s : List ℕ) → Threads → (t : ℕ) → Focus → Threads × List ℕ
+unfoldable pub proceeded : (p s : List ℕ) → Threads → (t : ℕ) → ControlPoint → Threads × List ℕ
 proceeded p s T t f = recorded T t (wentOn p s t f)
 
 abbrev pub ending : Outcome → Threads → Stepped
@@ -41,7 +41,7 @@ ending o T = record { outcome = o; threads = T }
 
 -- a step of thread t is done; with more than 64 calls open it is past the limit
 unfoldable pub outcomeOf : (s : List ℕ) (t : ℕ) → Outcome
-outcomeOf s t = if ltb (66 * t + 64) (getD s (focusRowsAt + t) 0) then Past else Moved
+outcomeOf s t = if ltb (66 * t + 64) (getD s (controlPointRowsAt + t) 0) then Past else Moved
 
 unfoldable pub movedTo : (t : ℕ) → Threads × List ℕ → Stepped × List ℕ
 movedTo t (T, s) = (ending (outcomeOf s t) T, s)
@@ -57,40 +57,40 @@ unfoldable pub copied : (s : List ℕ) (a b : ℕ) → List ℕ
 copied s a b = copiedFrom s a b 0 256
 
 -- the word of thread t at f becomes 0
-unfoldable pub givesZero : (p : List ℕ) (t : ℕ) → Focus → Threads × List ℕ → Stepped × List ℕ
+unfoldable pub givesZero : (p : List ℕ) (t : ℕ) → ControlPoint → Threads × List ℕ → Stepped × List ℕ
 givesZero p t f (T, s) = movedTo t (proceeded p s T t (given p (f .row) (f .at) 0))
 
 -- the new thread runs outside of calls, in the first of its rows
-unfoldable pub spawnedStep : (p s : List ℕ) → Threads → (t : ℕ) → Focus → (tid : ℕ) → Stepped × List ℕ
+unfoldable pub spawnedStep : (p s : List ℕ) → Threads → (t : ℕ) → ControlPoint → (tid : ℕ) → Stepped × List ℕ
 spawnedStep p s T t f tid =
     if leb 16 (T .count) then (ending Past T, s)
     else givesZero p t f (proceeded p (copied s (f .row) (66 * T .count)) (spawned T tid) (T .count) (entering (66 * T .count) (second p (f .at))))
 
-unfoldable pub joinedBy : Found → (p s : List ℕ) → Threads → (t : ℕ) → Focus → Stepped × List ℕ
+unfoldable pub joinedBy : Found → (p s : List ℕ) → Threads → (t : ℕ) → ControlPoint → Stepped × List ℕ
 joinedBy (At i) p s T t f = givesZero p t f (joined T i, s)
 joinedBy Nothing p s T t f = (ending Stuck T, s)
 
-unfoldable pub joinedStep : (p s : List ℕ) → Threads → (t : ℕ) → Focus → (tid : ℕ) → Stepped × List ℕ
+unfoldable pub joinedStep : (p s : List ℕ) → Threads → (t : ℕ) → ControlPoint → (tid : ℕ) → Stepped × List ℕ
 joinedStep p s T t f tid = joinedBy (lowest (T .records) tid) p s T t f
 
 -- ------------------------------------------------------------------ steps
 
 -- the word of thread t at f comes to that
-unfoldable pub actStep : (p s : List ℕ) → Threads → (t : ℕ) → Focus → Act → Stepped × List ℕ
+unfoldable pub actStep : (p s : List ℕ) → Threads → (t : ℕ) → ControlPoint → Act → Stepped × List ℕ
 actStep p s T t f (act.Go g) = movedTo t (proceeded p s T t g)
 actStep p s T t f (act.Spawn tid) = spawnedStep p s T t f tid
 actStep p s T t f (act.Join tid) = joinedStep p s T t f tid
 actStep p s T t f act.Stuck = (ending Stuck T, s)
 actStep p s T t f act.Past = (ending Past T, s)
 
-unfoldable pub afterAct : (p : List ℕ) → Threads → (t : ℕ) → Focus → Act × List ℕ → Stepped × List ℕ
+unfoldable pub afterAct : (p : List ℕ) → Threads → (t : ℕ) → ControlPoint → Act × List ℕ → Stepped × List ℕ
 afterAct p T t f (a, s) = actStep p s T t f a
 
-unfoldable pub steppedFrom : (p s : List ℕ) → Threads → (t : ℕ) → Focus → (choice : ℕ) → Stepped × List ℕ
+unfoldable pub steppedFrom : (p s : List ℕ) → Threads → (t : ℕ) → ControlPoint → (choice : ℕ) → Stepped × List ℕ
 steppedFrom p s T t f c = if mayChoose p f c then afterAct p T t f (acted p s f c) else (ending Stuck T, s)
 
 unfoldable pub stepped : (p s : List ℕ) → Threads → (t choice : ℕ) → Stepped × List ℕ
-stepped p s T t c = if runs T t then steppedFrom p s T t (focusAt s t) c else (ending Stuck T, s)
+stepped p s T t c = if runs T t then steppedFrom p s T t (controlPointAt s t) c else (ending Stuck T, s)
 
 -- ------------------------------------------------------------------ the start
 

@@ -1,16 +1,16 @@
 // The steps of a program's threads on numbers in a lent space. `reduction` has what a word does by itself; here a thread goes on to its
 // next word, the records of threads follow `spawn` and `join`, and the threads that race are found.
-mod focuses;
+mod control_points;
 mod races;
 
+use control::ControlPoint;
 use control::ENTER;
-use control::Focus;
 use control::UNROLLED;
 use control::layout;
 use control::put;
 use control::variable;
-use focuses::focus_at;
-use focuses::go_on;
+use control_points::control_point_at;
+use control_points::go_on;
 pub use races::Pair;
 pub use races::lowest_pair;
 use reduction::Act;
@@ -37,7 +37,7 @@ pub struct Stepped {
 }
 
 // "choice is 0 or 1 at an if and 0 elsewhere"
-fn may_choose(program: &[u32], f: Focus, choice: u32) -> bool
+fn may_choose(program: &[u32], f: ControlPoint, choice: u32) -> bool
     ensures { λ r. ⌜ r ≡ mayChooseOf (now (program .entry)) f choice ⌝ }
 {
     if choice == 0 {
@@ -53,7 +53,7 @@ fn may_choose(program: &[u32], f: Focus, choice: u32) -> bool
 }
 
 // Thread t goes on from there; its record says so if it has finished.
-fn proceed(program: &[u32], space: &mut [u32], threads: Threads, t: u32, f: Focus) -> Threads
+fn proceed(program: &[u32], space: &mut [u32], threads: Threads, t: u32, f: ControlPoint) -> Threads
     ensures { λ r. ⌜ proceeded (now (program .entry)) (now (space .entry)) threads t f ≡ (r, now (space .exit)) ⌝ }
 {
     let done = go_on(program, space, t, f);
@@ -71,7 +71,7 @@ fn moved(space: &[u32], threads: Threads, t: u32) -> Stepped
     ensures { λ r. ⌜ r ≡ ending (outcomeOf (now (space .entry)) t) threads ⌝ }
 {
     let i = index(t);
-    let row = index(at(space, layout::FOCUS_ROWS + i));
+    let row = index(at(space, layout::CONTROL_POINT_ROWS + i));
     if layout::LEVELS * i + CALL_LIMIT < row {
         return Stepped {
             outcome: Outcome::Past,
@@ -106,7 +106,7 @@ fn spawn(
     space: &mut [u32],
     threads: Threads,
     t: u32,
-    f: Focus,
+    f: ControlPoint,
     tid: u32,
 ) -> Stepped
     ensures { λ r. ⌜ spawnedStep (now (program .entry)) (now (space .entry)) threads t f tid ≡ (r, now (space .exit)) ⌝ }
@@ -121,7 +121,7 @@ fn spawn(
     let u = count as u32;
     let row = (layout::LEVELS * count) as u32;
     copy(space, f.row, row);
-    let body = Focus {
+    let body = ControlPoint {
         mode: ENTER,
         at: control::second(program, f.at),
         value: 0,
@@ -134,7 +134,14 @@ fn spawn(
 }
 
 // The `join` at f takes the lowest finished thread with that identifier, and becomes 0.
-fn join(program: &[u32], space: &mut [u32], threads: Threads, t: u32, f: Focus, tid: u32) -> Stepped
+fn join(
+    program: &[u32],
+    space: &mut [u32],
+    threads: Threads,
+    t: u32,
+    f: ControlPoint,
+    tid: u32,
+) -> Stepped
     ensures { λ r. ⌜ joinedStep (now (program .entry)) (now (space .entry)) threads t f tid ≡ (r, now (space .exit)) ⌝ }
 {
     match threads.lowest(tid) {
@@ -156,7 +163,7 @@ fn finish_step(
     space: &mut [u32],
     threads: Threads,
     t: u32,
-    f: Focus,
+    f: ControlPoint,
     a: Act,
 ) -> Stepped
     ensures { λ r. ⌜ actStep (now (program .entry)) (now (space .entry)) threads t f a ≡ (r, now (space .exit)) ⌝ }
@@ -184,7 +191,7 @@ pub fn step(program: &[u32], space: &mut [u32], threads: Threads, t: u32, choice
     ensures { λ r. ⌜ stepped (now (program .entry)) (now (space .entry)) threads t choice ≡ (r, now (space .exit)) ⌝ }
 {
     if threads.runs(index(t)) {
-        let f = focus_at(space, t);
+        let f = control_point_at(space, t);
         if may_choose(program, f, choice) {
             let a = reduction::reduce(program, space, f, choice);
             return finish_step(program, space, threads, t, f, a);
@@ -216,7 +223,7 @@ pub fn start(program: &[u32], space: &mut [u32]) -> Threads
     clear_part(space, layout::THING_COUNTS, layout::THING_FIRSTS);
     put(space, layout::THING_KINDS + 1, things::IDENTIFIER);
     put(space, layout::NEXT_VALUE, 2);
-    let root = Focus {
+    let root = ControlPoint {
         mode: ENTER,
         at: control::root(program),
         value: 0,

@@ -1,11 +1,11 @@
 // The lowest pair of threads that race: the first thread that clashes with a later one, and the first of those.
-use crate::focuses::focus_at;
+use crate::control_points::control_point_at;
 use control::READY;
 use reduction::slot_at;
 use reduction::subject;
 use things::CELL;
-use things::Used;
-use things::used_by;
+use things::StepEffect;
+use things::effect_of;
 use workspace::at;
 use workspace::index;
 ghost use mathlib.Core.Path.{_≡_};
@@ -33,16 +33,16 @@ pub enum Partner {
 
 // What a word does with the cell that v names: it reads the cell if it becomes what the cell holds, and writes it if it leaves something
 // there.
-fn access_by(u: Used, v: u32) -> Access
+fn access_by(u: StepEffect, v: u32) -> Access
     ensures { λ a. ⌜ a ≡ accessBy u v ⌝ }
 {
     match u {
-        Used::Gives(_) => Access::Read(v),
-        Used::Leaves(_) => Access::Write(v),
-        Used::Makes(_) => Access::None,
-        Used::Spawns => Access::None,
-        Used::Joins => Access::None,
-        Used::Stuck => Access::None,
+        StepEffect::Returns(_) => Access::Read(v),
+        StepEffect::Updates(_) => Access::Write(v),
+        StepEffect::Makes(_) => Access::None,
+        StepEffect::Spawns => Access::None,
+        StepEffect::Joins => Access::None,
+        StepEffect::Stuck => Access::None,
     }
 }
 
@@ -50,14 +50,14 @@ fn access_by(u: Used, v: u32) -> Access
 fn access_of(program: &[u32], space: &[u32], t: u32) -> Access
     ensures { λ r. ⌜ r ≡ accessOf (now (program .entry)) (now (space .entry)) t ⌝ }
 {
-    let f = focus_at(space, t);
+    let f = control_point_at(space, t);
     let k = f.at;
     if f.mode == READY {
         let v = subject(program, space, f);
         let x = slot_at(space, v);
         if x.kind == CELL {
             let r = workspace::rule_of(at(program, workspace::WORDS + index(k)));
-            return access_by(used_by(r, x, 0), v);
+            return access_by(effect_of(r, x, 0), v);
         }
     }
     Access::None

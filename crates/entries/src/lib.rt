@@ -12,7 +12,7 @@ ghost use lib.ListN.{length, take, drop};
 ghost use Rattle.spec.specs.Program.{Program};
 ghost use Rattle.spec.specs.Split.{Map, Split};
 ghost use Rattle.spec.specs.Accepted.{Right};
-ghost use Rattle.spec.specs.Verdict.{verdict, returned, four, onConditions};
+ghost use Rattle.spec.specs.Verdict.{verdict, returned, numbers4, onConditions};
 ghost use Rattle.spec.specs.Workspace.{workspaceSize, workspaceAfter};
 ghost use Rattle.spec.specs.declared.Answer.the-variants.{Accept};
 ghost use Rattle.drill_theory.specs.Pair.{programOf, splitOf};
@@ -42,13 +42,13 @@ pub extern "C" fn racecheck_check(
     condition: &mut u32,
     location: &mut u32,
 ) -> u32
-    ensures answer { λ n. ⌜ four n (now (line .exit)) (now (condition .exit)) (now (location .exit)) ≡ returned (verdict (length (now (work .entry))) (now (program .entry)) (now (split .entry))) ⌝ }
+    ensures answer { λ n. ⌜ numbers4 n (now (line .exit)) (now (condition .exit)) (now (location .exit)) ≡ returned (verdict (length (now (work .entry))) (now (program .entry)) (now (split .entry))) ⌝ }
     ensures cleared { λ n. ⌜ now (work .exit) ≡ workspaceAfter (now (work .entry)) ⌝ }
     ensures unchanged { λ n. ⌜ (now (program .exit) ≡ now (program .entry)) × (now (split .exit) ≡ now (split .entry)) ⌝ }
-    ensures derivation { λ n. ⌜ (workspaceSize ≤ length (now (work .entry)) → (four n (now (line .exit)) (now (condition .exit)) (now (location .exit)) ≡ four 0 0 0 0) ↔ Right (now (program .entry)) (now (split .entry))) ⌝ }
-    ensures first_false { λ n. ⌜ (onConditions n ≡ true → RefutedAs (now (program .entry)) (now (split .entry)) (four n (now (line .exit)) (now (condition .exit)) (now (location .exit)))) ⌝ }
-    ensures safe { λ n. ⌜ (four n (now (line .exit)) (now (condition .exit)) (now (location .exit)) ≡ four 0 0 0 0 → SafeText (now (program .entry))) ⌝ }
-    ensures either_order { λ n. ⌜ (four n (now (line .exit)) (now (condition .exit)) (now (location .exit)) ≡ four 0 0 0 0 → EitherOrderText (now (program .entry))) ⌝ }
+    ensures derivation { λ n. ⌜ (workspaceSize ≤ length (now (work .entry)) → (numbers4 n (now (line .exit)) (now (condition .exit)) (now (location .exit)) ≡ numbers4 0 0 0 0) ↔ Right (now (program .entry)) (now (split .entry))) ⌝ }
+    ensures first_false { λ n. ⌜ (onConditions n ≡ true → RefutedAs (now (program .entry)) (now (split .entry)) (numbers4 n (now (line .exit)) (now (condition .exit)) (now (location .exit)))) ⌝ }
+    ensures safe { λ n. ⌜ (numbers4 n (now (line .exit)) (now (condition .exit)) (now (location .exit)) ≡ numbers4 0 0 0 0 → SafeText (now (program .entry))) ⌝ }
+    ensures either_order { λ n. ⌜ (numbers4 n (now (line .exit)) (now (condition .exit)) (now (location .exit)) ≡ numbers4 0 0 0 0 → EitherOrderText (now (program .entry))) ⌝ }
 {
     let four = returned::numbers_of(checker::check(program, split, work));
     *line = four.line;
@@ -103,12 +103,12 @@ pub extern "C" fn racecheck_fill(
     condition: &mut u32,
     location: &mut u32,
 ) -> u32
-    ensures answer { λ n. ⌜ four n (now («length_or_line» .exit)) (now (condition .exit)) (now (location .exit)) ≡ returnedFor (filling (length (now (work .entry))) (length (now (out .entry))) (now (program .entry)) (now (split .entry))) ⌝ }
+    ensures answer { λ n. ⌜ numbers4 n (now («length_or_line» .exit)) (now (condition .exit)) (now (location .exit)) ≡ returnedFor (filling (length (now (work .entry))) (length (now (out .entry))) (now (program .entry)) (now (split .entry))) ⌝ }
     ensures written { λ n. ⌜ now (out .exit) ≡ bufferAfter (filling (length (now (work .entry))) (length (now (out .entry))) (now (program .entry)) (now (split .entry))) (now (out .entry)) ⌝ }
     ensures cleared { λ n. ⌜ now (work .exit) ≡ workspaceAfter (now (work .entry)) ⌝ }
     ensures unchanged { λ n. ⌜ (now (program .exit) ≡ now (program .entry)) × (now (split .exit) ≡ now (split .entry)) ⌝ }
-    ensures solvable { λ n. ⌜ ((P : Program) (S : Split) → Fillable (length (now (work .entry))) (now (program .entry)) (now (split .entry)) P S → (four n (now («length_or_line» .exit)) (now (condition .exit)) (now (location .exit)) ≡ four 41 0 0 0) ↔ ((σ : List Map) → AfterMaps P S σ → ⊥)) ⌝ }
-    ensures too_large { λ n. ⌜ ((P : Program) (S : Split) → Fillable (length (now (work .entry))) (now (program .entry)) (now (split .entry)) P S → (four n (now («length_or_line» .exit)) (now (condition .exit)) (now (location .exit)) ≡ four 42 0 0 0) ↔ GreatestOverLimits (length (now (out .entry))) P S) ⌝ }
+    ensures solvable { λ n. ⌜ ((P : Program) (S : Split) → Fillable (length (now (work .entry))) (now (program .entry)) (now (split .entry)) P S → (numbers4 n (now («length_or_line» .exit)) (now (condition .exit)) (now (location .exit)) ≡ numbers4 41 0 0 0) ↔ ((σ : List Map) → AfterMaps P S σ → ⊥)) ⌝ }
+    ensures too_large { λ n. ⌜ ((P : Program) (S : Split) → Fillable (length (now (work .entry))) (now (program .entry)) (now (split .entry)) P S → (numbers4 n (now («length_or_line» .exit)) (now (condition .exit)) (now (location .exit)) ≡ numbers4 42 0 0 0) ↔ GreatestOverLimits (length (now (out .entry))) P S) ⌝ }
     ensures greatest { λ n. ⌜ (n ≡ 0 → FilledSheet (length (now (work .entry))) (length (now (out .entry))) (now (program .entry)) (now (split .entry)) (take (now («length_or_line» .exit)) (now (out .exit)))) ⌝ }
     ensures accepted { λ n. ⌜ (n ≡ 0 → verdict (length (now (work .entry))) (now (program .entry)) (take (now («length_or_line» .exit)) (now (out .exit))) ≡ Accept) ⌝ }
 {

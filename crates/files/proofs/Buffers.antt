@@ -6,7 +6,7 @@ use Prim.Native.Nat.{ℕ, _≤_, _<_}
 use native.Mathlib.Omega.{arith}
 use lib.ListN.{length, take, drop, length-take}
 use lib.Seq.{length-take-le, take-append-seam, take-append-le, take-take}
-use Rattle.writer.specs.Buffer.{Written}
+use Rattle.writer.specs.Buffer.{WrittenAt}
 use Rattle.writer.proofs.Buffer.{overwrite-front}
 use Rattle.files.specs.Files.{Within, textIn, InFront}
 use Rattle.files.specs.declared.Contents.{Contents}
@@ -31,7 +31,7 @@ pub front : {text : List ℕ} {n : ℕ} (buffer : List ℕ) → n ≡ length tex
 front {n = n} buffer e h = record { within = omega (arith, length-take n buffer, ap length h, e); are = h }
 
 -- a line of at most m bytes that is written in front of a buffer with room for them
-pub line-in-front : {line : List ℕ} {n : ℕ} (m : ℕ) (before after : List ℕ) → Written before after 0 line n → n ≤ m → m ≤ length before → m < 18446744073709551615
+pub line-in-front : {line : List ℕ} {n : ℕ} (m : ℕ) (before after : List ℕ) → WrittenAt before after 0 line n → n ≤ m → m ≤ length before → m < 18446744073709551615
     → InFront line n after
 line-in-front {line} {n} m before after w short room small =
     let long : n ≡ length line = omega (arith, w .moved, short, small) in

@@ -4,6 +4,6 @@ pub mod Column
 pub mod SoFar
 pub mod Made
 pub mod Whole
-pub mod Told
+pub mod Sound
 pub mod Stages
 pub mod Promises

@@ -40,14 +40,14 @@ stored-still : {w w′ ps : List ℕ} {maps l j : ℕ} → OneColumn maps l w w�
 stored-still {maps = maps} O h n C = record { at = λ i k. O .others (maps + i) _ h n ∙ C .at i k }
 
 -- the maps that a header counts
-pub maps-told : (S : Split) (h : Header) → S .header ≡ h → h .maps ≡ S .header .maps
-maps-told S h e = sym (ap (λ H. H .maps) e)
+pub maps-sound : (S : Split) (h : Header) → S .header ≡ h → h .maps ≡ S .header .maps
+maps-sound S h e = sym (ap (λ H. H .maps) e)
 
 module _ {w₀ w : List ℕ} {header : Header} {steps procedures : ℕ} where
   pub holds-still : ChangedWithin (mapsAt + stride * header .maps) (mapsAt + stride * emptyMap) w₀ w → {P : Program} {S : Split}
       → HoldsBoth w₀ header steps procedures P S → HoldsBoth w header steps procedures P S
   holds-still c {P} {S} H = record {
-    sheets = sheets-kept c (omega (arith, maps-told S header (H .headed))) (omega (arith, steps-few P (H .sheets .wellFormed), H .sheets .stepsCounted))
+    sheets = sheets-kept c (omega (arith, maps-sound S header (H .headed))) (omega (arith, steps-few P (H .sheets .wellFormed), H .sheets .stepsCounted))
         (omega (arith, procedures-few P (H .sheets .wellFormed), H .sheets .proceduresCounted)) (H .sheets);
     headed = H .headed;
   }

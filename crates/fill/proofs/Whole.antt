@@ -33,7 +33,7 @@ use Rattle.fill.specs.FilledMaps.{FilledMaps}
 use Rattle.fill.specs.Columns.{ColumnStored, ColumnFilled, PostsShown}
 use Rattle.fill.proofs.Column.{posts-counted}
 use Rattle.fill.proofs.Made.{made, made-number, columns-small, column-over}
-use Rattle.fill.proofs.SoFar.{SoFar, maps-told, holds-still}
+use Rattle.fill.proofs.SoFar.{SoFar, maps-sound, holds-still}
 
 -- ------------------------------------------------------------------ rows
 
@@ -56,7 +56,7 @@ module _ (w w′ : List ℕ) (header : Header) (steps procedures : ℕ) (P : Pro
     (counted : length γ ≡ length (P .steps)) (wide : (i : ℕ) → i < length γ → length (getD γ i []) ≡ S .header .locations)
     (stands : (i : ℕ) → i < length γ → (j : ℕ) → j < S .header .locations → mapCell w (record { 0 = header .maps + i }) j ≡ getD (getD γ i []) j 0) where
   maps-given : header .maps ≡ S .header .maps
-  maps-given = maps-told S header (H .headed)
+  maps-given = maps-sound S header (H .headed)
 
   steps-within : length (P .steps) ≤ 256
   steps-within = steps-few P (H .sheets .wellFormed)

@@ -4,23 +4,23 @@ use mathlib.Core.List.{List}
 use Prim.Native.Nat.{ℕ, _+_, _≤_, min}
 use lib.Dec.{leb}
 use lib.ListN.{length}
-use Rattle.spec.specs.Reading.{Out, on, _>>=_, demand}
+use Rattle.spec.specs.Reading.{Result, ok, _>>=_, require}
 use Rattle.spec.specs.Program.{Program}
 use Rattle.spec.specs.Split.{Split, splitLimit}
-use Rattle.spec.specs.Verdict.{locksTakeEnough, startAtMostOne, typed}
+use Rattle.spec.specs.Verdict.{locksTakeEnough, startAtMostOne, typeConditionsHold}
 use Rattle.spec.specs.declared.Refusal.the-variants.{TooLarge, TooManyMaps}
 use Rattle.workspace.specs.Layout.{workSize}
 use Rattle.spec.specs.declared.Header.{Header}
 use Rattle.workspace.specs.Sheets.{Small}
 use Rattle.reading.specs.Answers.{HoldsBoth}
-use Rattle.written.specs.Sheet.{written}
+use Rattle.written.specs.Sheet.{sheetText}
 use Rattle.split_writer.specs.Contract.{HoldsSheet}
 use Rattle.fill_theory.specs.Answer.{givenLimit, filledText, returnedFor, bufferAfter}
 use Rattle.fill.specs.declared.Filled.{Filled}
 use Rattle.fill.specs.Numbers.{returnedBy}
 
 -- the four numbers, and the buffer before and after, are those of an outcome
-pub record Tells (outcome : Out (List ℕ)) (before after : List ℕ) (f : Filled) : Type 0 where
+pub record OutcomePost (outcome : Result (List ℕ)) (before after : List ℕ) (f : Filled) : Type 0 where
   pub numbers : returnedBy f ≡ returnedFor outcome
   pub buffer : after ≡ bufferAfter outcome before
 
@@ -36,13 +36,13 @@ grownBy steps header = record {
 }
 
 -- 42 by length, else the text
-unfoldable pub fitted : (buffer : ℕ) → List ℕ → Out (List ℕ)
-fitted buffer text = demand (leb (length text) (min splitLimit buffer)) TooLarge >>= λ short. on text
+unfoldable pub fitted : (buffer : ℕ) → List ℕ → Result (List ℕ)
+fitted buffer text = require (leb (length text) (min splitLimit buffer)) TooLarge >>= λ short. ok text
 
 -- the sheet of whichever split the work space holds
-abbrev pub SheetTold : (w : List ℕ) (header : Header) (steps procedures : ℕ) (before after : List ℕ) → Filled → Type 0
-SheetTold w header steps procedures before after f =
-    (S : Split) → HoldsSheet w header procedures steps S → Tells (fitted (length before) (written S)) before after f
+abbrev pub SheetPost : (w : List ℕ) (header : Header) (steps procedures : ℕ) (before after : List ℕ) → Filled → Type 0
+SheetPost w header steps procedures before after f =
+    (S : Split) → HoldsSheet w header procedures steps S → OutcomePost (fitted (length before) (sheetText S)) before after f
 
 -- the work space has its size and holds both sheets, of so many steps and procedures and with this header
 pub record SheetsGiven (w : List ℕ) (header : Header) (steps procedures : ℕ) : Type 0 where
@@ -60,19 +60,19 @@ pub record MapsGiven (w : List ℕ) (header : Header) (steps procedures : ℕ) :
   pub fewMaps : header .maps ≤ 256
 
 -- 41 and 42, for whichever sheets the work space holds
-abbrev pub TextTold : (w : List ℕ) (header : Header) (steps procedures : ℕ) (before after : List ℕ) → Filled → Type 0
-TextTold w header steps procedures before after f =
-    (P : Program) (S : Split) → HoldsBoth w header steps procedures P S → Tells (filledText (length before) P S) before after f
+abbrev pub TextPost : (w : List ℕ) (header : Header) (steps procedures : ℕ) (before after : List ℕ) → Filled → Type 0
+TextPost w header steps procedures before after f =
+    (P : Program) (S : Split) → HoldsBoth w header steps procedures P S → OutcomePost (filledText (length before) P S) before after f
 
 -- 43, 44, 30, 31, 41 and 42
-unfoldable pub afterReading : (buffer : ℕ) → Program → Split → Out (List ℕ)
+unfoldable pub afterReading : (buffer : ℕ) → Program → Split → Result (List ℕ)
 afterReading buffer P S = do
-  few ← demand (leb (S .header .maps) givenLimit) TooManyMaps
+  few ← require (leb (S .header .maps) givenLimit) TooManyMaps
   locks ← locksTakeEnough S
   whole ← startAtMostOne P S
-  typesHold ← typed P S
+  typesHold ← typeConditionsHold P S
   filledText buffer P S
 
-abbrev pub SheetsTold : (w : List ℕ) (header : Header) (steps procedures : ℕ) (before after : List ℕ) → Filled → Type 0
-SheetsTold w header steps procedures before after f =
-    (P : Program) (S : Split) → HoldsBoth w header steps procedures P S → Tells (afterReading (length before) P S) before after f
+abbrev pub SheetsPost : (w : List ℕ) (header : Header) (steps procedures : ℕ) (before after : List ℕ) → Filled → Type 0
+SheetsPost w header steps procedures before after f =
+    (P : Program) (S : Split) → HoldsBoth w header steps procedures P S → OutcomePost (afterReading (length before) P S) before after f

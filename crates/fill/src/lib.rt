@@ -16,7 +16,7 @@ ghost use Prim.Native.Nat.{_≤_};
 ghost use lib.ListN.{length, take};
 ghost use Rattle.spec.specs.Program.{Program};
 ghost use Rattle.spec.specs.Split.{Map, Split};
-ghost use Rattle.spec.specs.Verdict.{verdict, four};
+ghost use Rattle.spec.specs.Verdict.{verdict, numbers4};
 ghost use Rattle.spec.specs.Workspace.{workspaceSize, workspaceAfter};
 ghost use Rattle.spec.specs.declared.Answer.the-variants.{Accept};
 ghost use Rattle.fill_theory.specs.AfterMaps.{AfterMaps};
@@ -24,7 +24,7 @@ ghost use Rattle.fill_theory.specs.Answer.{fill as filling, returnedFor, buffer
 ghost use Rattle.split_writer.specs.Contract.{HoldsSome as HoldsSheetOfSome};
 ghost use Rattle.workspace.specs.Layout.{workSize};
 ghost use Rattle.fill.specs.Numbers.{returnedBy};
-ghost use Rattle.fill.specs.Stages.{Tells, grownBy, SheetsGiven, MapsGiven, SheetTold, TextTold, SheetsTold};
+ghost use Rattle.fill.specs.Stages.{OutcomePost, grownBy, SheetsGiven, MapsGiven, SheetPost, TextPost, SheetsPost};
 
 // The most bytes that a split sheet may have.
 const SPLIT_LIMIT: usize = 65536;
@@ -64,7 +64,7 @@ fn write_filled(
     out: &mut [u8],
 ) -> Filled
     requires { ⌜ HoldsSheetOfSome (now work) header procedures steps ⌝ }
-    ensures { λ f. ⌜ SheetTold (now (work .entry)) header steps procedures (now (out .entry)) (now (out .exit)) f ⌝ }
+    ensures { λ f. ⌜ SheetPost (now (work .entry)) header steps procedures (now (out .entry)) (now (out .exit)) f ⌝ }
 {
     let mut nothing = [0u8; 0];
     let length = write_sheet(&mut nothing, work, header, procedures, steps);
@@ -87,7 +87,7 @@ fn fill_held(
     out: &mut [u8],
 ) -> Filled
     requires { ⌜ MapsGiven (now work) header steps procedures ⌝ }
-    ensures { λ f. ⌜ TextTold (now (work .entry)) header steps procedures (now (out .entry)) (now (out .exit)) f ⌝ }
+    ensures { λ f. ⌜ TextPost (now (work .entry)) header steps procedures (now (out .entry)) (now (out .exit)) f ⌝ }
 {
     match fill_maps(work, header, steps, procedures) {
         Found::Nothing => Filled::Refused(Refusal::NoAfterMaps),
@@ -108,21 +108,21 @@ fn fill_sheets(
     out: &mut [u8],
 ) -> Filled
     requires { ⌜ SheetsGiven (now work) header steps procedures ⌝ }
-    ensures { λ f. ⌜ SheetsTold (now (work .entry)) header steps procedures (now (out .entry)) (now (out .exit)) f ⌝ }
+    ensures { λ f. ⌜ SheetsPost (now (work .entry)) header steps procedures (now (out .entry)) (now (out .exit)) f ⌝ }
 {
     if GIVEN_LIMIT < header.maps {
         return Filled::Refused(Refusal::TooManyMaps);
     }
-    match walk::rule(work, Purpose::Fill, steps, procedures, header) {
+    match walk::check(work, Purpose::Fill, steps, procedures, header) {
         Ruling::Refused(r) => Filled::Refused(r),
-        Ruling::Met => fill_held(work, header, steps, procedures, out),
+        Ruling::Holds => fill_held(work, header, steps, procedures, out),
     }
 }
 
 // The answer to a pair of texts, in a work space that is as long as document 01 wants.
 fn fill_texts(program: &[u8], split: &[u8], work: &mut [u32], out: &mut [u8]) -> Filled
     requires { ⌜ length (now work) ≡ workSize ⌝ }
-    ensures { λ f. ⌜ Tells (filling workspaceSize (length (now (out .entry))) (now (program .entry)) (now (split .entry))) (now (out .entry)) (now (out .exit)) f ⌝ }
+    ensures { λ f. ⌜ OutcomePost (filling workspaceSize (length (now (out .entry))) (now (program .entry)) (now (split .entry))) (now (out .entry)) (now (out .exit)) f ⌝ }
 {
     match reading::read(program, split, Purpose::Fill, work) {
         Reading::Refused(r) => Filled::Refused(r),
@@ -152,8 +152,8 @@ pub fn fill(program: &[u8], split: &[u8], work: &mut [u32], out: &mut [u8]) -> F
     ensures written { λ f. ⌜ now (out .exit) ≡ bufferAfter (filling (length (now (work .entry))) (length (now (out .entry))) (now (program .entry)) (now (split .entry))) (now (out .entry)) ⌝ }
     ensures cleared { λ f. ⌜ now (work .exit) ≡ workspaceAfter (now (work .entry)) ⌝ }
     ensures unchanged { λ f. ⌜ (now (program .exit) ≡ now (program .entry)) × (now (split .exit) ≡ now (split .entry)) ⌝ }
-    ensures solvable { λ f. ⌜ ((P : Program) (S : Split) → Fillable (length (now (work .entry))) (now (program .entry)) (now (split .entry)) P S → (returnedBy f ≡ four 41 0 0 0) ↔ ((σ : List Map) → AfterMaps P S σ → ⊥)) ⌝ }
-    ensures too_large { λ f. ⌜ ((P : Program) (S : Split) → Fillable (length (now (work .entry))) (now (program .entry)) (now (split .entry)) P S → (returnedBy f ≡ four 42 0 0 0) ↔ GreatestOverLimits (length (now (out .entry))) P S) ⌝ }
+    ensures solvable { λ f. ⌜ ((P : Program) (S : Split) → Fillable (length (now (work .entry))) (now (program .entry)) (now (split .entry)) P S → (returnedBy f ≡ numbers4 41 0 0 0) ↔ ((σ : List Map) → AfterMaps P S σ → ⊥)) ⌝ }
+    ensures too_large { λ f. ⌜ ((P : Program) (S : Split) → Fillable (length (now (work .entry))) (now (program .entry)) (now (split .entry)) P S → (returnedBy f ≡ numbers4 42 0 0 0) ↔ GreatestOverLimits (length (now (out .entry))) P S) ⌝ }
     ensures greatest { λ f. ⌜ (returnedBy f .number ≡ 0 → FilledSheet (length (now (work .entry))) (length (now (out .entry))) (now (program .entry)) (now (split .entry)) (take (returnedBy f .line) (now (out .exit)))) ⌝ }
     ensures accepted { λ f. ⌜ (returnedBy f .number ≡ 0 → verdict (length (now (work .entry))) (now (program .entry)) (take (returnedBy f .line) (now (out .exit))) ≡ Accept) ⌝ }
 {

@@ -11,12 +11,12 @@ use native.Mathlib.Omega.{arith}
 use native.Mathlib.Decide.{decLe}
 use lib.ListN.{length, getD}
 use borrow.Author.Tests.{leb-true}
-use Rattle.spec.specs.Reading.{Out, stop, on}
+use Rattle.spec.specs.Reading.{Result, refuse, ok}
 use Rattle.spec.specs.Program.{Program, program, programLimit}
 use Rattle.spec.specs.Split.{Map, Split, split, splitLimit}
 use Rattle.spec.specs.Maps.{share}
 use Rattle.spec.specs.Workspace.{workspaceSize}
-use Rattle.spec.specs.Verdict.{typed, answer, verdict, four, returned}
+use Rattle.spec.specs.Verdict.{typeConditionsHold, answer, verdict, numbers4, returned}
 use Rattle.spec.specs.declared.Purpose.the-variants.{Check, Fill}
 use Rattle.spec.specs.declared.Answer.the-variants.{Accept, Refuse}
 use Rattle.spec.specs.declared.Refusal.the-variants.{NoAfterMaps, TooLarge}
@@ -28,7 +28,7 @@ use Rattle.spec.proofs.Reached.{start-at-most-one, at-most-one-start}
 use Rattle.spec.proofs.Locks.{locks-take-enough, enough-taken}
 use Rattle.spec.proofs.Reasons.{rules-decide}
 use Rattle.spec.proofs.Claims.{none-false-all-hold, all-hold-none-false}
-use Rattle.written.specs.Sheet.{written}
+use Rattle.written.specs.Sheet.{sheetText}
 use Rattle.fill_theory.specs.Filled.{filled}
 use Rattle.fill_theory.specs.AfterMaps.{typeClaims, AfterMaps, GreatestMaps}
 use Rattle.fill_theory.specs.GreatestMaps.{greatestMaps}
@@ -41,8 +41,8 @@ use Rattle.fill_theory.proofs.Filling.{solvable, found-exactly-greatest
 -- ------------------------------------------------------------------ refusals
 
 -- 42 is not 41
-too-large-is-not-none : {C : Type 0} → _≡_ {A = Out (List ℕ)} (stop TooLarge) (stop NoAfterMaps) → C
-unfolding returned four
+too-large-is-not-none : {C : Type 0} → _≡_ {A = Result (List ℕ)} (refuse TooLarge) (refuse NoAfterMaps) → C
+unfolding returned numbers4
 too-large-is-not-none h =
     let clash : _≡_ {A = ℕ} 42 41 = ap (λ r. returned (Refuse r) .number) (stop-injective h) in
     absurd (omega (arith, clash))
@@ -50,13 +50,13 @@ too-large-is-not-none h =
 -- ------------------------------------------------------------------ the answer
 
 -- 41, 42 or a text
-pub data Decided : Out (List ℕ) → Type 0 where
-  refusedUnsolvable : Decided (stop NoAfterMaps)
-  refusedTooLarge : Decided (stop TooLarge)
-  wroteText : (t : List ℕ) → Decided (on t)
+pub data Decided : Result (List ℕ) → Type 0 where
+  refusedUnsolvable : Decided (refuse NoAfterMaps)
+  refusedTooLarge : Decided (refuse TooLarge)
+  wroteText : (t : List ℕ) → Decided (ok t)
 
 module _ (buffer : ℕ) (P : Program) (S : Split) where
-  abbrev text : Out (List ℕ)
+  abbrev text : Result (List ℕ)
   text = filledText buffer P S
 
   -- no maps keep the limits and go over one
@@ -68,17 +68,17 @@ module _ (buffer : ℕ) (P : Program) (S : Split) where
 
   -- once the greatest maps are found, the split with them is written, or it goes over a limit
   Settled : List Map → Type 0
-  Settled γ = (WithinLimits buffer S γ × (text ≡ on (written (filled S γ)))) ⊎ (OverLimits buffer S γ × (text ≡ stop TooLarge))
+  Settled γ = (WithinLimits buffer S γ × (text ≡ ok (sheetText (filled S γ)))) ⊎ (OverLimits buffer S γ × (text ≡ refuse TooLarge))
 
   settled : (γ : List Map) → greatestMaps P S ≡ some γ → Settled γ
   unfolding Settled numberLimit splitLimit share
-  settled γ e = go (allAtMost numberLimit γ) refl (decLe (length (written (filled S γ))) (min splitLimit buffer))
+  settled γ e = go (allAtMost numberLimit γ) refl (decLe (length (sheetText (filled S γ))) (min splitLimit buffer))
     where
-      too-long : Dec (length (written (filled S γ)) ≤ buffer) → (length (written (filled S γ)) ≤ min splitLimit buffer → ⊥) → OverLimits buffer S γ
+      too-long : Dec (length (sheetText (filled S γ)) ≤ buffer) → (length (sheetText (filled S γ)) ≤ min splitLimit buffer → ⊥) → OverLimits buffer S γ
       too-long (yes room) long = longSheet (omega (arith, long))
       too-long (no room) long = shortBuffer (omega (arith, room))
 
-      go : (b : Bool) → allAtMost numberLimit γ ≡ b → Dec (length (written (filled S γ)) ≤ min splitLimit buffer) → Settled γ
+      go : (b : Bool) → allAtMost numberLimit γ ≡ b → Dec (length (sheetText (filled S γ)) ≤ min splitLimit buffer) → Settled γ
       go false large d =
           let (i, l, above) = some-above numberLimit γ large in
           inr (largeNumber i (record { 0 = l }) above, large-number buffer P S γ e large)
@@ -88,21 +88,21 @@ module _ (buffer : ℕ) (P : Program) (S : Split) where
             text-written buffer P S γ e small short,
           )
       go true small (no long) =
-          inr (too-long (decLe (length (written (filled S γ))) buffer) long, long-text buffer P S γ e small (omega (arith, long)))
+          inr (too-long (decLe (length (sheetText (filled S γ))) buffer) long, long-text buffer P S γ e small (omega (arith, long)))
 
-  within-limits : (γ : List Map) → greatestMaps P S ≡ some γ → WithinLimits buffer S γ → text ≡ on (written (filled S γ))
+  within-limits : (γ : List Map) → greatestMaps P S ≡ some γ → WithinLimits buffer S γ → text ≡ ok (sheetText (filled S γ))
   unfolding Settled
   within-limits γ e limits = ⊎-elim (λ w. w .1) (λ o. absurd (not-over γ limits (o .0))) (settled γ e)
 
-  over-limits : (γ : List Map) → greatestMaps P S ≡ some γ → OverLimits buffer S γ → text ≡ stop TooLarge
+  over-limits : (γ : List Map) → greatestMaps P S ≡ some γ → OverLimits buffer S γ → text ≡ refuse TooLarge
   unfolding Settled
   over-limits γ e over = ⊎-elim (λ w. absurd (not-over γ (w .0) over)) (λ o. o .1) (settled γ e)
 
-  refused-over : (γ : List Map) → greatestMaps P S ≡ some γ → text ≡ stop TooLarge → OverLimits buffer S γ
+  refused-over : (γ : List Map) → greatestMaps P S ≡ some γ → text ≡ refuse TooLarge → OverLimits buffer S γ
   unfolding Settled
   refused-over γ e h = ⊎-elim (λ w. stop-is-not-on (sym h ∙ w .1)) (λ o. o .0) (settled γ e)
 
-  found-not-refused : {C : Type 0} (γ : List Map) → greatestMaps P S ≡ some γ → text ≡ stop NoAfterMaps → C
+  found-not-refused : {C : Type 0} (γ : List Map) → greatestMaps P S ≡ some γ → text ≡ refuse NoAfterMaps → C
   unfolding Settled
   found-not-refused γ e h = ⊎-elim (λ w. stop-is-not-on (sym h ∙ w .1)) (λ o. too-large-is-not-none (sym (o .1) ∙ h)) (settled γ e)
 
@@ -113,26 +113,26 @@ module _ (buffer : ℕ) (P : Program) (S : Split) where
       go : (o : Option (List Map)) → greatestMaps P S ≡ o → Decided text
       go none e = along Decided (sym (no-after-maps buffer P S e)) refusedUnsolvable
       go (some γ) e =
-          ⊎-elim (λ w. along Decided (sym (w .1)) (wroteText (written (filled S γ)))) (λ o. along Decided (sym (o .1)) refusedTooLarge) (settled γ e)
+          ⊎-elim (λ w. along Decided (sym (w .1)) (wroteText (sheetText (filled S γ)))) (λ o. along Decided (sym (o .1)) refusedTooLarge) (settled γ e)
 
   -- a text that is written, and what it has
-  text-has : (t : List ℕ) → text ≡ on t
-      → (γ : List Map) × (greatestMaps P S ≡ some γ) × WithinLimits buffer S γ × (t ≡ written (filled S γ))
+  text-has : (t : List ℕ) → text ≡ ok t
+      → (γ : List Map) × (greatestMaps P S ≡ some γ) × WithinLimits buffer S γ × (t ≡ sheetText (filled S γ))
   unfolding Settled
   text-has t h = go (greatestMaps P S) refl
     where
       go : (o : Option (List Map)) → greatestMaps P S ≡ o
-          → (γ : List Map) × (greatestMaps P S ≡ some γ) × WithinLimits buffer S γ × (t ≡ written (filled S γ))
+          → (γ : List Map) × (greatestMaps P S ≡ some γ) × WithinLimits buffer S γ × (t ≡ sheetText (filled S γ))
       go none e = stop-is-not-on (sym (no-after-maps buffer P S e) ∙ h)
       go (some γ) e = ⊎-elim (λ w. (γ, e, w .0, on-injective (sym h ∙ w .1))) (λ o. stop-is-not-on (sym (o .1) ∙ h)) (settled γ e)
 
 module _ (room buffer : ℕ) (p s : List ℕ) where
-  abbrev answered : Out (List ℕ)
+  abbrev answered : Result (List ℕ)
   answered = fill room buffer p s
 
   -- 41 and 42 decide once all that is judged before them is passed
   pub fillable-decides : (P : Program) (S : Split) → Fillable room p s P S → answered ≡ filledText buffer P S
-  unfolding workspaceSize programLimit splitLimit typed typeClaims
+  unfolding workspaceSize programLimit splitLimit typeConditionsHold typeClaims
   fillable-decides P S F =
       locks-decide room buffer p s (F .enough) P S (well-formed-sheets Fill p s (F .judgeable .sheets)) (F .few)
       ∙ goes-on-bind _ _ (enough-taken S (F .judgeable .locks))
@@ -143,9 +143,9 @@ module _ (room buffer : ℕ) (p s : List ℕ) where
   fillable-decided P S F = along Decided (sym (fillable-decides P S F)) (filled-decided buffer P S)
 
   -- a text is written only then
-  written-fillable : {t : List ℕ} → answered ≡ on t
-      → (P : Program) × (S : Split) × Fillable room p s P S × (filledText buffer P S ≡ on t)
-  unfolding fill typed typeClaims
+  written-fillable : {t : List ℕ} → answered ≡ ok t
+      → (P : Program) × (S : Split) × Fillable room p s P S × (filledText buffer P S ≡ ok t)
+  unfolding fill typeConditionsHold typeClaims
   written-fillable h =
       let (_, enough, r₁) = bind-goes-on _ _ h in
       let ((P, S), reads, r₂) = bind-goes-on _ _ r₁ in
@@ -170,7 +170,7 @@ module _ (room buffer : ℕ) (p s : List ℕ) where
 
   -- "41 if no such maps exist"
   pub refused-exactly-unsolvable : (P : Program) (S : Split) → Fillable room p s P S
-      → (answered ≡ stop NoAfterMaps) ↔ ((σ : List Map) → AfterMaps P S σ → ⊥)
+      → (answered ≡ refuse NoAfterMaps) ↔ ((σ : List Map) → AfterMaps P S σ → ⊥)
   refused-exactly-unsolvable P S F = rw (fillable-decides P S F) (
     λ h σ A. let (γ, e) = solves .1 (σ, A) in found-not-refused buffer P S γ e h,
     λ unsolvable. no-after-maps buffer P S (go (greatestMaps P S) refl unsolvable),
@@ -188,19 +188,19 @@ module _ (room buffer : ℕ) (p s : List ℕ) where
 
   -- "42 if the greatest has a number above 1,000,000,000 or the filled sheet is over 65,536 bytes or over the buffer"
   pub refused-exactly-too-large : (P : Program) (S : Split) → Fillable room p s P S
-      → (answered ≡ stop TooLarge) ↔ GreatestOverLimits buffer P S
+      → (answered ≡ refuse TooLarge) ↔ GreatestOverLimits buffer P S
   refused-exactly-too-large P S F = rw (fillable-decides P S F) (
     λ h. found (greatestMaps P S) refl h,
     λ G. over-limits buffer P S (G .γ) (greatest P S F (G .γ) .1 (G .greatest)) (G .over),
   )
     where
-      found : (o : Option (List Map)) → greatestMaps P S ≡ o → filledText buffer P S ≡ stop TooLarge
+      found : (o : Option (List Map)) → greatestMaps P S ≡ o → filledText buffer P S ≡ refuse TooLarge
           → GreatestOverLimits buffer P S
       found none e h = too-large-is-not-none (sym h ∙ no-after-maps buffer P S e)
       found (some γ) e h = record { γ = γ; greatest = greatest P S F γ .0 e; over = refused-over buffer P S γ e h }
 
   -- "It is written exactly when .., apart from the size limits": with the greatest after-maps
-  pub written-exactly : (t : List ℕ) → answered ≡ on t ↔ FilledSheet room buffer p s t
+  pub written-exactly : (t : List ℕ) → answered ≡ ok t ↔ FilledSheet room buffer p s t
   written-exactly t = (
     λ h.
         let (P, S, F, e) = written-fillable h in
@@ -210,12 +210,12 @@ module _ (room buffer : ℕ) (p s : List ℕ) where
         let F = W .fillable in
         fillable-decides (W .P) (W .S) F
         ∙ within-limits buffer (W .P) (W .S) (W .γ) (greatest (W .P) (W .S) F (W .γ) .1 (W .greatest)) (W .limits)
-        ∙ ap on (sym (W .isText)),
+        ∙ ap ok (sym (W .isText)),
   )
 
   -- "The filled pair must be accepted"
-  pub written-accepted : (t : List ℕ) → answered ≡ on t → verdict room p t ≡ Accept
-  unfolding answer workspaceSize programLimit splitLimit givenLimit typed typeClaims
+  pub written-accepted : (t : List ℕ) → answered ≡ ok t → verdict room p t ≡ Accept
+  unfolding answer workspaceSize programLimit splitLimit givenLimit typeConditionsHold typeClaims
   written-accepted t h =
       let W = written-exactly t .0 h in
       let F = W .fillable in

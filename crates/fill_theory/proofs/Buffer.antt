@@ -4,15 +4,15 @@ use mathlib.Core.List.{List, _++_}
 use Prim.Native.Nat.{ℕ}
 use lib.ListN.{length, drop}
 use lib.Seq.{drop-append-seam}
-use Rattle.spec.specs.Reading.{stop, on}
+use Rattle.spec.specs.Reading.{refuse, ok}
 use Rattle.spec.specs.declared.Refusal.{Refusal}
 use Rattle.written.specs.Text.{inFront}
 use Rattle.fill_theory.specs.Answer.{bufferAfter}
 
-pub refusal-keeps : (r : Refusal) (buffer : List ℕ) → bufferAfter (stop r) buffer ≡ buffer
+pub refusal-keeps : (r : Refusal) (buffer : List ℕ) → bufferAfter (refuse r) buffer ≡ buffer
 unfolding bufferAfter
 refusal-keeps r buffer = refl
 
-pub text-in-front : (text front rest : List ℕ) → length front ≡ length text → bufferAfter (on text) (front ++ rest) ≡ text ++ rest
+pub text-in-front : (text front rest : List ℕ) → length front ≡ length text → bufferAfter (ok text) (front ++ rest) ≡ text ++ rest
 unfolding bufferAfter inFront
 text-in-front text front rest e = ap (text ++_) (ap (λ n. drop n (front ++ rest)) (sym e) ∙ drop-append-seam front rest)

@@ -15,7 +15,7 @@ use Rattle.spec.specs.Expression.{Step, Position, Expr, leaf, unary, binary, si
 use Rattle.spec.specs.Split.{Map, Split, mapAt}
 use Rattle.spec.specs.Maps.{_≥ᵐ_, share}
 use Rattle.spec.specs.Conditions.{Env, type, post, bodyStart, keptBack, startMap, signature, conditionsBy, conditionsOf, procedureConditions}
-use Rattle.spec.specs.Sites.{Site, NumberedCondition, sites, numbered, claimsAt, claims, bodySites, claimsOfProcedure, claimsOfProcedures, isFlow, only}
+use Rattle.spec.specs.StepContexts.{StepContext, NumberedCondition, stepContexts, numbered, claimsAt, claims, bodyStepContexts, claimsOfProcedure, claimsOfProcedures, isFlow, only}
 use Rattle.spec.specs.WellFormed.{NumberedFrom}
 use Rattle.spec.specs.FirstFalse.{Holds, AllHold}
 use Rattle.spec.specs.declared.Location.{Location}
@@ -27,8 +27,8 @@ use Rattle.spec.specs.declared.UnaryWord.the-variants.{While, Join, Ref, Read, 
 use Rattle.spec.specs.declared.BinaryWord.{BinaryWord}
 use Rattle.spec.specs.declared.BinaryWord.the-variants.{Let, If, Spawn, Write}
 use Rattle.spec.proofs.Claims.{step-parts, parts-step, both-parts, parts-both}
-use Rattle.fill_theory.specs.Flow.{unchanged, taking, giving, needing, lending, Flow, inTurn, branch, fork, unaryFlow, binaryFlow, Turns, Passes, Root, RootsPass}
-use Rattle.fill_theory.specs.FlowOf.{loops, moving, effectOf, partWay, binaryWay, beforeHere, afterHere, hasHere, givenHere, callHere, flowOf, rootsFrom}
+use Rattle.fill_theory.specs.Flow.{unchanged, taking, giving, needing, lending, Flow, inTurn, branch, fork, unaryFlow, binaryFlow, Applies, Passes, Root, RootsPass}
+use Rattle.fill_theory.specs.FlowOf.{loops, moving, effectOf, partTransfer, binaryTransfer, beforeHere, afterHere, hasHere, givenHere, callHere, flowOf, rootsFrom}
 use Rattle.fill_theory.specs.declared.Effect.{Effect}
 use Rattle.fill_theory.proofs.Locations.{Everywhere, Known, together, lastly, restated, three, least-everywhere, sums, keeps, gives, takes, lends, needs}
 use Rattle.fill_theory.proofs.Sorts.{AllAt, OwnAt, only-parts, parts-only, sort-each}
@@ -42,7 +42,7 @@ module _ {ss : List Step} {S : Split} {σ : List Map} {T : Split} (G : Showing s
   abbrev L : ℕ
   L = S .header .locations
 
-  abbrev AllFlow : List Site → Type 0
+  abbrev AllFlow : List StepContext → Type 0
   AllFlow = AllAt isFlow T
 
   abbrev OwnFlow : Env → Map → Expr → Type 0
@@ -51,15 +51,15 @@ module _ {ss : List Step} {S : Split} {σ : List Map} {T : Split} (G : Showing s
   -- ------------------------------------------------------------------ a step and its parts
 
   module _ (Γ : Env) (pre : Map) {A : Location → Type 0} where
-    no-part : (w : LeafWord) (k : Position) (v : ℕ) → OwnFlow Γ pre (leaf w k v) ↔ Everywhere L A → AllFlow (sites T Γ pre (leaf w k v)) ↔ Everywhere L A
-    unfolding sites AllHold claims only
+    no-part : (w : LeafWord) (k : Position) (v : ℕ) → OwnFlow Γ pre (leaf w k v) ↔ Everywhere L A → AllFlow (stepContexts T Γ pre (leaf w k v)) ↔ Everywhere L A
+    unfolding stepContexts AllHold claims only
     no-part w k v owns = (λ h. owns .0 (step-parts (sort-each isFlow) T _ [] h .0), λ h. parts-step (sort-each isFlow) T _ [] (owns .1 h) tt)
 
     one-part : {B : Location → Type 0} (w : UnaryWord) (k : Position) (v : ℕ) (e₁ : Expr)
-        → AllFlow (sites T Γ (preOfPart w pre (post T (unary w k v e₁))) e₁) ↔ Everywhere L A
+        → AllFlow (stepContexts T Γ (preOfPart w pre (post T (unary w k v e₁))) e₁) ↔ Everywhere L A
         → OwnFlow Γ pre (unary w k v e₁) ↔ Everywhere L B
-        → AllFlow (sites T Γ pre (unary w k v e₁)) ↔ Everywhere L (λ p. A p × B p)
-    unfolding sites
+        → AllFlow (stepContexts T Γ pre (unary w k v e₁)) ↔ Everywhere L (λ p. A p × B p)
+    unfolding stepContexts
     one-part w k v e₁ a owns =
         let both = together a owns in (
           λ h. let s = step-parts (sort-each isFlow) T _ _ h in both .0 (s .1, s .0),
@@ -67,20 +67,20 @@ module _ {ss : List Step} {S : Split} {σ : List Map} {T : Split} (G : Showing s
         )
 
     two-parts : {B C : Location → Type 0} (w : BinaryWord) (k : Position) (v : ℕ) (e₁ e₂ : Expr)
-        → AllFlow (sites T Γ pre e₁) ↔ Everywhere L A
-        → AllFlow (sites T (binding (role (Binary w)) (v, type T e₁) Γ) (preOfSecond w pre (post T e₁) (bodyStart T (binary w k v e₁ e₂))) e₂) ↔ Everywhere L B
+        → AllFlow (stepContexts T Γ pre e₁) ↔ Everywhere L A
+        → AllFlow (stepContexts T (binding (role (Binary w)) (v, type T e₁) Γ) (preOfSecond w pre (post T e₁) (bodyStart T (binary w k v e₁ e₂))) e₂) ↔ Everywhere L B
         → OwnFlow Γ pre (binary w k v e₁ e₂) ↔ Everywhere L C
-        → AllFlow (sites T Γ pre (binary w k v e₁ e₂)) ↔ Everywhere L (λ p. A p × B p × C p)
-    unfolding sites
+        → AllFlow (stepContexts T Γ pre (binary w k v e₁ e₂)) ↔ Everywhere L (λ p. A p × B p × C p)
+    unfolding stepContexts
     two-parts w k v e₁ e₂ a b owns =
         let all = three (together a (together b owns)) in (
           λ h.
               let s = step-parts (sort-each isFlow) T _ _ h in
-              let parts = both-parts (sort-each isFlow) T (sites T Γ pre e₁) _ (s .1) in
+              let parts = both-parts (sort-each isFlow) T (stepContexts T Γ pre e₁) _ (s .1) in
               all .0 (parts .0, (parts .1, s .0)),
           λ h.
               let s = all .1 h in
-              parts-step (sort-each isFlow) T _ _ (s .1 .1) (parts-both (sort-each isFlow) T (sites T Γ pre e₁) _ (s .0) (s .1 .0)),
+              parts-step (sort-each isFlow) T _ _ (s .1 .1) (parts-both (sort-each isFlow) T (stepContexts T Γ pre e₁) _ (s .0) (s .1 .0)),
         )
 
   -- a flow's second part stands where its expression's second part does
@@ -92,7 +92,7 @@ module _ {ss : List Step} {S : Split} {σ : List Map} {T : Split} (G : Showing s
     FirstPasses = Passes (at σ p) (i + 1) y (flowOf S p e₁)
 
     in-turn-parts : (E : Effect)
-        → (FirstPasses × Passes (at σ p) j (at σ p (i + 1)) g × Turns E (at σ p j) (at σ p i)) ↔ Passes (at σ p) i y (inTurn E (flowOf S p e₁) g)
+        → (FirstPasses × Passes (at σ p) j (at σ p (i + 1)) g × Applies E (at σ p j) (at σ p i)) ↔ Passes (at σ p) i y (inTurn E (flowOf S p e₁) g)
     unfolding Passes
     in-turn-parts E = rw (flow-steps S p e₁) (λ h. h, λ h. h)
 
@@ -101,7 +101,7 @@ module _ {ss : List Step} {S : Split} {σ : List Map} {T : Split} (G : Showing s
     unfolding Passes
     branch-parts = rw (flow-steps S p e₁) (λ h. (h .0, h .1, h .2 .0, h .2 .1), λ h. (h .0, h .1, (h .2, h .3)))
 
-    fork-parts : (s k : ℕ) → (FirstPasses × Passes (at σ p) j s g × ((k ≤ at σ p j) × Turns (taking s) (at σ p (i + 1)) (at σ p i)))
+    fork-parts : (s k : ℕ) → (FirstPasses × Passes (at σ p) j s g × ((k ≤ at σ p j) × Applies (taking s) (at σ p (i + 1)) (at σ p i)))
         ↔ Passes (at σ p) i y (fork s k (flowOf S p e₁) g)
     unfolding Passes
     fork-parts s k = rw (flow-steps S p e₁) (λ h. (h .0, h .1, h .2 .0, h .2 .1), λ h. (h .0, h .1, (h .2, h .3)))
@@ -113,8 +113,8 @@ module _ {ss : List Step} {S : Split} {σ : List Map} {T : Split} (G : Showing s
 
   -- pre is the map x; in the order of Figure 5
   pub flow-at-each-location : (Γ : Env) {pre x : Map} (e : Expr) (i : ℕ) → Placed ss i e → Known L pre x
-      → AllFlow (sites T Γ pre e) ↔ Everywhere L (λ p. Passes (at σ p) i (share x p) (flowOf S p e))
-  unfolding AllHold Holds claimsAt numbered conditionsBy conditionsOf only isFlow preOfPart preOfSecond keptBack calls loops unchanged taking giving needing lending moving effectOf partWay binaryWay beforeHere afterHere hasHere givenHere callHere unaryFlow binaryFlow flowOf Passes
+      → AllFlow (stepContexts T Γ pre e) ↔ Everywhere L (λ p. Passes (at σ p) i (share x p) (flowOf S p e))
+  unfolding AllHold Holds claimsAt numbered conditionsBy conditionsOf only isFlow preOfPart preOfSecond keptBack calls loops unchanged taking giving needing lending moving effectOf partTransfer binaryTransfer beforeHere afterHere hasHere givenHere callHere unaryFlow binaryFlow flowOf Passes
   flow-at-each-location Γ (leaf Var k v) i P before = no-part Γ _ Var k v (lastly (keeps (G .posts _ P) before))
   flow-at-each-location Γ (leaf Int k v) i P before = no-part Γ _ Int k v (lastly (keeps (G .posts _ P) before))
   flow-at-each-location Γ {x = x} (binary Let k v e₁ e₂) i P before =
@@ -226,13 +226,13 @@ module _ {ss : List Step} {S : Split} {σ : List Map} {T : Split} (G : Showing s
   -- a procedure: the claim on its line, those of its body, and those behind it
   procedure-parts : (f : ℕ) (q : Procedure) (behind : List NumberedCondition) {A B C : Location → Type 0}
       → (((post T (q .body) ≥ᵐ mapAt T (signature T f .after)) ≡ none) × Unit {0}) ↔ Everywhere L A
-      → AllFlow (bodySites T (signature T f) q) ↔ Everywhere L B
+      → AllFlow (bodyStepContexts T (signature T f) q) ↔ Everywhere L B
       → AllHold (only isFlow behind) ↔ Everywhere L C
       → AllHold (only isFlow (claimsOfProcedure T (signature T f) q ++ behind)) ↔ Everywhere L (λ p. A p × (B p × C p))
   unfolding claimsOfProcedure procedureConditions numbered only isFlow AllHold Holds
   procedure-parts f q behind a b c =
       let own = numbered (q .line) 1 (procedureConditions T (signature T f) q) in
-      let body = claims T (bodySites T (signature T f) q) in
+      let body = claims T (bodyStepContexts T (signature T f) q) in
       let all = together a (together b c) in (
         λ h.
             let (of-procedure, others) = only-parts isFlow (own ++ body) behind h in
@@ -245,17 +245,17 @@ module _ {ss : List Step} {S : Split} {σ : List Map} {T : Split} (G : Showing s
 
   -- the claims of the procedures from number f on and of the root
   pub roots-at-each-location : (f i : ℕ) (ps : List Procedure) (root : Expr) → NumberedFrom i ps root → i + sizeOf ps root ≤ length ss
-      → AllHold (only isFlow (claimsOfProcedures T f ps ++ claims T (sites T [] (startMap T) root)))
+      → AllHold (only isFlow (claimsOfProcedures T f ps ++ claims T (stepContexts T [] (startMap T) root)))
       ↔ Everywhere L (λ p. RootsPass (at σ p) i (rootsFrom S p f ps root))
-  unfolding claimsOfProcedures bodySites beforeHere afterHere rootsFrom NumberedFrom sizeOf RootsPass
+  unfolding claimsOfProcedures bodyStepContexts beforeHere afterHere rootsFrom NumberedFrom sizeOf RootsPass
   roots-at-each-location f i [] root numbered within =
       restated (λ p. (λ h. (h, omega arith, tt), λ h. h .0))
       (flow-at-each-location [] root i (record { indexed = numbered; within = within }) (G .first))
   roots-at-each-location f i (q ∷ ps) root numbering within =
       let e = q .body in
       let P : Placed ss i e = record { indexed = numbering .0; within = omega arith } in
-      let others = claimsOfProcedures T (f + 1) ps ++ claims T (sites T [] (startMap T) root) in
-      rw (append-assoc (claimsOfProcedure T (signature T f) q) (claimsOfProcedures T (f + 1) ps) (claims T (sites T [] (startMap T) root)))
+      let others = claimsOfProcedures T (f + 1) ps ++ claims T (stepContexts T [] (startMap T) root) in
+      rw (append-assoc (claimsOfProcedure T (signature T f) q) (claimsOfProcedures T (f + 1) ps) (claims T (stepContexts T [] (startMap T) root)))
       (restated (λ p. roots-parts p i _ _ e (rootsFrom S p (f + 1) ps root))
       (procedure-parts f q others
       (lastly (least-everywhere (G .posts e P) (G .afters f)))

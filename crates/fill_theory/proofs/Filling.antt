@@ -9,13 +9,13 @@ use native.Mathlib.Omega.{arith}
 use native.Mathlib.Decide.{decLt}
 use lib.ListN.{length, getD, length-map, List·getD-eq-default}
 use lib.Seq.{ext-getD}
-use Rattle.spec.specs.Reading.{on}
+use Rattle.spec.specs.Reading.{ok}
 use Rattle.spec.specs.Expression.{lineOf}
-use Rattle.spec.specs.Sites.{claimsOf}
+use Rattle.spec.specs.StepContexts.{claimsOf}
 use Rattle.spec.specs.Program.{Program}
 use Rattle.spec.specs.Split.{Map, Split}
 use Rattle.spec.specs.Maps.{share, overWhole}
-use Rattle.spec.specs.Verdict.{locksTakeEnough, refuseOver, ruled, typed, startAtMostOne}
+use Rattle.spec.specs.Verdict.{locksTakeEnough, refuseOver, conditionsHold, typeConditionsHold, startAtMostOne}
 use Rattle.spec.specs.FirstFalse.{AllHold}
 use Rattle.spec.specs.WellFormed.{WellFormedProgram}
 use Rattle.spec.specs.Ranges.{InRange}
@@ -186,8 +186,8 @@ module _ {text : List ℕ} (P : Program) (S : Split) (W : WellFormedProgram text
   -- ------------------------------------------------------------------ the filled split
 
   -- the filled split meets all conditions exactly when every (T) condition is met and the new maps pass the others
-  pub filled-ruled : (σ : List Map) → ruled P (filled S σ) ≡ on tt ↔ ((typed P S ≡ on tt) × AllHold (flowClaims P (filled S σ)))
-  unfolding ruled typed typeClaims flowClaims
+  pub filled-ruled : (σ : List Map) → conditionsHold P (filled S σ) ≡ ok tt ↔ ((typeConditionsHold P S ≡ ok tt) × AllHold (flowClaims P (filled S σ)))
+  unfolding conditionsHold typeConditionsHold typeClaims flowClaims
   filled-ruled σ =
       let T = types-kept R σ in (
         (λ h.
@@ -205,13 +205,13 @@ module _ {text : List ℕ} (P : Program) (S : Split) (W : WellFormedProgram text
   start-kept σ = ap (λ m. refuseOver (lineOf (P .root)) (overWhole (S .header .denominator) 0 m)) (start-map-kept R σ)
 
   -- "The filled pair must be accepted"
-  pub filled-accepted : (γ : List Map) → typed P S ≡ on tt → greatestMaps P S ≡ some γ → ruled P (filled S γ) ≡ on tt
+  pub filled-accepted : (γ : List Map) → typeConditionsHold P S ≡ ok tt → greatestMaps P S ≡ some γ → conditionsHold P (filled S γ) ≡ ok tt
   filled-accepted γ t h = filled-ruled γ .1 (t, pass-is-greatest γ h .afterMaps .holding)
 
   -- ------------------------------------------------------------------ a whole sheet
 
-  shown-after-maps : ruled P S ≡ on tt → AfterMaps P S (shownMaps S)
-  unfolding ruled flowClaims
+  shown-after-maps : conditionsHold P S ≡ ok tt → AfterMaps P S (shownMaps S)
+  unfolding conditionsHold flowClaims
   shown-after-maps h = record {
     counted = counted;
     wide = wide;
@@ -228,7 +228,7 @@ module _ {text : List ℕ} (P : Program) (S : Split) (W : WellFormedProgram text
       wide i l = shown-map R i (omega (arith, as-many)) .wide
 
   -- a sheet that is accepted can be filled once its after-maps are taken out, and nowhere with less than it showed
-  pub accepted-is-filled : ruled P S ≡ on tt → (γ : List Map) × (greatestMaps P S ≡ some γ) × NowhereAbove (shownMaps S) γ
+  pub accepted-is-filled : conditionsHold P S ≡ ok tt → (γ : List Map) × (greatestMaps P S ≡ some γ) × NowhereAbove (shownMaps S) γ
   accepted-is-filled h =
       let A = shown-after-maps h in
       let (γ, e) = solved-is-found (shownMaps S) A in

@@ -10,23 +10,23 @@ use native.Mathlib.Omega.{arith}
 use lib.ListN.{length, getD}
 use lib.Seq.{ext-getD}
 use Rattle.spec.proofs.Clashes.{none-is-not-some}
-use Rattle.fill_theory.specs.Flow.{taking, Flow, alone, after, inTurn, branch, loop, fork, call, steps, Turns, Passes}
-use Rattle.fill_theory.specs.Pass.{turn, forth, back, ownPost, weight, ceiling, reach, pass, greatestPosts}
+use Rattle.fill_theory.specs.Flow.{taking, Flow, alone, after, inTurn, branch, loop, fork, call, steps, Applies, Passes}
+use Rattle.fill_theory.specs.Pass.{apply, forth, back, ownPost, weight, ceiling, attainable, pass, greatestPosts}
 use Rattle.fill_theory.specs.declared.Effect.{Effect}
-use Rattle.fill_theory.proofs.Found.{some-injective, finds-bind, met-demand, met-exact, turns-turn}
+use Rattle.fill_theory.proofs.Found.{some-injective, finds-bind, met-demand, met-exact, applies-apply}
 use Rattle.fill_theory.proofs.Along.{Along, along-at, at-along}
 use Rattle.fill_theory.proofs.Pass.{pass-length, own-found, found-both, pass-passes, pass-own}
-use Rattle.fill_theory.proofs.Bounds.{back-holds, post-weighs, ceiling-holds, reach-holds, reach-capped, reach-gains}
+use Rattle.fill_theory.proofs.Bounds.{back-holds, post-weighs, ceiling-holds, attainable-holds, attainable-capped, attainable-gains}
 
 -- ------------------------------------------------------------------ a step
 
 -- the same step from more
-pub turn-more : {x p : ℕ} (E : Effect) (before : ℕ) → Turns E x p → x ≤ before → (turn E before ≡ some (forth E before)) × (p ≤ forth E before)
+pub apply-more : {x p : ℕ} (E : Effect) (before : ℕ) → Applies E x p → x ≤ before → (apply E before ≡ some (forth E before)) × (p ≤ forth E before)
 unfolding forth
-turn-more {x} {p} E before t l =
-    let moved : Turns E before (before + E .gives - E .takes) =
+apply-more {x} {p} E before t l =
+    let moved : Applies E before (before + E .gives - E .takes) =
     record { balance = omega (arith, t .balance); enough = omega (arith, t .balance, t .enough); lent = t .lent } in
-    (turns-turn E before moved, omega (arith, t .balance))
+    (applies-apply E before moved, omega (arith, t .balance))
 
 -- from `pre` the pass finds posts that are at least those of a
 pub record Best (top : ℕ) (a : ℕ → ℕ) (i pre c : ℕ) (f : Flow) : Type 0 where
@@ -40,31 +40,31 @@ module _ (top : ℕ) (a : ℕ → ℕ) where
   own-below : {i pre c : ℕ} (f : Flow) (B : Best top a i pre c f) → a i ≤ ownPost (B .posts)
   own-below f B = own-found top _≤_ a _ _ _ f (B .posts) (B .found) (B .below)
 
-  own-reach : {i pre c : ℕ} (f : Flow) (B : Best top a i pre c f) → ownPost (B .posts) ≡ reach top pre c f
-  own-reach f B = pass-own top _ _ f (B .found)
+  own-attainable : {i pre c : ℕ} (f : Flow) (B : Best top a i pre c f) → ownPost (B .posts) ≡ attainable top pre c f
+  own-attainable f B = pass-own top _ _ f (B .found)
 
   both-below : {i pre c x d : ℕ} (f g : Flow) (B : Best top a i pre c f) (C : Best top a (i + steps f) x d g) → Along _≤_ a i (B .posts ++ C .posts)
   both-below f g B C = found-both top _≤_ a _ _ _ f (B .posts) (B .found) (C .posts) (B .below) (C .below)
 
   module _ (i pre c : ℕ) where
-    after-best : (E : Effect) (f : Flow) → Turns E (a (i + 1)) (a i) → Best top a (i + 1) pre (back E c) f → Best top a i pre c (after E f)
+    after-best : (E : Effect) (f : Flow) → Applies E (a (i + 1)) (a i) → Best top a (i + 1) pre (back E c) f → Best top a i pre c (after E f)
     unfolding pass Along ownPost
     after-best E f h B =
-        let (t, b) = turn-more E (ownPost (B .posts)) h (own-below f B) in
+        let (t, b) = apply-more E (ownPost (B .posts)) h (own-below f B) in
         record {
           posts = forth E (ownPost (B .posts)) ∷ B .posts;
           found = finds-bind _ _ (B .found) (finds-bind _ _ t refl);
           below = (b, B .below);
         }
 
-    in-turn-best : (E : Effect) (f g : Flow) → Turns E (a (i + 1 + steps f)) (a i) → Best top a (i + 1) pre (ceiling top (back E c) g) f
-        → Best top a (i + 1 + steps f) (reach top pre (ceiling top (back E c) g) f) (back E c) g → Best top a i pre c (inTurn E f g)
+    in-turn-best : (E : Effect) (f g : Flow) → Applies E (a (i + 1 + steps f)) (a i) → Best top a (i + 1) pre (ceiling top (back E c) g) f
+        → Best top a (i + 1 + steps f) (attainable top pre (ceiling top (back E c) g) f) (back E c) g → Best top a i pre c (inTurn E f g)
     unfolding pass Along ownPost
     in-turn-best E f g h B C =
-        let (t, b) = turn-more E (ownPost (C .posts)) h (own-below g C) in
+        let (t, b) = apply-more E (ownPost (C .posts)) h (own-below g C) in
         record {
           posts = forth E (ownPost (C .posts)) ∷ (B .posts ++ C .posts);
-          found = finds-bind _ _ (B .found) (rw (own-reach f B) (finds-bind _ _ (C .found) (finds-bind _ _ t refl)));
+          found = finds-bind _ _ (B .found) (rw (own-attainable f B) (finds-bind _ _ (C .found) (finds-bind _ _ t refl)));
           below = (b, both-below f g B C);
         }
 
@@ -77,22 +77,22 @@ module _ (top : ℕ) (a : ℕ → ℕ) where
       below = (omega (arith, own-below f B, own-below g C), both-below f g B C);
     }
 
-    loop-best : (f : Flow) → a i ≤ reach top pre c (loop f) → reach top pre c (loop f) ≤ reach top (reach top pre c (loop f)) top f
-        → Best top a (i + 1) (reach top pre c (loop f)) top f → Best top a i pre c (loop f)
+    loop-best : (f : Flow) → a i ≤ attainable top pre c (loop f) → attainable top pre c (loop f) ≤ attainable top (attainable top pre c (loop f)) top f
+        → Best top a (i + 1) (attainable top pre c (loop f)) top f → Best top a i pre c (loop f)
     unfolding pass Along ownPost
     loop-best f l gains B =
-        let most = reach top pre c (loop f) in
+        let most = attainable top pre c (loop f) in
         record {
           posts = most ∷ B .posts;
-          found = finds-bind _ _ (B .found) (finds-bind _ _ (met-demand most (ownPost (B .posts)) (omega (arith, own-reach f B))) refl);
+          found = finds-bind _ _ (B .found) (finds-bind _ _ (met-demand most (ownPost (B .posts)) (omega (arith, own-attainable f B))) refl);
           below = (l, B .below);
         }
 
-    fork-best : (s k : ℕ) (f g : Flow) → k ≤ a (i + 1 + steps f) → Turns (taking s) (a (i + 1)) (a i) → Best top a (i + 1) pre (back (taking s) c) f
+    fork-best : (s k : ℕ) (f g : Flow) → k ≤ a (i + 1 + steps f) → Applies (taking s) (a (i + 1)) (a i) → Best top a (i + 1) pre (back (taking s) c) f
         → Best top a (i + 1 + steps f) s top g → Best top a i pre c (fork s k f g)
     unfolding pass Along ownPost
     fork-best s k f g l h B C =
-        let (t, b) = turn-more (taking s) (ownPost (B .posts)) h (own-below f B) in
+        let (t, b) = apply-more (taking s) (ownPost (B .posts)) h (own-below f B) in
         let paid = met-demand k (ownPost (C .posts)) (omega (arith, own-below g C)) in
         record {
           posts = forth (taking s) (ownPost (B .posts)) ∷ (B .posts ++ C .posts);
@@ -100,10 +100,10 @@ module _ (top : ℕ) (a : ℕ → ℕ) where
           below = (b, both-below f g B C);
         }
 
-    call-best : (b d : ℕ) (f : Flow) → a (i + 1) ≡ b → a i ≡ d → reach top pre b f ≤ b → Best top a (i + 1) pre b f → Best top a i pre c (call b d f)
+    call-best : (b d : ℕ) (f : Flow) → a (i + 1) ≡ b → a i ≡ d → attainable top pre b f ≤ b → Best top a (i + 1) pre b f → Best top a i pre c (call b d f)
     unfolding pass Along ownPost
     call-best b d f h k capped B =
-        let exact = met-exact (ownPost (B .posts)) b (omega (arith, own-below f B, own-reach f B)) in
+        let exact = met-exact (ownPost (B .posts)) b (omega (arith, own-below f B, own-attainable f B)) in
         record {
           posts = d ∷ B .posts;
           found = finds-bind _ _ (B .found) (finds-bind _ _ exact refl);
@@ -114,9 +114,9 @@ module _ (top : ℕ) (a : ℕ → ℕ) where
 
   pub passes-best : (i x pre c : ℕ) (f : Flow) → Passes a i x f → x + weight f ≤ top → a i ≤ c → x ≤ pre → pre ≤ ceiling top c f
       → Best top a i pre c f
-  unfolding Passes pass Along ownPost ceiling reach weight
+  unfolding Passes pass Along ownPost ceiling attainable weight
   passes-best i x pre c (alone E) h s l m u =
-      let (t, b) = turn-more E pre h m in
+      let (t, b) = apply-more E pre h m in
       record { posts = forth E pre ∷ []; found = finds-bind _ _ t refl; below = (b, tt) }
   passes-best i x pre c (after E f) h s l m u =
       after-best i pre c E f (h .1) (passes-best (i + 1) x pre _ f (h .0) (omega arith) (back-holds E c (h .1) l) m u)
@@ -125,8 +125,8 @@ module _ (top : ℕ) (a : ℕ → ℕ) where
       let first = post-weighs a (i + 1) x f (h .0) in
       let last = back-holds E c (h .2) l in
       let under = ceiling-holds top a j (a (i + 1)) (back E c) g (h .1) (omega arith) last in
-      let least = reach-holds top a (i + 1) x pre _ f (h .0) (omega arith) under m in
-      let capped = reach-capped top a (i + 1) x pre _ f (h .0) (omega arith) under m u in
+      let least = attainable-holds top a (i + 1) x pre _ f (h .0) (omega arith) under m in
+      let capped = attainable-capped top a (i + 1) x pre _ f (h .0) (omega arith) under m u in
       in-turn-best i pre c E f g (h .2)
       (passes-best (i + 1) x pre _ f (h .0) (omega arith) under m u)
       (passes-best j (a (i + 1)) _ _ g (h .1) (omega arith) last least capped)
@@ -136,11 +136,11 @@ module _ (top : ℕ) (a : ℕ → ℕ) where
       (passes-best (i + 1) x pre top f (h .0) (omega arith) (omega (arith, post-weighs a (i + 1) x f (h .0))) m (omega arith))
       (passes-best j x pre top g (h .1) (omega arith) (omega (arith, post-weighs a j x g (h .1))) m (omega arith))
   passes-best i x pre c (loop f) h s l m u =
-      let most = reach top pre c (loop f) in
-      let least = reach-holds top a i x pre c (loop f) h s l m in
+      let most = attainable top pre c (loop f) in
+      let least = attainable-holds top a i x pre c (loop f) h s l m in
       let within : a i + weight f ≤ top = omega (arith, h .1) in
       let under : a (i + 1) ≤ top = omega (arith, post-weighs a (i + 1) (a i) f (h .0)) in
-      let gains = reach-gains top a (i + 1) (a i) most top top most f (h .0) within under least (omega arith) (omega arith) (omega (arith, h .2)) in
+      let gains = attainable-gains top a (i + 1) (a i) most top top most f (h .0) within under least (omega arith) (omega arith) (omega (arith, h .2)) in
       loop-best i pre c f least gains (passes-best (i + 1) (a i) most top f (h .0) within under least (omega arith))
   passes-best i x pre c (fork t k f g) h s l m u =
       let j = i + 1 + steps f in
@@ -150,7 +150,7 @@ module _ (top : ℕ) (a : ℕ → ℕ) where
       (passes-best j t t top g (h .1) (omega arith) last (omega arith) (ceiling-holds top a j t top g (h .1) (omega arith) last))
   passes-best i x pre c (call b d f) h s l m u =
       let before : a (i + 1) ≤ b = omega (arith, h .1) in
-      call-best i pre c b d f (h .1) (h .2) (reach-capped top a (i + 1) x pre b f (h .0) (omega arith) before m u)
+      call-best i pre c b d f (h .1) (h .2) (attainable-capped top a (i + 1) x pre b f (h .0) (omega arith) before m u)
       (passes-best (i + 1) x pre b f (h .0) (omega arith) before m u)
 
 -- ------------------------------------------------------------------ the theorems at one location

@@ -10,7 +10,7 @@ use lib.Dec.{leb}
 use lib.ListN.{length, getD}
 use borrow.Author.Tests.{leb-true, leb-false, le-leb}
 use Rattle.spec.specs.Text.{Field, lookUp, fields}
-use Rattle.spec.specs.Reading.{right, _to_}
+use Rattle.spec.specs.Reading.{good, _to_}
 use Rattle.spec.specs.Program.{Program, Counts, firstNumber, programHeadings, countRanges, proceduresOf, countsOf, counted, countLine}
 use Rattle.spec.specs.Split.{Map}
 use Rattle.spec.specs.WellFormed.{WellFormedProgram}
@@ -78,7 +78,7 @@ some-above limit (m ∷ ms) h = go (mapAtMost limit m) refl h (some-above limit 
     go true e h rest = let (i, l, above) = rest h in (suc i, l, above)
 
 -- a program has at most 256 steps
-counted-few : (o : Option ProgramHeading) (fs : List Field) (N : Counts) → counted o fs ≡ right N → N .steps ≤ 256
+counted-few : (o : Option ProgramHeading) (fs : List Field) (N : Counts) → counted o fs ≡ good N → N .steps ≤ 256
 unfolding counted countsOf countRanges firstNumber
 counted-few none fs N h = wrong-is-not-right h
 counted-few (some heading.P) fs N h =
@@ -88,7 +88,7 @@ counted-few (some heading.P2) fs N h =
     let (ns, r, e) = seen-right _ h in
     subst (λ (M : Counts). M .steps ≤ 256) e (in-to _ _ _ (in-range-at ((1 to 256) ∷ (0 to 16) ∷ []) fs ns r 0 (omega arith)) .1)
 
-count-few : (fs : List Field) (N : Counts) → countLine fs ≡ right N → N .steps ≤ 256
+count-few : (fs : List Field) (N : Counts) → countLine fs ≡ good N → N .steps ≤ 256
 unfolding countLine
 count-few [] N h = wrong-is-not-right h
 count-few (f ∷ fs) N h = counted-few (lookUp programHeadings f) fs N h
@@ -97,7 +97,7 @@ pub steps-few : {text : List ℕ} (P : Program) → WellFormedProgram text P →
 steps-few P W = count-few (fields (W .first)) _ (W .counted)
 
 -- and at most 16 procedures
-counted-procedures : (o : Option ProgramHeading) (fs : List Field) (N : Counts) → counted o fs ≡ right N → N .procedures ≤ 16
+counted-procedures : (o : Option ProgramHeading) (fs : List Field) (N : Counts) → counted o fs ≡ good N → N .procedures ≤ 16
 unfolding counted countsOf countRanges proceduresOf
 counted-procedures none fs N h = wrong-is-not-right h
 counted-procedures (some heading.P) fs N h =
@@ -107,7 +107,7 @@ counted-procedures (some heading.P2) fs N h =
     let (ns, r, e) = seen-right _ h in
     subst (λ (M : Counts). M .procedures ≤ 16) e (in-to _ _ _ (in-range-at ((1 to 256) ∷ (0 to 16) ∷ []) fs ns r 1 (omega arith)) .1)
 
-count-procedures : (fs : List Field) (N : Counts) → countLine fs ≡ right N → N .procedures ≤ 16
+count-procedures : (fs : List Field) (N : Counts) → countLine fs ≡ good N → N .procedures ≤ 16
 unfolding countLine
 count-procedures [] N h = wrong-is-not-right h
 count-procedures (f ∷ fs) N h = counted-procedures (lookUp programHeadings f) fs N h

@@ -17,7 +17,7 @@ use Rattle.spec.specs.Maps.{_=ᵐ_, _≥ᵐ_, _+ᵐ_, _×ᵐ_, share}
 use Rattle.spec.specs.Figure5.{_⊒_, none as none⊒, more as more⊒}
 use Rattle.spec.specs.declared.Location.{Location}
 use Rattle.spec.proofs.Maps.{none-equal, equal-none, none-covers, covers-none, times-at}
-use Rattle.fill_theory.specs.Flow.{unchanged, taking, giving, needing, lending, Turns}
+use Rattle.fill_theory.specs.Flow.{unchanged, taking, giving, needing, lending, Applies}
 use Rattle.fill_theory.specs.FlowOf.{asks}
 
 -- ------------------------------------------------------------------ two maps
@@ -133,7 +133,7 @@ module _ {L : ℕ} where
 
   module _ {m m′ n n′ : Map} (after : Known L m m′) (before : Known L n n′) where
     -- post = before
-    pub keeps : (m =ᵐ n) ≡ none ↔ Everywhere L (λ p. Turns unchanged (share n′ p) (share m′ p))
+    pub keeps : (m =ᵐ n) ≡ none ↔ Everywhere L (λ p. Applies unchanged (share n′ p) (share m′ p))
     unfolding unchanged
     keeps = restated (λ p. (λ h. record { balance = omega arith; enough = omega arith; lent = omega arith }, λ t. omega (arith, t .balance))) (equal-everywhere after before)
 
@@ -143,7 +143,7 @@ module _ {L : ℕ} where
       sums = restated (λ p. (λ h. h ∙ share-sum before load p, λ h. h ∙ sym (share-sum before load p))) (equal-everywhere after (known-sum before load))
 
       -- post = before + K
-      pub gives : (m =ᵐ n +ᵐ k) ≡ none ↔ Everywhere L (λ p. Turns (giving (share k′ p)) (share n′ p) (share m′ p))
+      pub gives : (m =ᵐ n +ᵐ k) ≡ none ↔ Everywhere L (λ p. Applies (giving (share k′ p)) (share n′ p) (share m′ p))
       unfolding giving
       gives =
           restated (λ p. (
@@ -153,7 +153,7 @@ module _ {L : ℕ} where
           (equal-everywhere after (known-sum before load))
 
       -- post + K = before
-      pub takes : (m +ᵐ k =ᵐ n) ≡ none ↔ Everywhere L (λ p. Turns (taking (share k′ p)) (share n′ p) (share m′ p))
+      pub takes : (m +ᵐ k =ᵐ n) ≡ none ↔ Everywhere L (λ p. Applies (taking (share k′ p)) (share n′ p) (share m′ p))
       unfolding taking
       takes =
           restated (λ p. (
@@ -168,7 +168,7 @@ module _ {L : ℕ} where
   -- v times the share is at most the load, and post + load = before
   pub lends : {m m′ n n′ k k′ r r′ : Map} (v : ℕ) (after : Known L m m′) (before : Known L n n′) (load : Known L k k′) (part : Known L r r′)
       → (((k ≥ᵐ v ×ᵐ r) ≡ none) × (((m +ᵐ k =ᵐ n) ≡ none) × Unit {0}))
-      ↔ Everywhere L (λ p. Turns (lending (v * share r′ p) (share k′ p)) (share n′ p) (share m′ p))
+      ↔ Everywhere L (λ p. Applies (lending (v * share r′ p) (share k′ p)) (share n′ p) (share m′ p))
   unfolding lending taking
   lends {r′ = r′} v after before load part =
       restated (λ p. (
@@ -180,7 +180,7 @@ module _ {L : ℕ} where
   -- post = before, and at least d at the location q, by a test
   pub needs : {m m′ n n′ : Map} (after : Known L m m′) (before : Known L n n′) (q q′ : Location) → q ≡ q′ → q′ .0 < L
       → (d : ℕ) (test : Bool) → (test ≡ true) ↔ (d ≤ share m q)
-      → (((m =ᵐ n) ≡ none) × ((test ≡ true) × Unit {0})) ↔ Everywhere L (λ p. Turns (needing (asks p q′ d)) (share n′ p) (share m′ p))
+      → (((m =ᵐ n) ≡ none) × ((test ≡ true) × Unit {0})) ↔ Everywhere L (λ p. Applies (needing (asks p q′ d)) (share n′ p) (share m′ p))
   unfolding needing
   needs {m′ = m′} after before q q′ same within d test decides = (
     λ h.

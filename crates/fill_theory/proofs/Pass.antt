@@ -6,10 +6,10 @@ use mathlib.Core.Option.{some}
 use Prim.Native.Nat.{ℕ, suc, _+_, _≤_, min}
 use native.Mathlib.Omega.{arith}
 use lib.ListN.{length, length-append}
-use Rattle.fill_theory.specs.Flow.{taking, Flow, alone, after, inTurn, branch, loop, fork, call, steps, Turns, Passes}
-use Rattle.fill_theory.specs.Pass.{forth, back, ownPost, reach, pass}
+use Rattle.fill_theory.specs.Flow.{taking, Flow, alone, after, inTurn, branch, loop, fork, call, steps, Applies, Passes}
+use Rattle.fill_theory.specs.Pass.{forth, back, ownPost, attainable, pass}
 use Rattle.fill_theory.specs.declared.Effect.{Effect}
-use Rattle.fill_theory.proofs.Found.{some-injective, bind-through, demand-met, exact-met, turn-turns, turn-forth}
+use Rattle.fill_theory.proofs.Found.{some-injective, bind-through, demand-met, exact-met, apply-applies, apply-forth}
 use Rattle.fill_theory.proofs.Along.{Along, along-shift, along-append, along-parts, along-own}
 
 pub steps-positive : (f : Flow) → 1 ≤ steps f
@@ -22,8 +22,8 @@ steps-positive (loop f) = omega arith
 steps-positive (fork s k f g) = omega arith
 steps-positive (call b d f) = omega arith
 
-pub turns-along : {E : Effect} {b b′ c c′ : ℕ} → b ≡ b′ → c ≡ c′ → Turns E b′ c′ → Turns E b c
-turns-along p q t = record { balance = omega (arith, t .balance); enough = omega (arith, t .enough); lent = t .lent }
+pub applies-along : {E : Effect} {b b′ c c′ : ℕ} → b ≡ b′ → c ≡ c′ → Applies E b′ c′ → Applies E b c
+applies-along p q t = record { balance = omega (arith, t .balance); enough = omega (arith, t .enough); lent = t .lent }
 
 module _ (top : ℕ) where
   -- ------------------------------------------------------------------ how many posts there are
@@ -78,16 +78,16 @@ module _ (top : ℕ) where
 
   -- any posts that are those of the pass from step i on
   pub pass-passes : (a : ℕ → ℕ) (i pre c : ℕ) (f : Flow) {ps : List ℕ} → pass top pre c f ≡ some ps → Along _≡_ a i ps → Passes a i pre f
-  unfolding pass reach Passes Along
+  unfolding pass attainable Passes Along
   pass-passes a i pre c (alone E) h w =
       bind-through _ _ h λ p t e.
       let w′ = rw (← some-injective e) at w in
-      turns-along refl (w′ .0) (turn-turns _ pre t)
+      applies-along refl (w′ .0) (apply-applies _ pre t)
   pass-passes a i pre c (after E f) h w =
       bind-through _ _ h λ ps h₁ h′.
       bind-through _ _ h′ λ p t e.
       let w′ = rw (← some-injective e) at w in
-      (pass-passes a (i + 1) pre _ f h₁ (w′ .1), turns-along (own-found _≡_ a (i + 1) pre _ f ps h₁ (w′ .1)) (w′ .0) (turn-turns _ (ownPost ps) t))
+      (pass-passes a (i + 1) pre _ f h₁ (w′ .1), applies-along (own-found _≡_ a (i + 1) pre _ f ps h₁ (w′ .1)) (w′ .0) (apply-applies _ (ownPost ps) t))
   pass-passes a i pre c (inTurn E f g) h w =
       bind-through _ _ h λ ps h₁ h′.
       bind-through _ _ h′ λ qs h₂ h″.
@@ -95,7 +95,7 @@ module _ (top : ℕ) where
       let w′ = rw (← some-injective e) at w in
       let (o₁, w₁, w₂) = both-found _≡_ a (i + 1) pre _ f ps h₁ qs (w′ .1) in
       let o₂ = own-found _≡_ a _ (ownPost ps) _ g qs h₂ w₂ in
-      (pass-passes a (i + 1) pre _ f h₁ w₁, rw o₁ (pass-passes a _ (ownPost ps) _ g h₂ w₂), turns-along o₂ (w′ .0) (turn-turns _ (ownPost qs) t))
+      (pass-passes a (i + 1) pre _ f h₁ w₁, rw o₁ (pass-passes a _ (ownPost ps) _ g h₂ w₂), applies-along o₂ (w′ .0) (apply-applies _ (ownPost qs) t))
   pass-passes a i pre c (branch f g) h w =
       bind-through _ _ h λ ps h₁ h′.
       bind-through _ _ h′ λ qs h₂ e.
@@ -119,7 +119,7 @@ module _ (top : ℕ) where
       let (o₁, w₁, w₂) = both-found _≡_ a (i + 1) pre _ f ps h₁ qs (w′ .1) in
       let o₂ = own-found _≡_ a _ s top g qs h₂ w₂ in
       let paid = demand-met k (ownPost qs) d in
-      (pass-passes a (i + 1) pre _ f h₁ w₁, pass-passes a _ s top g h₂ w₂, omega arith, turns-along o₁ (w′ .0) (turn-turns _ (ownPost ps) t))
+      (pass-passes a (i + 1) pre _ f h₁ w₁, pass-passes a _ s top g h₂ w₂, omega arith, applies-along o₁ (w′ .0) (apply-applies _ (ownPost ps) t))
   pass-passes a i pre c (call b d f) h w =
       bind-through _ _ h λ ps h₁ h′.
       bind-through _ _ h′ λ _ x e.
@@ -128,21 +128,21 @@ module _ (top : ℕ) where
 
   -- ------------------------------------------------------------------ the own post is all that is in reach
 
-  pub pass-own : {ps : List ℕ} (pre c : ℕ) (f : Flow) → pass top pre c f ≡ some ps → ownPost ps ≡ reach top pre c f
-  unfolding pass reach ownPost
+  pub pass-own : {ps : List ℕ} (pre c : ℕ) (f : Flow) → pass top pre c f ≡ some ps → ownPost ps ≡ attainable top pre c f
+  unfolding pass attainable ownPost
   pass-own pre c (alone E) h =
       bind-through _ _ h λ p t e.
-      ap ownPost (sym (some-injective e)) ∙ turn-forth E pre t
+      ap ownPost (sym (some-injective e)) ∙ apply-forth E pre t
   pass-own pre c (after E f) h =
       bind-through _ _ h λ ps h₁ h′.
       bind-through _ _ h′ λ p t e.
-      ap ownPost (sym (some-injective e)) ∙ turn-forth E (ownPost ps) t ∙ ap (forth E) (pass-own pre _ f h₁)
+      ap ownPost (sym (some-injective e)) ∙ apply-forth E (ownPost ps) t ∙ ap (forth E) (pass-own pre _ f h₁)
   pass-own pre c (inTurn E f g) h =
       bind-through _ _ h λ ps h₁ h′.
       bind-through _ _ h′ λ qs h₂ h″.
       bind-through _ _ h″ λ p t e.
-      let last = pass-own (ownPost ps) _ g h₂ ∙ ap (λ (x : ℕ). reach top x (back E c) g) (pass-own pre _ f h₁) in
-      ap ownPost (sym (some-injective e)) ∙ turn-forth E (ownPost qs) t ∙ ap (forth E) last
+      let last = pass-own (ownPost ps) _ g h₂ ∙ ap (λ (x : ℕ). attainable top x (back E c) g) (pass-own pre _ f h₁) in
+      ap ownPost (sym (some-injective e)) ∙ apply-forth E (ownPost qs) t ∙ ap (forth E) last
   pass-own pre c (branch f g) h =
       bind-through _ _ h λ ps h₁ h′.
       bind-through _ _ h′ λ qs h₂ e.
@@ -156,7 +156,7 @@ module _ (top : ℕ) where
       bind-through _ _ h′ λ qs h₂ h″.
       bind-through _ _ h″ λ _ _ h‴.
       bind-through _ _ h‴ λ p t e.
-      ap ownPost (sym (some-injective e)) ∙ turn-forth (taking s) (ownPost ps) t ∙ ap (forth (taking s)) (pass-own pre _ f h₁)
+      ap ownPost (sym (some-injective e)) ∙ apply-forth (taking s) (ownPost ps) t ∙ ap (forth (taking s)) (pass-own pre _ f h₁)
   pass-own pre c (call b d f) h =
       bind-through _ _ h λ ps h₁ h′.
       bind-through _ _ h′ λ _ _ e.

@@ -16,10 +16,10 @@ use Rattle.spec.specs.declared.UnaryWord.{UnaryWord}
 use Rattle.spec.specs.declared.BinaryWord.{BinaryWord}
 use Rattle.spec.proofs.Wide.{map-wide, start-wide, kept-wide, before-wide, after-wide}
 use Rattle.spec.proofs.Listing.{size-positive, prefix-length, steps-among}
-use Rattle.fill_theory.specs.declared.UnaryWay.{UnaryWay}
-use Rattle.fill_theory.specs.declared.UnaryWay.the-variants.{After, Loop, Call}
-use Rattle.fill_theory.specs.declared.BinaryWay.{BinaryWay}
-use Rattle.fill_theory.specs.declared.BinaryWay.the-variants.{InTurn, Branch, Fork}
+use Rattle.fill_theory.specs.declared.UnaryTransfer.{UnaryTransfer}
+use Rattle.fill_theory.specs.declared.UnaryTransfer.the-variants.{After, Loop, Call}
+use Rattle.fill_theory.specs.declared.BinaryTransfer.{BinaryTransfer}
+use Rattle.fill_theory.specs.declared.BinaryTransfer.the-variants.{InTurn, Branch, Fork}
 use Rattle.fill_theory.specs.Filled.{filled}
 use Rattle.fill_theory.specs.AfterMaps.{shownMaps}
 use Rattle.fill_theory.specs.Flow.{Flow, unaryFlow, binaryFlow, steps, stepsOf}
@@ -28,13 +28,13 @@ use Rattle.fill_theory.proofs.Kept.{kind-kept, place-within, first-wide
 use Rattle.fill_theory.proofs.Locations.{Known}
 
 -- a step stands in front of its parts
-pub unary-steps : (way : UnaryWay) (f : Flow) → steps (unaryFlow way f) ≡ steps f + 1
+pub unary-steps : (transfer : UnaryTransfer) (f : Flow) → steps (unaryFlow transfer f) ≡ steps f + 1
 unfolding steps unaryFlow
 unary-steps (After E) f = omega arith
 unary-steps Loop f = omega arith
 unary-steps (Call wanted left) f = omega arith
 
-pub binary-steps : (way : BinaryWay) (f g : Flow) → steps (binaryFlow way f g) ≡ steps f + steps g + 1
+pub binary-steps : (transfer : BinaryTransfer) (f g : Flow) → steps (binaryFlow transfer f g) ≡ steps f + steps g + 1
 unfolding steps binaryFlow
 binary-steps (InTurn E) f g = omega arith
 binary-steps Branch f g = omega arith

@@ -8,14 +8,14 @@ use native.Mathlib.Decide.{decLt}
 use lib.ListN.{length, getD, List·getD-append}
 use lib.Seq.{getD-append-add}
 use Rattle.spec.specs.Text.{Field}
-use Rattle.spec.specs.Reading.{on}
+use Rattle.spec.specs.Reading.{ok}
 use Rattle.spec.specs.Program.{Program}
 use Rattle.spec.specs.Split.{Map, Split, split}
 use Rattle.spec.specs.WellFormed.{WellFormedSplit}
 use Rattle.spec.specs.Accepted.{AtMost}
 use Rattle.spec.specs.declared.Purpose.the-variants.{Check, Fill}
 use Rattle.written.specs.Text.{line, text}
-use Rattle.written.specs.Sheet.{headerFields, typeFields, mapFields, signatureFields, rowFields, splitLines, written, unfilled}
+use Rattle.written.specs.Sheet.{headerFields, typeFields, mapFields, signatureFields, rowFields, splitLines, sheetText, unfilled}
 use Rattle.written.specs.Writable.{RowStarts, Writable}
 use Rattle.written.proofs.Lines.{text-append}
 use Rattle.written.proofs.Sheet.{written-reads-back}
@@ -54,7 +54,7 @@ module _ (S : Split) (γ : List Map) (few : S .header .maps + length γ ≤ 512)
 
   -- a sheet that was read to be filled, with maps filled in, is a whole sheet
   pub filled-reads-back : {P : Program} {given : List ℕ} → length γ ≡ length (P .steps) → WellFormedSplit Fill P given S
-      → split Check P (written (filled S γ)) ≡ on (filled S γ)
+      → split Check P (sheetText (filled S γ)) ≡ ok (filled S γ)
   filled-reads-back counted F = written-reads-back (filled-writable counted (read-is-writable F))
 
 -- ------------------------------------------------------------------ what is kept
@@ -67,10 +67,10 @@ keptLines S = map (typeFields (S .header .heading)) (S .types) ++ map mapFields 
 -- the rows show the same t and s
 pub rest-kept : {P : Program} {given : List ℕ} (S : Split) (γ : List Map) → WellFormedSplit Fill P given S
     → (given ≡ line (headerFields (S .header)) (text (keptLines S) ++ text (map signatureFields (S .signatures) ++ map (rowFields Fill) (S .rows))))
-    × (written (filled S γ)
+    × (sheetText (filled S γ)
     ≡ line (headerFields (filled S γ .header))
     (text (keptLines S) ++ (text (map mapFields γ) ++ text (map signatureFields (S .signatures) ++ map (rowFields Check) (withPosts (S .header .maps) (S .rows))))))
-unfolding keptLines written unfilled splitLines text filled
+unfolding keptLines sheetText unfilled splitLines text filled
 rest-kept S γ F =
     let T = map (typeFields (S .header .heading)) (S .types) in
     let M = map mapFields (S .maps) in

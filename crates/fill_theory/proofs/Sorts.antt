@@ -6,16 +6,16 @@ use mathlib.Core.Logic.{_↔_}
 use Prim.Native.Nat.{ℕ}
 use Rattle.spec.specs.Split.{Split}
 use Rattle.spec.specs.Conditions.{Condition, T, F, A}
-use Rattle.spec.specs.Sites.{Site, NumberedCondition, claimsAt, claims, isType, isFlow, only}
+use Rattle.spec.specs.StepContexts.{StepContext, NumberedCondition, claimsAt, claims, isType, isFlow, only}
 use Rattle.spec.specs.FirstFalse.{AllHold}
 use Rattle.spec.proofs.Claims.{only-append, all-hold-parts, all-hold-append, OfEach}
 
 module _ (sort : Condition → Bool) where
-  -- all claims of the sort hold at each of the sites
-  abbrev pub AllAt : Split → List Site → Type 0
+  -- all claims of the sort hold at each of the step contexts
+  abbrev pub AllAt : Split → List StepContext → Type 0
   AllAt S ss = AllHold (only sort (claims S ss))
 
-  abbrev pub OwnAt : Split → Site → Type 0
+  abbrev pub OwnAt : Split → StepContext → Type 0
   OwnAt S s = AllHold (only sort (claimsAt S s))
 
   -- the claims of two lists

@@ -10,7 +10,7 @@ use Rattle.spec.specs.Table as entry
 use Rattle.spec.specs.Table.{TypeTerm, Entry, table}
 use Rattle.spec.specs.Conditions.{Env, type, post, bodyStart, signature, startMap, mayShow, stepWord, typeTerm, says, conditionsBy, conditionsOf, procedureConditions}
 use Rattle.spec.specs.Agreement.{agree}
-use Rattle.spec.specs.Sites.{Site, NumberedCondition, sites, numbered, claimsAt, claims, bodySites, claimsOfProcedure, claimsOfProcedures, claimsOf, isType, only}
+use Rattle.spec.specs.StepContexts.{StepContext, NumberedCondition, stepContexts, numbered, claimsAt, claims, bodyStepContexts, claimsOfProcedure, claimsOfProcedures, claimsOf, isType, only}
 use Rattle.spec.specs.Ranges.{InRange}
 use Rattle.spec.specs.declared.Word.the-variants.{Binary}
 use Rattle.spec.proofs.Claims.{claims-append}
@@ -18,20 +18,20 @@ use Rattle.fill_theory.specs.Filled.{filled}
 use Rattle.fill_theory.proofs.Kept.{type-kept, kind-kept, agree-kept, may-show-kept, contains-kept}
 use Rattle.spec.proofs.Claims.{only-append}
 
--- two lists of sites have the same claims on types
-record Alike (S : Split) (ss : List Site) (S′ : Split) (ss′ : List Site) : Type 0 where
+-- two lists of step contexts have the same claims on types
+record Alike (S : Split) (ss : List StepContext) (S′ : Split) (ss′ : List StepContext) : Type 0 where
   same : only isType (claims S ss) ≡ only isType (claims S′ ss′)
 
 -- a step and then its parts; one part and then the other
 module _ {S S′ : Split} where
-  step-alike : (s s′ : Site) {ss ss′ : List Site} → only isType (claimsAt S s) ≡ only isType (claimsAt S′ s′) → Alike S ss S′ ss′
+  step-alike : (s s′ : StepContext) {ss ss′ : List StepContext} → only isType (claimsAt S s) ≡ only isType (claimsAt S′ s′) → Alike S ss S′ ss′
       → Alike S (s ∷ ss) S′ (s′ ∷ ss′)
   unfolding claims
   step-alike s s′ {ss} {ss′} p q = record {
     same = only-append isType (claimsAt S s) (claims S ss) ∙ ap₂ _++_ p (q .same) ∙ sym (only-append isType (claimsAt S′ s′) (claims S′ ss′));
   }
 
-  both-alike : {xs ys xs′ ys′ : List Site} → Alike S xs S′ xs′ → Alike S ys S′ ys′ → Alike S (xs ++ ys) S′ (xs′ ++ ys′)
+  both-alike : {xs ys xs′ ys′ : List StepContext} → Alike S xs S′ xs′ → Alike S ys S′ ys′ → Alike S (xs ++ ys) S′ (xs′ ++ ys′)
   both-alike {xs} {ys} {xs′} {ys′} p q = record {
     same = rw (
       claims-append S xs ys,
@@ -77,22 +77,22 @@ module _ {P : Program} {S : Split} (R : InRange P S) (σ : List Map) where
     entries-kept n i (entry.post-at-p＞0 ∷ xs) = entries-kept n (i + 1) xs
     entries-kept n i (entry.post-at-p≧D ∷ xs) = entries-kept n (i + 1) xs
 
-    own-kept : ownTypes S′ Γ pre e ≡ ownTypes S Γ pre′ e
+    conditions-kept : ownTypes S′ Γ pre e ≡ ownTypes S Γ pre′ e
     unfolding claimsAt conditionsOf conditionsBy
-    own-kept = entries-kept (lineOf e) 1 (table (stepWord e))
+    conditions-kept = entries-kept (lineOf e) 1 (table (stepWord e))
 
-  sites-alike : (Γ : Env) (pre pre′ : Map) (e : Expr) → Alike S′ (sites S′ Γ pre e) S (sites S Γ pre′ e)
-  unfolding sites claims
-  sites-alike Γ pre pre′ (leaf w k v) = step-alike _ _ (own-kept Γ pre pre′ (leaf w k v)) (record { same = refl })
-  sites-alike Γ pre pre′ (unary w k v e₁) =
+  step-contexts-alike : (Γ : Env) (pre pre′ : Map) (e : Expr) → Alike S′ (stepContexts S′ Γ pre e) S (stepContexts S Γ pre′ e)
+  unfolding stepContexts claims
+  step-contexts-alike Γ pre pre′ (leaf w k v) = step-alike _ _ (conditions-kept Γ pre pre′ (leaf w k v)) (record { same = refl })
+  step-contexts-alike Γ pre pre′ (unary w k v e₁) =
       let e = unary w k v e₁ in
       let of-part : Split → Map → Map = λ T pre. preOfPart w pre (post T e) in
-      step-alike _ _ (own-kept Γ pre pre′ e) (sites-alike Γ (of-part S′ pre) (of-part S pre′) e₁)
-  sites-alike Γ pre pre′ (binary w k v e₁ e₂) =
+      step-alike _ _ (conditions-kept Γ pre pre′ e) (step-contexts-alike Γ (of-part S′ pre) (of-part S pre′) e₁)
+  step-contexts-alike Γ pre pre′ (binary w k v e₁ e₂) =
       let e = binary w k v e₁ e₂ in
       let of-second : Split → Map → Map = λ T pre. preOfSecond w pre (post T e₁) (bodyStart T e) in
-      let second = sites-alike (binding (role (Binary w)) (v, type S e₁) Γ) (of-second S′ pre) (of-second S pre′) e₂ in
-      step-alike _ _ (own-kept Γ pre pre′ e) (both-alike (sites-alike Γ pre pre′ e₁) (rw (type-kept S σ e₁) second))
+      let second = step-contexts-alike (binding (role (Binary w)) (v, type S e₁) Γ) (of-second S′ pre) (of-second S pre′) e₂ in
+      step-alike _ _ (conditions-kept Γ pre pre′ e) (both-alike (step-contexts-alike Γ pre pre′ e₁) (rw (type-kept S σ e₁) second))
 
   -- at a procedure's line
   line-kept : (f : ℕ) (q : Procedure)
@@ -100,9 +100,9 @@ module _ {P : Program} {S : Split} (R : InRange P S) (σ : List Map) where
   unfolding numbered procedureConditions only isType signature filled
   line-kept f q = simp (type-kept S σ, agree-kept R σ)
 
-  body-kept : (f : ℕ) (q : Procedure) → only isType (claims S′ (bodySites S′ (signature S′ f) q)) ≡ only isType (claims S (bodySites S (signature S f) q))
-  unfolding bodySites signature filled
-  body-kept f q = sites-alike _ _ _ (q .body) .same
+  body-kept : (f : ℕ) (q : Procedure) → only isType (claims S′ (bodyStepContexts S′ (signature S′ f) q)) ≡ only isType (claims S (bodyStepContexts S (signature S f) q))
+  unfolding bodyStepContexts signature filled
+  body-kept f q = step-contexts-alike _ _ _ (q .body) .same
 
   procedures-kept : (f : ℕ) (qs : List Procedure) → only isType (claimsOfProcedures S′ f qs) ≡ only isType (claimsOfProcedures S f qs)
   unfolding claimsOfProcedures claimsOfProcedure
@@ -111,4 +111,4 @@ module _ {P : Program} {S : Split} (R : InRange P S) (σ : List Map) where
 
   pub types-kept : only isType (claimsOf S′ P) ≡ only isType (claimsOf S P)
   unfolding claimsOf
-  types-kept = both-kept _ _ _ _ (procedures-kept 0 (P .procedures)) (sites-alike [] (startMap S′) (startMap S) (P .root) .same)
+  types-kept = both-kept _ _ _ _ (procedures-kept 0 (P .procedures)) (step-contexts-alike [] (startMap S′) (startMap S) (P .root) .same)

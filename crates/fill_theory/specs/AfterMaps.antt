@@ -7,7 +7,7 @@ use lib.ListN.{length, getD}
 use Rattle.spec.specs.Program.{Program}
 use Rattle.spec.specs.Split.{Map, Row, Split, mapAt}
 use Rattle.spec.specs.Maps.{share}
-use Rattle.spec.specs.Sites.{NumberedCondition, claimsOf, isType, isFlow, only}
+use Rattle.spec.specs.StepContexts.{NumberedCondition, claimsOf, isType, isFlow, only}
 use Rattle.spec.specs.FirstFalse.{AllHold}
 use Rattle.spec.specs.declared.Location.{Location}
 use Rattle.fill_theory.specs.Filled.{filled}

@@ -6,12 +6,12 @@ use mathlib.Core.Option.{Option, none, some}
 use Prim.Native.Nat.{ℕ, _≤_, _<_, min}
 use lib.Dec.{leb}
 use lib.ListN.{length, getD}
-use Rattle.spec.specs.Reading.{Out, stop, on, _>>=_, demand}
+use Rattle.spec.specs.Reading.{Result, refuse, ok, _>>=_, require}
 use Rattle.spec.specs.Program.{Program}
 use Rattle.spec.specs.Split.{Map, Split, splitLimit}
 use Rattle.spec.specs.Maps.{share}
 use Rattle.spec.specs.Workspace.{workspaceSize}
-use Rattle.spec.specs.Verdict.{sheets, locksTakeEnough, startAtMostOne, typed, four, returned}
+use Rattle.spec.specs.Verdict.{sheets, locksTakeEnough, startAtMostOne, typeConditionsHold, numbers4, returned}
 use Rattle.spec.specs.FirstFalse.{AllHold}
 use Rattle.spec.specs.Accepted.{Judgeable, AtMost}
 use Rattle.spec.specs.declared.Location.{Location}
@@ -21,7 +21,7 @@ use Rattle.spec.specs.declared.Answer.the-variants.{Refuse}
 use Rattle.spec.specs.declared.Refusal.{Refusal}
 use Rattle.spec.specs.declared.Refusal.the-variants.{ShortWorkspace, NoAfterMaps, TooLarge, TooManyMaps}
 use Rattle.written.specs.Text.{inFront}
-use Rattle.written.specs.Sheet.{written}
+use Rattle.written.specs.Sheet.{sheetText}
 use Rattle.fill_theory.specs.Filled.{filled}
 use Rattle.fill_theory.specs.AfterMaps.{typeClaims, GreatestMaps}
 use Rattle.fill_theory.specs.GreatestMaps.{greatestMaps}
@@ -44,27 +44,27 @@ allAtMost limit [] = true
 allAtMost limit (m ∷ ms) = mapAtMost limit m && allAtMost limit ms
 
 -- what is found, or a refusal
-unfoldable pub foundOr : {A : Type 0} → Refusal → Option A → Out A
-foundOr r none = stop r
-foundOr r (some a) = on a
+unfoldable pub foundOr : {A : Type 0} → Refusal → Option A → Result A
+foundOr r none = refuse r
+foundOr r (some a) = ok a
 
 -- 41 and 42: the text of the split with its greatest after-maps, for a buffer of so many bytes
-unfoldable pub filledText : (buffer : ℕ) → Program → Split → Out (List ℕ)
+unfoldable pub filledText : (buffer : ℕ) → Program → Split → Result (List ℕ)
 filledText buffer P S = do
   γ ← foundOr NoAfterMaps (greatestMaps P S)
-  small ← demand (allAtMost numberLimit γ) TooLarge
-  short ← demand (leb (length (written (filled S γ))) (min splitLimit buffer)) TooLarge
-  on (written (filled S γ))
+  small ← require (allAtMost numberLimit γ) TooLarge
+  short ← require (leb (length (sheetText (filled S γ))) (min splitLimit buffer)) TooLarge
+  ok (sheetText (filled S γ))
 
 -- the answer to a pair of texts, with a work space of `room` numbers and a buffer of `buffer` bytes
-unfoldable pub fill : (room buffer : ℕ) → (programText splitText : List ℕ) → Out (List ℕ)
+unfoldable pub fill : (room buffer : ℕ) → (programText splitText : List ℕ) → Result (List ℕ)
 fill room buffer programText splitText = do
-  enough ← demand (leb workspaceSize room) ShortWorkspace
+  enough ← require (leb workspaceSize room) ShortWorkspace
   (P, S) ← sheets Fill programText splitText
-  few ← demand (leb (S .header .maps) givenLimit) TooManyMaps
+  few ← require (leb (S .header .maps) givenLimit) TooManyMaps
   locks ← locksTakeEnough S
   whole ← startAtMostOne P S
-  typesHold ← typed P S
+  typesHold ← typeConditionsHold P S
   filledText buffer P S
 
 -- ------------------------------------------------------------------ when a sheet is written
@@ -79,8 +79,8 @@ pub record Fillable (room : ℕ) (programText splitText : List ℕ) (P : Program
 -- the split with the maps γ filled in keeps the size limits
 pub record WithinLimits (buffer : ℕ) (S : Split) (γ : List Map) : Type 0 where
   pub small : (i : ℕ) → AtMost numberLimit (getD γ i [])
-  pub notLong : length (written (filled S γ)) ≤ splitLimit
-  pub hasRoom : length (written (filled S γ)) ≤ buffer
+  pub notLong : length (sheetText (filled S γ)) ≤ splitLimit
+  pub hasRoom : length (sheetText (filled S γ)) ≤ buffer
 
 -- a text that is written: that of the split with its greatest after-maps, within the size limits
 pub record FilledSheet (room buffer : ℕ) (programText splitText text : List ℕ) : Type 0 where
@@ -90,14 +90,14 @@ pub record FilledSheet (room buffer : ℕ) (programText splitText text : List �
   pub fillable : Fillable room programText splitText P S
   pub greatest : GreatestMaps P S γ
   pub limits : WithinLimits buffer S γ
-  pub isText : text ≡ written (filled S γ)
+  pub isText : text ≡ sheetText (filled S γ)
 
 -- the split with the maps γ filled in goes over a size limit: a number of some step and location above 1,000,000,000, or a sheet over
 -- 65,536 bytes, or over the buffer
 pub data OverLimits (buffer : ℕ) (S : Split) (γ : List Map) : Type 0 where
   largeNumber : (i : ℕ) (p : Location) → numberLimit < share (getD γ i []) p → OverLimits buffer S γ
-  longSheet : splitLimit < length (written (filled S γ)) → OverLimits buffer S γ
-  shortBuffer : buffer < length (written (filled S γ)) → OverLimits buffer S γ
+  longSheet : splitLimit < length (sheetText (filled S γ)) → OverLimits buffer S γ
+  shortBuffer : buffer < length (sheetText (filled S γ)) → OverLimits buffer S γ
 
 -- "42 if the greatest has a number above 1,000,000,000 or the filled sheet is over 65,536 bytes or over the buffer"
 pub record GreatestOverLimits (buffer : ℕ) (P : Program) (S : Split) : Type 0 where
@@ -108,11 +108,11 @@ pub record GreatestOverLimits (buffer : ℕ) (P : Program) (S : Split) : Type 0 
 -- ------------------------------------------------------------------ what is returned
 
 -- "otherwise the answer is 0, the length, 0, 0"
-unfoldable pub returnedFor : Out (List ℕ) → Returned
-returnedFor (stop r) = returned (Refuse r)
-returnedFor (on text) = four 0 (length text) 0 0
+unfoldable pub returnedFor : Result (List ℕ) → Returned
+returnedFor (refuse r) = returned (Refuse r)
+returnedFor (ok text) = numbers4 0 (length text) 0 0
 
 -- "On refusal the output buffer is unchanged; otherwise [..] the buffer past the text is unchanged"
-unfoldable pub bufferAfter : Out (List ℕ) → (buffer : List ℕ) → List ℕ
-bufferAfter (stop r) buffer = buffer
-bufferAfter (on text) buffer = inFront text buffer
+unfoldable pub bufferAfter : Result (List ℕ) → (buffer : List ℕ) → List ℕ
+bufferAfter (refuse r) buffer = buffer
+bufferAfter (ok text) buffer = inFront text buffer

@@ -4,24 +4,24 @@ use mathlib.Core.List.{List, [], _∷_, map}
 use mathlib.Core.Option.{Option, none, some}
 use Prim.Native.Nat.{ℕ}
 use Prim.Native.String.{String, _++_ as _++ˢ_}
-use Rattle.spec.specs.Reading.{Out, on, _>>=_}
+use Rattle.spec.specs.Reading.{Result, ok, _>>=_}
 use Rattle.spec.specs.Program.{program}
 use Rattle.spec.specs.Split.{Map, split, splitLimit}
-use Rattle.spec.specs.Sites.{isType, only}
+use Rattle.spec.specs.StepContexts.{isType, only}
 use Rattle.spec.specs.Workspace.{workspaceSize}
-use Rattle.spec.specs.Verdict.{four, typed}
+use Rattle.spec.specs.Verdict.{numbers4, typeConditionsHold}
 use Rattle.spec.specs.Pairs.KnownPairs.{Pair, barred, _with_is_, found, P}
 use Rattle.spec.specs.Pairs.EdgeSheets.{times}
 use Rattle.spec.specs.declared.Purpose.the-variants.{Fill}
 use Rattle.spec.specs.declared.Returned.{Returned}
 use Rattle.written.specs.Text.{digit, digitsWithin, decimal, line, text}
-use Rattle.written.specs.Sheet.{headingName, headerNumbers, headerFields, outNumber, typeFields, mapFields, signatureFields, postShown, startShown, rowFields, splitLines, written}
+use Rattle.written.specs.Sheet.{headingName, headerNumbers, headerFields, outNumber, typeFields, mapFields, signatureFields, postShown, startShown, rowFields, splitLines, sheetText}
 use Rattle.fill_theory.specs.Filled.{withPosts, filled}
 use Rattle.fill_theory.specs.AfterMaps.{typeClaims}
 use Rattle.fill_theory.specs.Found as option
 use Rattle.fill_theory.specs.Flow.{unchanged, taking, giving, needing, lending, unaryFlow, binaryFlow}
-use Rattle.fill_theory.specs.Pass.{turn, forth, back, ownPost, weight, ceiling, reach, pass, greatestPosts, postsOfRoots}
-use Rattle.fill_theory.specs.FlowOf.{asks, loops, moving, effectOf, partWay, binaryWay, beforeHere, afterHere, hasHere, givenHere, callHere, flowOf, rootsFrom, rootsOf}
+use Rattle.fill_theory.specs.Pass.{apply, forth, back, ownPost, weight, ceiling, attainable, pass, greatestPosts, postsOfRoots}
+use Rattle.fill_theory.specs.FlowOf.{asks, loops, moving, effectOf, partTransfer, binaryTransfer, beforeHere, afterHere, hasHere, givenHere, callHere, flowOf, rootsFrom, rootsOf}
 use Rattle.fill_theory.specs.GreatestMaps.{postsAt, mapOfStep, mapsOfSteps, greatestMaps}
 use Rattle.fill_theory.specs.Answer.{givenLimit, numberLimit, mapAtMost, allAtMost, foundOr, filledText, fill, returnedFor}
 
@@ -37,9 +37,9 @@ unfoldable pub _with_has_ : String → String → Option (List Map) → Example
 p with s has ms = record { program = p; split = s; maps = ms }
 
 -- what the definitions give a pair
-unfoldable pub mapsFound : Example → Out (Option (List Map))
-unfolding found option._>>=_ option.demand option.forEach unchanged taking giving needing lending turn forth back ownPost weight ceiling reach pass greatestPosts postsOfRoots asks loops moving effectOf partWay binaryWay beforeHere afterHere hasHere givenHere callHere unaryFlow binaryFlow flowOf rootsFrom rootsOf postsAt mapOfStep mapsOfSteps greatestMaps
-mapsFound r = program (barred (r .program)) >>= λ p. split Fill p (barred (r .split)) >>= λ s. on (greatestMaps p s)
+unfoldable pub mapsFound : Example → Result (Option (List Map))
+unfolding found option._>>=_ option.require option.forEach unchanged taking giving needing lending apply forth back ownPost weight ceiling attainable pass greatestPosts postsOfRoots asks loops moving effectOf partTransfer binaryTransfer beforeHere afterHere hasHere givenHere callHere unaryFlow binaryFlow flowOf rootsFrom rootsOf postsAt mapOfStep mapsOfSteps greatestMaps
+mapsFound r = program (barred (r .program)) >>= λ p. split Fill p (barred (r .split)) >>= λ s. ok (greatestMaps p s)
 
 -- maps of one location
 unfoldable pub ones : List ℕ → Option (List Map)
@@ -113,13 +113,13 @@ callExamples =
     []
 
 unfoldable pub AllFound : List Example → Type 0
-AllFound rows = map mapsFound rows ≡ map (λ (r : Example). on (r .maps)) rows
+AllFound rows = map mapsFound rows ≡ map (λ (r : Example). ok (r .maps)) rows
 
 -- ------------------------------------------------------------------ whole answers
 
 -- the answer to a pair with a buffer of so many bytes
 unfoldable pub answered : (buffer : ℕ) → Pair → Returned
-unfolding mapsFound isType only typed withPosts filled typeClaims givenLimit numberLimit mapAtMost allAtMost foundOr filledText fill returnedFor digit digitsWithin decimal line text headingName headerNumbers headerFields outNumber typeFields mapFields signatureFields postShown startShown rowFields splitLines written
+unfolding mapsFound isType only typeConditionsHold withPosts filled typeClaims givenLimit numberLimit mapAtMost allAtMost foundOr filledText fill returnedFor digit digitsWithin decimal line text headingName headerNumbers headerFields outNumber typeFields mapFields signatureFields postShown startShown rowFields splitLines sheetText
 answered buffer r = returnedFor (fill workspaceSize buffer (barred (r .program)) (barred (r .split)))
 
 unfoldable pub AllAnswered : (buffer : ℕ) → List Pair → Type 0
@@ -128,41 +128,41 @@ AllAnswered buffer rows = map (answered buffer) rows ≡ map (λ (r : Pair). r .
 -- with a buffer of 30 bytes
 unfoldable pub answers : List Pair
 answers =
-    ("P,1|int,0|" with "C2,1,1,1,1,0|int,0,0|1|0,,|" is four 0 30 0 0) ∷
+    ("P,1|int,0|" with "C2,1,1,1,1,0|int,0,0|1|0,,|" is numbers4 0 30 0 0) ∷
     -- "A `C` header is 21"
-    ("P,1|int,0|" with "C,1,1,1,1|int,0,0|1|0,,|" is four 21 1 0 0) ∷
+    ("P,1|int,0|" with "C,1,1,1,1|int,0,0|1|0,,|" is numbers4 21 1 0 0) ∷
     -- "An m that is a numeral is 22, any other m that is not empty is 21", after the form of t and s
-    ("P,1|int,0|" with "C2,1,1,1,1,0|int,0,0|1|0,0,|" is four 22 4 0 0) ∷
-    ("P,1|int,0|" with "C2,1,1,1,1,0|int,0,0|1|0,9999999999,|" is four 22 4 0 0) ∷
-    ("P,1|int,0|" with "C2,1,1,1,1,0|int,0,0|1|0,00,|" is four 21 4 0 0) ∷
-    ("P,1|int,0|" with "C2,1,1,1,1,0|int,0,0|1|0,0,x|" is four 21 4 0 0) ∷
-    ("P,1|int,0|" with "C2,1,1,1,1,0|int,0,0|1|,0,|" is four 21 4 0 0) ∷
-    ("P,1|int,0|" with "C2,1,1,1,1,0|int,0,0|1|0,|" is four 21 4 0 0) ∷
-    ("P,1|int,0|" with "C2,1,1,1,1,0|int,0,0|1|0,,,|" is four 21 4 0 0) ∷
+    ("P,1|int,0|" with "C2,1,1,1,1,0|int,0,0|1|0,0,|" is numbers4 22 4 0 0) ∷
+    ("P,1|int,0|" with "C2,1,1,1,1,0|int,0,0|1|0,9999999999,|" is numbers4 22 4 0 0) ∷
+    ("P,1|int,0|" with "C2,1,1,1,1,0|int,0,0|1|0,00,|" is numbers4 21 4 0 0) ∷
+    ("P,1|int,0|" with "C2,1,1,1,1,0|int,0,0|1|0,0,x|" is numbers4 21 4 0 0) ∷
+    ("P,1|int,0|" with "C2,1,1,1,1,0|int,0,0|1|,0,|" is numbers4 21 4 0 0) ∷
+    ("P,1|int,0|" with "C2,1,1,1,1,0|int,0,0|1|0,|" is numbers4 21 4 0 0) ∷
+    ("P,1|int,0|" with "C2,1,1,1,1,0|int,0,0|1|0,,,|" is numbers4 21 4 0 0) ∷
     -- t and s keep their ranges
-    ("P,1|int,0|" with "C2,1,1,1,1,0|int,0,0|1|1,,|" is four 22 4 0 0) ∷
-    ("P,1|int,0|" with "C2,1,1,1,1,0|int,0,0|1|0,,0|" is four 22 4 0 0) ∷
+    ("P,1|int,0|" with "C2,1,1,1,1,0|int,0,0|1|1,,|" is numbers4 22 4 0 0) ∷
+    ("P,1|int,0|" with "C2,1,1,1,1,0|int,0,0|1|0,,0|" is numbers4 22 4 0 0) ∷
     -- each reason comes before the next; M has its range, and 43 is for a sheet that is well formed; 256 maps are not too many
-    ("P,1|int,0|" with "C2,1,1,1,513,0|int,0,0|1|0,,|" is four 22 1 0 0) ∷
-    ("P,1|int,0|" with "C2,1,1,1,257,1|int,0,0|" ++ˢ times 257 "2|" ++ˢ "0,0,|" is four 22 260 0 0) ∷
-    ("P,1|int,0|" with "C2,1,1,1,257,1|int,0,0|" ++ˢ times 257 "2|" ++ˢ "0,,|" is four 43 0 0 0) ∷
-    ("P,1|int,0|" with "C3,1,1,1,257,1|lock,0,1|" ++ˢ "1|" ++ˢ times 256 "0|" ++ˢ "0,,|" is four 43 0 0 0) ∷
-    ("P,1|int,0|" with "C3,1,1,2,2,0|int,0,0|lock,0,1|2|1|0,,|" is four 44 3 0 0) ∷
-    ("P,1|int,0|" with "C2,1,1,1,256,1|lock,0,0|" ++ˢ times 256 "2|" ++ˢ "0,,|" is four 30 2 0 0) ∷
-    ("P,3|let,0|newlock,0|int,0|" with "C2,1,1,2,2,0|int,0,0|lock,1,0|0|1|1,,|1,,|0,,|" is four 31 2 1 0) ∷
-    ("P,3|let,0|newlock,0|int,0|" with "C2,1,1,2,2,0|int,0,0|lock,1,0|0|1|0,,|1,,|0,,|" is four 41 0 0 0) ∷
-    ("P,1|newrwlock,64|" with "C2,1,1,1,2,0|rwlock,1,0|0|67108864|0,,|" is four 41 0 0 0) ∷
+    ("P,1|int,0|" with "C2,1,1,1,513,0|int,0,0|1|0,,|" is numbers4 22 1 0 0) ∷
+    ("P,1|int,0|" with "C2,1,1,1,257,1|int,0,0|" ++ˢ times 257 "2|" ++ˢ "0,0,|" is numbers4 22 260 0 0) ∷
+    ("P,1|int,0|" with "C2,1,1,1,257,1|int,0,0|" ++ˢ times 257 "2|" ++ˢ "0,,|" is numbers4 43 0 0 0) ∷
+    ("P,1|int,0|" with "C3,1,1,1,257,1|lock,0,1|" ++ˢ "1|" ++ˢ times 256 "0|" ++ˢ "0,,|" is numbers4 43 0 0 0) ∷
+    ("P,1|int,0|" with "C3,1,1,2,2,0|int,0,0|lock,0,1|2|1|0,,|" is numbers4 44 3 0 0) ∷
+    ("P,1|int,0|" with "C2,1,1,1,256,1|lock,0,0|" ++ˢ times 256 "2|" ++ˢ "0,,|" is numbers4 30 2 0 0) ∷
+    ("P,3|let,0|newlock,0|int,0|" with "C2,1,1,2,2,0|int,0,0|lock,1,0|0|1|1,,|1,,|0,,|" is numbers4 31 2 1 0) ∷
+    ("P,3|let,0|newlock,0|int,0|" with "C2,1,1,2,2,0|int,0,0|lock,1,0|0|1|0,,|1,,|0,,|" is numbers4 41 0 0 0) ∷
+    ("P,1|newrwlock,64|" with "C2,1,1,1,2,0|rwlock,1,0|0|67108864|0,,|" is numbers4 41 0 0 0) ∷
     ("P,16|" ++ˢ twoLocks "let,3|unlock,0|var,0|let,4|unlock,0|var,0|unlock,0|var,0|" with
-    twoLocksSplit "0,,|0,,|1,,|0,,|0,,|1,,|0,,|1,,|" is four 41 0 0 0) ∷
-    ("P,10|" ++ˢ twoLocks "unlock,0|var,0|" with twoLocksSplit "0,,|1,,|" is four 42 0 0 0) ∷
-    ("P,1|int,0|" with "C2,1,1,1,2,0|int,0,0|1|1|0,,|" is four 42 0 0 0) ∷
+    twoLocksSplit "0,,|0,,|1,,|0,,|0,,|1,,|0,,|1,,|" is numbers4 41 0 0 0) ∷
+    ("P,10|" ++ˢ twoLocks "unlock,0|var,0|" with twoLocksSplit "0,,|1,,|" is numbers4 42 0 0 0) ∷
+    ("P,1|int,0|" with "C2,1,1,1,2,0|int,0,0|1|1|0,,|" is numbers4 42 0 0 0) ∷
     []
 
 -- with a buffer as long as a sheet may be: two locks on one lock of a single part bring the whole to one over the largest number
 unfoldable pub overLargest : Pair
 overLargest =
     "P,7|let,0|newlock,0|let,1|lock,0|var,0|lock,0|var,0|" with
-    "C2,1000000000,1,2,2,0|int,0,0|lock,1,0|1000000000|1|0,,|1,,|0,,|0,,|1,,|0,,|1,,|" is four 42 0 0 0
+    "C2,1000000000,1,2,2,0|int,0,0|lock,1,0|1000000000|1|0,,|1,,|0,,|0,,|1,,|0,,|1,,|" is numbers4 42 0 0 0
 
 -- ------------------------------------------------------------------ sheets before and after
 
@@ -176,12 +176,12 @@ unfoldable pub _with_becomes_ : String → String → String → Filling
 p with s becomes t = record { program = p; given = s; whole = t }
 
 -- what is written for a pair
-unfoldable pub wholeOf : Filling → Out (List ℕ)
+unfoldable pub wholeOf : Filling → Result (List ℕ)
 unfolding answered
 wholeOf r = fill workspaceSize splitLimit (barred (r .program)) (barred (r .given))
 
 unfoldable pub AllWritten : List Filling → Type 0
-AllWritten rows = map wholeOf rows ≡ map (λ (r : Filling). on (barred (r .whole))) rows
+AllWritten rows = map wholeOf rows ≡ map (λ (r : Filling). ok (barred (r .whole))) rows
 
 unfoldable pub fillings : List Filling
 fillings =

@@ -4,10 +4,10 @@ use mathlib.Core.Path.{_≡_}
 use mathlib.Core.List.{List, [], _∷_}
 use Prim.Native.Nat.{ℕ, suc, _+_, _≤_}
 use Rattle.fill_theory.specs.declared.Effect.{Effect}
-use Rattle.fill_theory.specs.declared.UnaryWay.{UnaryWay}
-use Rattle.fill_theory.specs.declared.UnaryWay.the-variants.{After, Loop, Call}
-use Rattle.fill_theory.specs.declared.BinaryWay.{BinaryWay}
-use Rattle.fill_theory.specs.declared.BinaryWay.the-variants.{InTurn, Branch, Fork}
+use Rattle.fill_theory.specs.declared.UnaryTransfer.{UnaryTransfer}
+use Rattle.fill_theory.specs.declared.UnaryTransfer.the-variants.{After, Loop, Call}
+use Rattle.fill_theory.specs.declared.BinaryTransfer.{BinaryTransfer}
+use Rattle.fill_theory.specs.declared.BinaryTransfer.the-variants.{InTurn, Branch, Fork}
 
 -- ------------------------------------------------------------------ effects
 
@@ -48,12 +48,12 @@ pub data Flow : Type 0 where
   call : (atCall atReturn : ℕ) → Flow → Flow
 
 -- the flow of a step with its parts, by its way
-unfoldable pub unaryFlow : UnaryWay → Flow → Flow
+unfoldable pub unaryFlow : UnaryTransfer → Flow → Flow
 unaryFlow (After E) f = after E f
 unaryFlow Loop f = loop f
 unaryFlow (Call wanted left) f = call wanted left f
 
-unfoldable pub binaryFlow : BinaryWay → Flow → Flow → Flow
+unfoldable pub binaryFlow : BinaryTransfer → Flow → Flow → Flow
 binaryFlow (InTurn E) f g = inTurn E f g
 binaryFlow Branch f g = branch f g
 binaryFlow (Fork start due) f g = fork start due f g
@@ -70,7 +70,7 @@ steps (call b d f) = suc (steps f)
 -- ------------------------------------------------------------------ posts that pass
 
 -- from the number before to the number after
-pub record Turns (E : Effect) (before after : ℕ) : Type 0 where
+pub record Applies (E : Effect) (before after : ℕ) : Type 0 where
   pub balance : after + E .takes ≡ before + E .gives
   pub enough : E .needs ≤ after
   pub lent : E .lends ≤ E .takes
@@ -78,16 +78,16 @@ pub record Turns (E : Effect) (before after : ℕ) : Type 0 where
 -- Passes a i pre f: with a j for the post of step j, the steps of f, counted from i, meet their conditions from pre on.
 -- A first part stands just behind its step, a second part behind the first.
 unfoldable pub Passes : (a : ℕ → ℕ) → (i pre : ℕ) → Flow → Type 0
-Passes a i pre (alone E) = Turns E pre (a i)
-Passes a i pre (after E f) = Passes a (i + 1) pre f × Turns E (a (i + 1)) (a i)
+Passes a i pre (alone E) = Applies E pre (a i)
+Passes a i pre (after E f) = Passes a (i + 1) pre f × Applies E (a (i + 1)) (a i)
 Passes a i pre (inTurn E f g) = let j = i + 1 + steps f in
-    Passes a (i + 1) pre f × Passes a j (a (i + 1)) g × Turns E (a j) (a i)
+    Passes a (i + 1) pre f × Passes a j (a (i + 1)) g × Applies E (a j) (a i)
 Passes a i pre (branch f g) = let j = i + 1 + steps f in
     Passes a (i + 1) pre f × Passes a j pre g × (a i ≤ a (i + 1)) × (a i ≤ a j)
 Passes a i pre (loop f) =
     Passes a (i + 1) (a i) f × (a i ≤ pre) × (a i ≤ a (i + 1))
 Passes a i pre (fork s k f g) = let j = i + 1 + steps f in
-    Passes a (i + 1) pre f × Passes a j s g × (k ≤ a j) × Turns (taking s) (a (i + 1)) (a i)
+    Passes a (i + 1) pre f × Passes a j s g × (k ≤ a j) × Applies (taking s) (a (i + 1)) (a i)
 Passes a i pre (call b d f) =
     Passes a (i + 1) pre f × (a (i + 1) ≡ b) × (a i ≡ d)
 

@@ -20,10 +20,10 @@ use Rattle.spec.specs.declared.UnaryWord.the-variants.{While, Join, Ref, Read, 
 use Rattle.spec.specs.declared.BinaryWord.{BinaryWord}
 use Rattle.spec.specs.declared.BinaryWord.the-variants.{Let, If, Spawn, Write}
 use Rattle.fill_theory.specs.declared.Effect.{Effect}
-use Rattle.fill_theory.specs.declared.UnaryWay.{UnaryWay}
-use Rattle.fill_theory.specs.declared.UnaryWay.the-variants as way
-use Rattle.fill_theory.specs.declared.BinaryWay.{BinaryWay}
-use Rattle.fill_theory.specs.declared.BinaryWay.the-variants.{InTurn, Branch, Fork}
+use Rattle.fill_theory.specs.declared.UnaryTransfer.{UnaryTransfer}
+use Rattle.fill_theory.specs.declared.UnaryTransfer.the-variants as transfer
+use Rattle.fill_theory.specs.declared.BinaryTransfer.{BinaryTransfer}
+use Rattle.fill_theory.specs.declared.BinaryTransfer.the-variants.{InTurn, Branch, Fork}
 use Rattle.fill_theory.specs.Flow.{unchanged, Flow, alone, unaryFlow, binaryFlow, Root}
 
 -- an access to the location p that needs d there needs nothing elsewhere
@@ -76,14 +76,14 @@ module _ (g : Given) where
   effectOf (x ∷ line) = moving x (effectOf line)
 
   -- the way of a step with one part that calls no procedure, and of one with two parts
-  unfoldable pub partWay : UnaryWord → UnaryWay
-  partWay x = if loops x then way.Loop else way.After (effectOf (table (Unary x)))
+  unfoldable pub partTransfer : UnaryWord → UnaryTransfer
+  partTransfer x = if loops x then transfer.Loop else transfer.After (effectOf (table (Unary x)))
 
-  unfoldable pub binaryWay : BinaryWord → BinaryWay
-  binaryWay Let = InTurn (effectOf (table (Binary Let)))
-  binaryWay If = Branch
-  binaryWay Spawn = Fork (g .has s) (g .has K)
-  binaryWay Write = InTurn (effectOf (table (Binary Write)))
+  unfoldable pub binaryTransfer : BinaryWord → BinaryTransfer
+  binaryTransfer Let = InTurn (effectOf (table (Binary Let)))
+  binaryTransfer If = Branch
+  binaryTransfer Spawn = Fork (g .has s) (g .has K)
+  binaryTransfer Write = InTurn (effectOf (table (Binary Write)))
 
 -- ------------------------------------------------------------------ the flow of an expression
 
@@ -118,13 +118,13 @@ module _ (S : Split) (here : Location) where
   }
 
   -- what a call wants and leaves: the numbers of its procedure, each with what is kept back
-  unfoldable pub callHere : Expr → UnaryWay
-  callHere e = let kept = share (keptBack S e) here in way.Call (beforeHere (stepNumber e) + kept) (afterHere (stepNumber e) + kept)
+  unfoldable pub callHere : Expr → UnaryTransfer
+  callHere e = let kept = share (keptBack S e) here in transfer.Call (beforeHere (stepNumber e) + kept) (afterHere (stepNumber e) + kept)
 
   unfoldable pub flowOf : Expr → Flow
   flowOf (leaf x k v) = alone (effectOf (givenHere (leaf x k v) (leaf x k v)) (table (Leaf x)))
-  flowOf (unary x k v e₁) = let e = unary x k v e₁ in unaryFlow (if calls x then callHere e else partWay (givenHere e e₁) x) (flowOf e₁)
-  flowOf (binary x k v e₁ e₂) = binaryFlow (binaryWay (givenHere (binary x k v e₁ e₂) e₁) x) (flowOf e₁) (flowOf e₂)
+  flowOf (unary x k v e₁) = let e = unary x k v e₁ in unaryFlow (if calls x then callHere e else partTransfer (givenHere e e₁) x) (flowOf e₁)
+  flowOf (binary x k v e₁ e₂) = binaryFlow (binaryTransfer (givenHere (binary x k v e₁ e₂) e₁) x) (flowOf e₁) (flowOf e₂)
 
   -- the procedures from number f on, each from its before to at least its after; then the root, from the start
   unfoldable pub rootsFrom : (f : ℕ) → List Procedure → (root : Expr) → List Root

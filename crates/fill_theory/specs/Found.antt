@@ -10,9 +10,9 @@ none >>= f = none
 some a >>= f = f a
 
 -- go on if the test holds
-unfoldable pub demand : Bool → Option (Unit {0})
-demand true = some tt
-demand false = none
+unfoldable pub require : Bool → Option (Unit {0})
+require true = some tt
+require false = none
 
 -- what is found for each of n numbers from l on, if something is found for all of them
 unfoldable pub forEach : {A : Type 0} → (ℕ → Option A) → (l n : ℕ) → Option (List A)

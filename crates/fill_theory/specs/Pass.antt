@@ -7,7 +7,7 @@ use Prim.Native.Nat.{ℕ, _+_, _-_, min}
 use lib.Dec.{leb, eqb}
 use lib.ListN.{getD}
 use Rattle.spec.specs.Choice.{if_then_else_}
-use Rattle.fill_theory.specs.Found.{_>>=_, demand}
+use Rattle.fill_theory.specs.Found.{_>>=_, require}
 use Rattle.fill_theory.specs.Flow.{taking, Flow, alone, after, inTurn, branch, loop, fork, call, Root}
 use Rattle.fill_theory.specs.declared.Effect.{Effect}
 
@@ -21,8 +21,8 @@ unfoldable pub back : Effect → (c : ℕ) → ℕ
 back E c = c + E .takes - E .gives
 
 -- the number after a step, if there is one
-unfoldable pub turn : Effect → (before : ℕ) → Option ℕ
-turn E before =
+unfoldable pub apply : Effect → (before : ℕ) → Option ℕ
+apply E before =
     if leb (E .takes + E .needs) (before + E .gives) && leb (E .lends) (E .takes)
     then some (forth E before)
     else none
@@ -57,48 +57,48 @@ module _ (top : ℕ) where
 
   -- the most that the post can be, if it may be at most c, from a pre of at most x. A loop ends with what its part starts with and
   -- leaves: no more than the part can start with, and no more than it can leave.
-  unfoldable pub reach : (x c : ℕ) → Flow → ℕ
-  reach x c (alone E) = forth E x
-  reach x c (after E f) = forth E (reach x (back E c) f)
-  reach x c (inTurn E f g) = forth E (reach (reach x (ceiling (back E c) g) f) (back E c) g)
-  reach x c (branch f g) = min c (min (reach x top f) (reach x top g))
-  reach x c (loop f) = min x (min c (min (ceiling top f) (reach top top f)))
-  reach x c (fork s k f g) = forth (taking s) (reach x (back (taking s) c) f)
-  reach x c (call b d f) = d
+  unfoldable pub attainable : (x c : ℕ) → Flow → ℕ
+  attainable x c (alone E) = forth E x
+  attainable x c (after E f) = forth E (attainable x (back E c) f)
+  attainable x c (inTurn E f g) = forth E (attainable (attainable x (ceiling (back E c) g) f) (back E c) g)
+  attainable x c (branch f g) = min c (min (attainable x top f) (attainable x top g))
+  attainable x c (loop f) = min x (min c (min (ceiling top f) (attainable top top f)))
+  attainable x c (fork s k f g) = forth (taking s) (attainable x (back (taking s) c) f)
+  attainable x c (call b d f) = d
 
   -- ------------------------------------------------------------------ the pass
 
   -- the greatest posts whose own is at most c, or none if no posts pass
   unfoldable pub pass : (pre c : ℕ) → Flow → Option (List ℕ)
   pass pre c (alone E) = do
-    p ← turn E pre
+    p ← apply E pre
     some (p ∷ [])
   pass pre c (after E f) = do
     ps ← pass pre (back E c) f
-    p ← turn E (ownPost ps)
+    p ← apply E (ownPost ps)
     some (p ∷ ps)
   pass pre c (inTurn E f g) = do
     ps ← pass pre (ceiling (back E c) g) f
     qs ← pass (ownPost ps) (back E c) g
-    p ← turn E (ownPost qs)
+    p ← apply E (ownPost qs)
     some (p ∷ (ps ++ qs))
   pass pre c (branch f g) = do
     ps ← pass pre top f
     qs ← pass pre top g
     some (min c (min (ownPost ps) (ownPost qs)) ∷ (ps ++ qs))
-  pass pre c (loop f) = let most = reach pre c (loop f) in do
+  pass pre c (loop f) = let most = attainable pre c (loop f) in do
     ps ← pass most top f
-    kept ← demand (leb most (ownPost ps))
+    kept ← require (leb most (ownPost ps))
     some (most ∷ ps)
   pass pre c (fork s k f g) = do
     ps ← pass pre (back (taking s) c) f
     qs ← pass s top g
-    paid ← demand (leb k (ownPost qs))
-    p ← turn (taking s) (ownPost ps)
+    paid ← require (leb k (ownPost qs))
+    p ← apply (taking s) (ownPost ps)
     some (p ∷ (ps ++ qs))
   pass pre c (call b d f) = do
     ps ← pass pre b f
-    exact ← demand (eqb (ownPost ps) b)
+    exact ← require (eqb (ownPost ps) b)
     some (d ∷ ps)
 
 -- the greatest posts, of a flow and of flows one beside the other
@@ -109,6 +109,6 @@ unfoldable pub postsOfRoots : List Root → Option (List ℕ)
 postsOfRoots [] = some []
 postsOfRoots (r ∷ rs) = do
   ps ← greatestPosts (r .pre) (r .flow)
-  left ← demand (leb (r .due) (ownPost ps))
+  left ← require (leb (r .due) (ownPost ps))
   qs ← postsOfRoots rs
   some (ps ++ qs)

@@ -10,15 +10,15 @@ pub struct Effect {
     pub lends: u64,
 }
 
-// The way in which the number flows through a step, by the number of its parts.
-pub enum Way {
+// The transfer function of a step, by the number of its parts.
+pub enum Transfer {
     Leaf(Effect),
-    Unary(UnaryWay),
-    Binary(BinaryWay),
+    Unary(UnaryTransfer),
+    Binary(BinaryTransfer),
 }
 
 // With one part: after it; around it, again and again; or with exact numbers before and after the procedure that the step calls.
-pub enum UnaryWay {
+pub enum UnaryTransfer {
     After(Effect),
     Loop,
     Call(u64, u64),
@@ -26,7 +26,7 @@ pub enum UnaryWay {
 
 // With two parts: after both, the second after the first; through one or the other; or to both at once. A fork has the start of its
 // second part and what that must leave.
-pub enum BinaryWay {
+pub enum BinaryTransfer {
     InTurn(Effect),
     Branch,
     Fork(u32, u32),

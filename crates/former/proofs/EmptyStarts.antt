@@ -10,13 +10,13 @@ use lib.ListN.{length, replicate}
 use borrow.Author.Tests.{ltb-true, lt-ltb, le-leb}
 use Rattle.spec.specs.Choice.{if_then_else_}
 use Rattle.spec.specs.Text.{bytes, Line, closed, unclosed, lines, Field, onField, fields, digitLimit, digits, leadingZero, value, numeral}
-use Rattle.spec.specs.Reading.{Out, stop, on, _>>=_, Seen, right, wrong, badRange, seen, below, inRange, allInRange, withNumeral, numerals, ranged, numbers, splitSheet, Place, passed, nextLine, readLine, readLines, begin, end}
+use Rattle.spec.specs.Reading.{Result, refuse, ok, _>>=_, LineResult, good, bad, badRange, seen, below, inRange, allInRange, withNumeral, numerals, ranged, numbers, splitSheet, Place, passed, nextLine, readLine, readLines, begin, end}
 use Rattle.spec.specs.Words.{takesStart, keepsBack}
 use Rattle.spec.specs.Expression.{Step}
 use Rattle.spec.specs.Program.{Program, program}
 use Rattle.spec.specs.Split.{splitLimit, headerLine, typeLines, mapLine, signatureLine, rowOf, startGiven, startRange, postRange, postField, rowLine, split}
 use Rattle.spec.specs.declared.Header.{Header}
-use Rattle.spec.specs.Verdict.{sheets, ruled, checked, verdict}
+use Rattle.spec.specs.Verdict.{sheets, conditionsHold, checked, verdict}
 use Rattle.spec.specs.declared.Purpose.the-variants.{Check}
 use Rattle.spec.proofs.Outcomes.{bind-alike}
 use Rattle.spec.proofs.Tests.{both-true}
@@ -60,8 +60,8 @@ zero-in-range types maps t m = ap (ltb t types &&_) (by-map (ltb m maps) refl)
     by-map false h = rw h
 
 judged-alike : (t m : ℕ) (b : Bool)
-    → seen (rowOf (some (record { 0 = 0 }))) (if b then right (t ∷ m ∷ []) else wrong badRange)
-    ≡ seen (λ ns. rowOf (some (startGiven ns)) ns) (if b then right (t ∷ m ∷ 0 ∷ []) else wrong badRange)
+    → seen (rowOf (some (record { 0 = 0 }))) (if b then good (t ∷ m ∷ []) else bad badRange)
+    ≡ seen (λ ns. rowOf (some (startGiven ns)) ns) (if b then good (t ∷ m ∷ 0 ∷ []) else bad badRange)
 unfolding seen rowOf startGiven
 judged-alike t m true = refl
 judged-alike t m false = refl
@@ -107,31 +107,31 @@ module _ (H : Header) (s : Step) where
 
 -- Alike reads reads′ fs gs: each way in reads shows of a line what its fellow in reads′ shows of the line changed by its fellow in
 -- fs; gs are the changes behind those
-data Alike {A : Type 0} : (reads reads′ : List (List Field → Seen A)) → (fs gs : List (List ℕ → List ℕ)) → Type 0 where
+data Alike {A : Type 0} : (reads reads′ : List (List Field → LineResult A)) → (fs gs : List (List ℕ → List ℕ)) → Type 0 where
   nothing : {gs : List (List ℕ → List ℕ)} → Alike [] [] gs gs
-  line : {read read′ : List Field → Seen A} {f : List ℕ → List ℕ} {reads reads′ : List (List Field → Seen A)} {fs gs : List (List ℕ → List ℕ)}
+  line : {read read′ : List Field → LineResult A} {f : List ℕ → List ℕ} {reads reads′ : List (List Field → LineResult A)} {fs gs : List (List ℕ → List ℕ)}
       → ((l : List ℕ) → read (fields l) ≡ read′ (fields (f l)))
       → Alike reads reads′ fs gs
       → Alike (read ∷ reads) (read′ ∷ reads′) (f ∷ fs) gs
 
-bind-assoc : {A B C : Type 0} (m : Out A) (f : A → Out B) (g : B → Out C) → (m >>= f >>= g) ≡ (m >>= λ a. f a >>= g)
+bind-assoc : {A B C : Type 0} (m : Result A) (f : A → Result B) (g : B → Result C) → (m >>= f >>= g) ≡ (m >>= λ a. f a >>= g)
 unfolding _>>=_
-bind-assoc (stop r) f g = refl
-bind-assoc (on a) f g = refl
+bind-assoc (refuse r) f g = refl
+bind-assoc (ok a) f g = refl
 
 -- lines read alike, and what comes of the lines behind them alike
 module _ {A B : Type 0} where
-  one-alike : (x : Seen A) (k : ℕ) (ls ls′ : List Line) (more more′ : Place → Out (List A × Place)) (go go′ : List A × Place → Out B)
+  one-alike : (x : LineResult A) (k : ℕ) (ls ls′ : List Line) (more more′ : Place → Result (List A × Place)) (go go′ : List A × Place → Result B)
       → ((a : A) → (more (record { last = k; rest = ls }) >>= λ (as′, end). go (a ∷ as′, end))
       ≡ (more′ (record { last = k; rest = ls′ }) >>= λ (as′, end). go′ (a ∷ as′, end)))
-      → (passed splitSheet k ls x >>= (λ (a, after). more after >>= λ (as′, end). on (a ∷ as′, end)) >>= go)
-      ≡ (passed splitSheet k ls′ x >>= (λ (a, after). more′ after >>= λ (as′, end). on (a ∷ as′, end)) >>= go′)
+      → (passed splitSheet k ls x >>= (λ (a, after). more after >>= λ (as′, end). ok (a ∷ as′, end)) >>= go)
+      ≡ (passed splitSheet k ls′ x >>= (λ (a, after). more′ after >>= λ (as′, end). ok (a ∷ as′, end)) >>= go′)
   unfolding passed _>>=_
-  one-alike (wrong w) k ls ls′ more more′ go go′ h = refl
-  one-alike (right a) k ls ls′ more more′ go go′ h = bind-assoc (more _) _ go ∙ h a ∙ sym (bind-assoc (more′ _) _ go′)
+  one-alike (bad w) k ls ls′ more more′ go go′ h = refl
+  one-alike (good a) k ls ls′ more more′ go go′ h = bind-assoc (more _) _ go ∙ h a ∙ sym (bind-assoc (more′ _) _ go′)
 
-  all-alike : {reads reads′ : List (List Field → Seen A)} {fs gs : List (List ℕ → List ℕ)} → Alike reads reads′ fs gs
-      → (k : ℕ) (ls : List Line) (go go′ : List A × Place → Out B)
+  all-alike : {reads reads′ : List (List Field → LineResult A)} {fs gs : List (List ℕ → List ℕ)} → Alike reads reads′ fs gs
+      → (k : ℕ) (ls : List Line) (go go′ : List A × Place → Result B)
       → ((as′ : List A) (k : ℕ) (rest : List Line) → go (as′, record { last = k; rest = rest }) ≡ go′ (as′, record { last = k; rest = changedInTurn gs rest }))
       → (readLines splitSheet reads (record { last = k; rest = ls }) >>= go)
       ≡ (readLines splitSheet reads′ (record { last = k; rest = changedInTurn fs ls }) >>= go′)
@@ -166,11 +166,11 @@ rows-alike H [] = nothing
 rows-alike H (s ∷ steps) = line (row-alike H s) (rows-alike H steps)
 
 module _ (P : Program) (t t′ : List ℕ) where
-  header-alike : (l : List ℕ) (ls : List Line) (x : Seen Header) → headerLine Check (fields l) ≡ x
+  header-alike : (l : List ℕ) (ls : List Line) (x : LineResult Header) → headerLine Check (fields l) ≡ x
       → lines t ≡ closed l ∷ ls → lines t′ ≡ closed l ∷ zerosBehind x P ls → splitBy linesWithMapZero P t ≡ split Check P t′
   unfolding splitBy split begin readLine nextLine passed _>>=_ zerosBehind changedInTurn
-  header-alike l ls (wrong w) h e e′ = rw (e, e′, h)
-  header-alike l ls (right H) h e e′ = rw (e, e′, h) (
+  header-alike l ls (bad w) h e e′ = rw (e, e′, h)
+  header-alike l ls (good H) h e e′ = rw (e, e′, h) (
       all-alike (types-alike H 0 (H .types)) 1 ls _ _ λ types k₁ rest₁.
       all-alike (maps-alike H (H .maps)) k₁ rest₁ _ _ λ maps k₂ rest₂.
       all-alike (signatures-alike H (length (P .procedures))) k₂ rest₂ _ _ λ signatures k₃ rest₃.
@@ -185,13 +185,13 @@ module _ (P : Program) (t t′ : List ℕ) where
 -- ------------------------------------------------------------------ the answer
 
 sheets-alike : (p t t′ : List ℕ) → length t ≤ splitLimit → length t′ ≤ splitLimit → ZeroWritten p t t′
-    → sheetsBy program (splitBy linesWithMapZero) ruled p t ≡ sheets Check p t′
+    → sheetsBy program (splitBy linesWithMapZero) conditionsHold p t ≡ sheets Check p t′
 unfolding sheetsBy sheets
 sheets-alike p t t′ fits fits′ written = rw (le-leb _ _ fits, le-leb _ _ fits′) (
     bind-alike _ _ _ λ _ _.
     bind-alike _ _ _ λ P reads.
     bind-alike _ _ _ λ _ _.
-    ap (_>>= λ S. on (P, S)) (sheet-alike P t t′ (lines t) refl (written P reads)))
+    ap (_>>= λ S. ok (P, S)) (sheet-alike P t t′ (lines t) refl (written P reads)))
 
 pub zero-keeps-the-answer : ZeroKeepsTheAnswer
 unfolding verdictWithMapZero verdictBy verdict checkedBy checked

@@ -9,7 +9,7 @@ use lib.ListN.{length, drop, length-append, length-drop}
 use borrow.Author.Tests.{leb-true, le-leb}
 use Rattle.spec.specs.Choice.{if_then_else_}
 use Rattle.spec.specs.Text.{bytes, same, Line, closed, unclosed, lines, Field, fields, lookUp}
-use Rattle.spec.specs.Reading.{Out, stop, on, _>>=_, demand, Seen, right, wrong, programSheet, Place, passed, nextLine, readLine, readLines, begin, noneLeft, end}
+use Rattle.spec.specs.Reading.{Result, refuse, ok, _>>=_, require, LineResult, good, bad, programSheet, Place, passed, nextLine, readLine, readLines, begin, noneLeft, end}
 use Rattle.spec.specs.Words.{leafWords, cellWords, lockWords, unaryWords, words, wordsUnder}
 use Rattle.spec.specs.Expression.{Item}
 use Rattle.spec.specs.Program.{programLimit, Counts, programHeadings, countLine, itemLine, itemLines, Program, program}
@@ -17,7 +17,7 @@ use Rattle.spec.specs.declared.ProgramHeading.{ProgramHeading}
 use Rattle.spec.specs.declared.ProgramHeading.the-variants as heading
 use Rattle.spec.specs.Split.{Split, split}
 use Rattle.spec.specs.Workspace.{workspaceSize}
-use Rattle.spec.specs.Verdict.{sheets, ruled, checked, answer, verdict, four, returned}
+use Rattle.spec.specs.Verdict.{sheets, conditionsHold, checked, answer, verdict, numbers4, returned}
 use Rattle.spec.specs.declared.Purpose.the-variants.{Check}
 use Rattle.spec.specs.declared.Refusal.the-variants.{ShortWorkspace, LongProgram}
 use Rattle.spec.proofs.Clashes.{true-is-not-false}
@@ -40,7 +40,7 @@ lock-behind l fs h =
     rw (e₁, e₂, e₃, e₄) h₄
 
 -- what is read alike of the two words, and alike of any other, is read alike of the line changed
-changed-alike : {A : Type 0} (read read′ : List Field → Seen A)
+changed-alike : {A : Type 0} (read read′ : List Field → LineResult A)
     → read [] ≡ read′ [] → ((fs : List Field) → read (bytes "freelock" ∷ fs) ≡ read′ (bytes "lock" ∷ fs))
     → ((f : Field) (fs : List Field) → same f (bytes "freelock") ≡ false → read (f ∷ fs) ≡ read′ (f ∷ fs))
     → (l : List ℕ) → read (fields l) ≡ read′ (fields (lockInstead l))
@@ -79,17 +79,17 @@ count-alike = changed-alike countLine countLine refl (λ fs. unfold countLine lo
 unfoldable changedPlace : Place → Place
 changedPlace p = record { last = p .last; rest = map (onClosed lockInstead) (p .rest) }
 
-unfoldable moved : {A : Type 0} → A × Place → Out (A × Place)
-moved (a, p) = on (a, changedPlace p)
+unfoldable moved : {A : Type 0} → A × Place → Result (A × Place)
+moved (a, p) = ok (a, changedPlace p)
 
 module _ {A : Type 0} where
-  passed-moved : (k : ℕ) (rest : List Line) (x : Seen A)
+  passed-moved : (k : ℕ) (rest : List Line) (x : LineResult A)
       → passed programSheet k (map (onClosed lockInstead) rest) x ≡ (passed programSheet k rest x >>= moved)
   unfolding passed _>>=_ moved changedPlace
-  passed-moved k rest (right a) = refl
-  passed-moved k rest (wrong w) = refl
+  passed-moved k rest (good a) = refl
+  passed-moved k rest (bad w) = refl
 
-  module _ (read read′ : List Field → Seen A) (alike : (l : List ℕ) → read (fields l) ≡ read′ (fields (lockInstead l))) where
+  module _ (read read′ : List Field → LineResult A) (alike : (l : List ℕ) → read (fields l) ≡ read′ (fields (lockInstead l))) where
     line-moved : (k : ℕ) (ls : List Line)
         → nextLine programSheet read′ k (map (onClosed lockInstead) ls) ≡ (nextLine programSheet read k ls >>= moved)
     unfolding nextLine _>>=_ onClosed
@@ -102,18 +102,18 @@ module _ {A : Type 0} where
     unfolding readLine changedPlace
     next-moved p = line-moved (p .last) (p .rest)
 
-    then-moved : (o : Out (A × Place)) (more more′ : Place → Out (List A × Place))
+    then-moved : (o : Result (A × Place)) (more more′ : Place → Result (List A × Place))
         → ((p : Place) → more′ (changedPlace p) ≡ (more p >>= moved))
-        → (o >>= moved >>= λ (a, after). more′ after >>= λ (as′, end). on (a ∷ as′, end))
-        ≡ (o >>= (λ (a, after). more after >>= λ (as′, end). on (a ∷ as′, end)) >>= moved)
+        → (o >>= moved >>= λ (a, after). more′ after >>= λ (as′, end). ok (a ∷ as′, end))
+        ≡ (o >>= (λ (a, after). more after >>= λ (as′, end). ok (a ∷ as′, end)) >>= moved)
     unfolding _>>=_ moved
-    then-moved (stop r) more more′ h = refl
-    then-moved (on (a, p)) more more′ h = rw (h p) (behind (more p))
+    then-moved (refuse r) more more′ h = refl
+    then-moved (ok (a, p)) more more′ h = rw (h p) (behind (more p))
       where
-        behind : (o : Out (List A × Place))
-            → (o >>= moved >>= λ (as′, end). on (a ∷ as′, end)) ≡ (o >>= (λ (as′, end). on (a ∷ as′, end)) >>= moved)
-        behind (stop r) = refl
-        behind (on (as′, q)) = refl
+        behind : (o : Result (List A × Place))
+            → (o >>= moved >>= λ (as′, end). ok (a ∷ as′, end)) ≡ (o >>= (λ (as′, end). ok (a ∷ as′, end)) >>= moved)
+        behind (refuse r) = refl
+        behind (ok (as′, q)) = refl
 
 items-moved : (h : ProgramHeading) (k n : ℕ) (p : Place)
     → readLines programSheet (itemLines h k n) (changedPlace p) ≡ (readLines programSheet (itemLinesWithFreelock h k n) p >>= moved)
@@ -134,15 +134,15 @@ end-moved p = by-lines (p .rest)
 
 -- ------------------------------------------------------------------ the sheet
 
-tree-moved : (k : ℕ) (o : Out (List Item × Place)) → (o >>= moved >>= afterItems k) ≡ (o >>= afterItems k)
+tree-moved : (k : ℕ) (o : Result (List Item × Place)) → (o >>= moved >>= afterItems k) ≡ (o >>= afterItems k)
 unfolding _>>=_ moved afterItems
-tree-moved k (stop r) = refl
-tree-moved k (on (items, p)) = rw (end-moved p) (unfold changedPlace in refl)
+tree-moved k (refuse r) = refl
+tree-moved k (ok (items, p)) = rw (end-moved p) (unfold changedPlace in refl)
 
-count-moved : (o : Out (Counts × Place)) → (o >>= moved >>= afterCount itemLines) ≡ (o >>= afterCount itemLinesWithFreelock)
+count-moved : (o : Result (Counts × Place)) → (o >>= moved >>= afterCount itemLines) ≡ (o >>= afterCount itemLinesWithFreelock)
 unfolding _>>=_ moved afterCount
-count-moved (stop r) = refl
-count-moved (on (N, p)) = unfold changedPlace in
+count-moved (refuse r) = refl
+count-moved (ok (N, p)) = unfold changedPlace in
     ap (_>>= afterItems (N .procedures)) (items-moved (N .heading) (p .last + 1) (N .steps + N .procedures) p)
     ∙ tree-moved (N .procedures) (readLines programSheet (itemLinesWithFreelock (N .heading) (p .last + 1) (N .steps + N .procedures)) p)
 
@@ -208,7 +208,7 @@ text-no-longer p = omega (arith, lines-no-longer (lines p), ap length (joined-li
 -- ------------------------------------------------------------------ the answer
 
 checked-alike : (room : ℕ) (p s : List ℕ) → length p ≤ programLimit
-    → checked room (locksInstead p) s ≡ checkedBy programWithFreelock (split Check) ruled room p s
+    → checked room (locksInstead p) s ≡ checkedBy programWithFreelock (split Check) conditionsHold room p s
 unfolding sheets checked sheetsBy checkedBy
 checked-alike room p s fits =
     let fits′ : length (locksInstead p) ≤ programLimit = omega (arith, fits, text-no-longer p) in
@@ -219,9 +219,9 @@ pub lock-instead-as-formerly : (room : ℕ) (p s : List ℕ) → length p ≤ pr
 unfolding verdictWithFreelock verdictBy verdict
 lock-instead-as-formerly room p s fits = ap answer (checked-alike room p s fits)
 
-long-refused : (b : Bool) (m : Out (Program × Split)) (f : Program × Split → Out (Unit {0}))
-    → judgedByRules (answer (demand b ShortWorkspace >>= λ enough. (demand false LongProgram >>= λ fits. m) >>= f)) ≡ false
-unfolding judgedByRules answer returned four demand _>>=_
+long-refused : (b : Bool) (m : Result (Program × Split)) (f : Program × Split → Result (Unit {0}))
+    → judgedByRules (answer (require b ShortWorkspace >>= λ enough. (require false LongProgram >>= λ fits. m) >>= f)) ≡ false
+unfolding judgedByRules answer returned numbers4 require _>>=_
 long-refused true m f = refl
 long-refused false m f = refl
 

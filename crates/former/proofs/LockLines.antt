@@ -12,13 +12,13 @@ use lib.ListN.{length}
 use borrow.Author.Tests.{le-leb}
 use Rattle.spec.specs.Choice.{if_then_else_}
 use Rattle.spec.specs.Text.{bytes, same, Line, closed, lines, Field, lookUp, numeral}
-use Rattle.spec.specs.Reading.{on, _>>=_, right, wrong, badRange, seen, _to_, below, inRange, allInRange, withNumeral, numerals, ranged, numbers}
+use Rattle.spec.specs.Reading.{ok, _>>=_, good, bad, badRange, seen, _to_, below, inRange, allInRange, withNumeral, numerals, ranged, numbers}
 use Rattle.spec.specs.Expression.{Step}
 use Rattle.spec.specs.Program.{Program}
 use Rattle.spec.specs.Split.{headings, headerRanges, startOf, headerOf, headed, headerLine, lockOf, outRange, typeLine, typeLines, mapLine, signatureLine, startRange, mayBeEmpty, postRange, rowLine, Split, split, splitLimit}
 use Rattle.spec.specs.declared.Header.{Header}
 use Rattle.spec.specs.Verdict.{checked, answer, verdict}
-use Rattle.spec.specs.WellFormed.{Shows, nothing, line, WellFormedSplit}
+use Rattle.spec.specs.WellFormed.{Parses, nothing, line, WellFormedSplit}
 use Rattle.spec.specs.declared.Heading.the-variants.{C2, C3}
 use Rattle.spec.specs.declared.Purpose.the-variants.{Check}
 use Rattle.spec.specs.declared.TypeLine.{TypeLine}
@@ -35,27 +35,27 @@ use Rattle.former.proofs.NoHeading.{headedAs, under, ruling, same-rulin
 module _ (maps : ℕ) where
   -- the numbers of the one and of the other
   out-numbers : (k z : Option ℕ) (x : TypeLine)
-      → seen (lockOf C2) (ranged (below maps ∷ (0 to 0) ∷ []) (withNumeral k (withNumeral z (some [])))) ≡ right x
-      → seen (lockOf C3) (ranged (below maps ∷ below maps ∷ []) (withNumeral k (withNumeral k (some [])))) ≡ right x
+      → seen (lockOf C2) (ranged (below maps ∷ (0 to 0) ∷ []) (withNumeral k (withNumeral z (some [])))) ≡ good x
+      → seen (lockOf C3) (ranged (below maps ∷ below maps ∷ []) (withNumeral k (withNumeral k (some [])))) ≡ good x
   unfolding withNumeral ranged seen allInRange inRange lockOf
   out-numbers none z x h = wrong-is-not-right h
   out-numbers (some k) none x h = wrong-is-not-right h
   out-numbers (some k) (some z) x h = in-range (ltb k maps) (inRange (0 to 0) z && true) h
     where
-      in-range : (a b : Bool) → seen (lockOf C2) (if a && b then right (k ∷ z ∷ []) else wrong badRange) ≡ right x
-          → seen (lockOf C3) (if a && (a && true) then right (k ∷ k ∷ []) else wrong badRange) ≡ right x
+      in-range : (a b : Bool) → seen (lockOf C2) (if a && b then good (k ∷ z ∷ []) else bad badRange) ≡ good x
+          → seen (lockOf C3) (if a && (a && true) then good (k ∷ k ∷ []) else bad badRange) ≡ good x
       in-range true true h = h
       in-range true false h = wrong-is-not-right h
       in-range false b h = wrong-is-not-right h
 
-  two-fields : (fs : List Field) (x : TypeLine) → seen (lockOf C2) (numbers (below maps ∷ (0 to 0) ∷ []) fs) ≡ right x → length fs ≡ 2
+  two-fields : (fs : List Field) (x : TypeLine) → seen (lockOf C2) (numbers (below maps ∷ (0 to 0) ∷ []) fs) ≡ good x → length fs ≡ 2
   two-fields fs x h =
       let (ns, n, _) = seen-right _ h in
       let ranges = below maps ∷ (0 to 0) ∷ [] in
       sym (numerals-counted fs ns (numbers-spelled ranges fs ns n)) ∙ numbers-right ranges fs ns n .0
 
-  out-fields : (fs : List Field) (x : TypeLine) → seen (lockOf C2) (numbers (below maps ∷ (0 to 0) ∷ []) fs) ≡ right x
-      → seen (lockOf C3) (numbers (below maps ∷ below maps ∷ []) (secondToo fs)) ≡ right x
+  out-fields : (fs : List Field) (x : TypeLine) → seen (lockOf C2) (numbers (below maps ∷ (0 to 0) ∷ []) fs) ≡ good x
+      → seen (lockOf C3) (numbers (below maps ∷ below maps ∷ []) (secondToo fs)) ≡ good x
   unfolding secondToo numbers numerals
   out-fields [] x h = absurd (omega (arith, two-fields [] x h))
   out-fields (k ∷ []) x h = absurd (omega (arith, two-fields (k ∷ []) x h))
@@ -68,12 +68,12 @@ module _ (H : Header) (second : H .heading ≡ C2) where
   abbrev H′ : Header
   H′ = headedAs C3 H
 
-  lock-written : (own : ℕ) (fs : List Field) (x : TypeLine) → typeLine H own (bytes "lock" ∷ fs) ≡ right x
-      → typeLine H′ own (bytes "lock" ∷ secondToo fs) ≡ right x
+  lock-written : (own : ℕ) (fs : List Field) (x : TypeLine) → typeLine H own (bytes "lock" ∷ fs) ≡ good x
+      → typeLine H′ own (bytes "lock" ∷ secondToo fs) ≡ good x
   unfolding typeLine same bytes headedAs outRange
   lock-written own fs x h = out-fields (H .maps) fs x (rw second at h)
 
-  no-fields : (own : ℕ) (x : TypeLine) → typeLine H own [] ≡ right x → ⊥
+  no-fields : (own : ℕ) (x : TypeLine) → typeLine H own [] ≡ good x → ⊥
   unfolding typeLine
   no-fields own x h = wrong-is-not-right h
 
@@ -81,19 +81,19 @@ module _ (H : Header) (second : H .heading ≡ C2) where
   unfolding typeLine headedAs
   no-lock own f fs w = rw w
 
-  type-written : (own : ℕ) (fs : List Field) (x : TypeLine) → typeLine H own fs ≡ right x → typeLine H′ own (outWritten fs) ≡ right x
+  type-written : (own : ℕ) (fs : List Field) (x : TypeLine) → typeLine H own fs ≡ good x → typeLine H′ own (outWritten fs) ≡ good x
   unfolding outWritten
   type-written own [] x h = absurd (no-fields own x h)
   type-written own (f ∷ fs) x h = by-word (same f (bytes "lock")) refl
     where
-      by-word : (b : Bool) → same f (bytes "lock") ≡ b → typeLine H′ own (if b then f ∷ secondToo fs else f ∷ fs) ≡ right x
+      by-word : (b : Bool) → same f (bytes "lock") ≡ b → typeLine H′ own (if b then f ∷ secondToo fs else f ∷ fs) ≡ good x
       by-word true w =
           let is-lock : f ≡ bytes "lock" = same-equal f (bytes "lock") w in
           rw is-lock (lock-written own fs x (rw is-lock at h))
       by-word false w = no-lock own f fs w ∙ h
 
-  types-written : (own n : ℕ) {ls ls′ rest : List Line} {ts : List TypeLine} → OutsWritten n ls ls′ → Shows (typeLines H own n) ls ts rest
-      → Shows (typeLines H′ own n) ls′ ts rest
+  types-written : (own n : ℕ) {ls ls′ rest : List Line} {ts : List TypeLine} → OutsWritten n ls ls′ → Parses (typeLines H own n) ls ts rest
+      → Parses (typeLines H′ own n) ls′ ts rest
   unfolding typeLines
   types-written own zero stay nothing = nothing
   types-written own (suc n) (change e w) (line {a = a} shown more) = line (ap (typeLine H′ own) e ∙ type-written own _ a shown) (types-written (own + 1) n w more)
@@ -107,16 +107,16 @@ module _ (H : Header) (second : H .heading ≡ C2) where
   same-row s (t ∷ m ∷ (b ∷ f) ∷ []) = refl
   same-row s (t ∷ m ∷ f ∷ g ∷ fs) = refl
 
-numbers-written : (ns : List ℕ) → seen (headerOf C3) (right ns) ≡ right (headedAs C3 (headerOf C2 ns))
+numbers-written : (ns : List ℕ) → seen (headerOf C3) (good ns) ≡ good (headedAs C3 (headerOf C2 ns))
 unfolding seen headerOf startOf headedAs
 numbers-written ns = refl
 
-header-written : (fs : List Field) (H : Header) → headerLine Check (bytes "C2" ∷ fs) ≡ right H
-    → (headerLine Check (bytes "C3" ∷ fs) ≡ right (headedAs C3 H)) × (H .heading ≡ C2)
+header-written : (fs : List Field) (H : Header) → headerLine Check (bytes "C2" ∷ fs) ≡ good H
+    → (headerLine Check (bytes "C3" ∷ fs) ≡ good (headedAs C3 H)) × (H .heading ≡ C2)
 unfolding headerLine headings lookUp same bytes headed headerRanges headerOf
 header-written fs H h =
     let (ns, n, e) = seen-right _ h in
-    (ap (seen (headerOf C3)) n ∙ numbers-written ns ∙ ap (λ (x : Header). right (headedAs C3 x)) e, sym (ap (λ (x : Header). x .heading) e))
+    (ap (seen (headerOf C3)) n ∙ numbers-written ns ∙ ap (λ (x : Header). good (headedAs C3 x)) e, sym (ap (λ (x : Header). x .heading) e))
 
 -- ------------------------------------------------------------------ the sheet
 
@@ -146,11 +146,11 @@ module _ (P : Program) (S : Split) where
             typed = types-written (S .header) second 0 (S .header .types) outs (rw (← behind) at (w .typed));
             mapped = w .mapped;
             signed = w .signed;
-            rowed = along (λ reads. Shows reads (w .afterSignatures) (S .rows) [])
+            rowed = along (λ reads. Parses reads (w .afterSignatures) (S .rows) [])
                 (λ i. map (λ s fs. sym (same-row (S .header) second s fs) i) (P .steps)) (w .rowed);
           }
 
-sheet-alike : (P : Program) (S : Split) (t t′ : List ℕ) → length t ≤ splitLimit → length t′ ≤ splitLimit → split Check P t ≡ on S
+sheet-alike : (P : Program) (S : Split) (t t′ : List ℕ) → length t ≤ splitLimit → length t′ ≤ splitLimit → split Check P t ≡ ok S
     → WrittenOut (S .header .types) (lines t) (lines t′) → (split Check P t >>= ruling P) ≡ (split Check P t′ >>= ruling P)
 unfolding _>>=_
 sheet-alike P S t t′ fits fits′ read out =

@@ -6,7 +6,7 @@ use mathlib.Core.Option.{Option, none, some}
 use Prim.Native.Nat.{ℕ, _+_}
 use lib.ListN.{getD}
 use Rattle.spec.specs.Choice.{if_then_else_}
-use Rattle.spec.specs.Reading.{Out, _>>=_, demand}
+use Rattle.spec.specs.Reading.{Result, _>>=_, require}
 use Rattle.spec.specs.Words.{role, binding, preOfPart, preOfSecond}
 use Rattle.spec.specs.Expression.{Expr, leaf, unary, binary, Procedure}
 use Rattle.spec.specs.Program.{Program}
@@ -18,8 +18,8 @@ use Rattle.spec.specs.Agreement.{Tree, plain, sameTree, treeOf, trees, tree, ag
 use Rattle.spec.specs.Table as entry
 use Rattle.spec.specs.Table.{TypeTerm, MapTerm, Entry, table}
 use Rattle.spec.specs.Conditions.{Condition, T, Env, typeAt, mapAt, startMap, contains, looserLock, mayShow, row, type, kind, post, startOr, bodyStart, signature, stepWord, typeTerm, mapTerm, says, conditionsBy, conditionsOf, procedureConditions}
-use Rattle.spec.specs.Sites.{Site, sites, claimsAt, claims, bodySites, claimsOfProcedure, claimsOfProcedures, claimsOf}
-use Rattle.spec.specs.Verdict.{takesEnough, allTakeEnough, locksTakeEnough, startAtMostOne, ruled}
+use Rattle.spec.specs.StepContexts.{StepContext, stepContexts, claimsAt, claims, bodyStepContexts, claimsOfProcedure, claimsOfProcedures, claimsOf}
+use Rattle.spec.specs.Verdict.{takesEnough, allTakeEnough, locksTakeEnough, startAtMostOne, conditionsHold}
 use Rattle.spec.specs.declared.Heading.{Heading}
 use Rattle.spec.specs.declared.MapNumber.{MapNumber}
 use Rattle.spec.specs.declared.TypeNumber.{TypeNumber}
@@ -42,8 +42,8 @@ unfoldable pub under : Heading → Split → Split
 under h S = record { header = headedAs h (S .header); types = S .types; maps = S .maps; signatures = S .signatures; rows = S .rows }
 
 -- 44, 30 and 31 to 33
-unfoldable pub ruling : Program → Split → Out (Unit {0})
-ruling P S = locksTakeEnough S >>= λ locks. startAtMostOne P S >>= λ whole. ruled P S
+unfoldable pub ruling : Program → Split → Result (Unit {0})
+ruling P S = locksTakeEnough S >>= λ locks. startAtMostOne P S >>= λ whole. conditionsHold P S
 
 module _ (h : Heading) (S : Split) where
   -- ---------------------------------------------------------------- types
@@ -81,8 +81,8 @@ module _ (h : Heading) (S : Split) where
   unfolding allTakeEnough
   same-all-enough k [] = refl
   same-all-enough k (x ∷ xs) =
-      ap (λ (b : Bool). demand b (LockTakesLess k) >>= λ enough. allTakeEnough (under h S) (k + 1) xs) (same-enough x)
-      ∙ ap (λ (o : Out (Unit {0})). demand (takesEnough S x) (LockTakesLess k) >>= λ enough. o) (same-all-enough (k + 1) xs)
+      ap (λ (b : Bool). require b (LockTakesLess k) >>= λ enough. allTakeEnough (under h S) (k + 1) xs) (same-enough x)
+      ∙ ap (λ (o : Result (Unit {0})). require (takesEnough S x) (LockTakesLess k) >>= λ enough. o) (same-all-enough (k + 1) xs)
 
   same-locks : locksTakeEnough (under h S) ≡ locksTakeEnough S
   unfolding locksTakeEnough under
@@ -139,42 +139,42 @@ module _ (h : Heading) (S : Split) where
     same-all [] = refl
     same-all (x ∷ xs) = rw (same-says x, same-all xs)
 
-    same-own : conditionsOf (under h S) Γ pre e ≡ conditionsOf S Γ pre e
+    conditions-same : conditionsOf (under h S) Γ pre e ≡ conditionsOf S Γ pre e
     unfolding conditionsOf conditionsBy
-    same-own = same-all (table (stepWord e))
+    conditions-same = same-all (table (stepWord e))
 
   -- ---------------------------------------------------------------- all of them
 
-  same-sites : (Γ : Env) (pre : Map) (e : Expr) → sites (under h S) Γ pre e ≡ sites S Γ pre e
-  unfolding sites row type post bodyStart mapAt under
-  same-sites Γ pre (leaf w k v) = refl
-  same-sites Γ pre (unary w k v e₁) = rw (same-sites Γ (preOfPart w pre (post S (unary w k v e₁))) e₁)
-  same-sites Γ pre (binary w k v e₁ e₂) =
+  same-step-contexts : (Γ : Env) (pre : Map) (e : Expr) → stepContexts (under h S) Γ pre e ≡ stepContexts S Γ pre e
+  unfolding stepContexts row type post bodyStart mapAt under
+  same-step-contexts Γ pre (leaf w k v) = refl
+  same-step-contexts Γ pre (unary w k v e₁) = rw (same-step-contexts Γ (preOfPart w pre (post S (unary w k v e₁))) e₁)
+  same-step-contexts Γ pre (binary w k v e₁ e₂) =
       rw (
         same-start-in (row S (binary w k v e₁ e₂) .start),
-        same-sites Γ pre e₁,
-        same-sites (binding (role (Binary w)) (v, type S e₁) Γ) (preOfSecond w pre (post S e₁) (bodyStart S (binary w k v e₁ e₂))) e₂,
+        same-step-contexts Γ pre e₁,
+        same-step-contexts (binding (role (Binary w)) (v, type S e₁) Γ) (preOfSecond w pre (post S e₁) (bodyStart S (binary w k v e₁ e₂))) e₂,
       )
 
-  same-claims : (ss : List Site) → claims (under h S) ss ≡ claims S ss
+  same-claims : (ss : List StepContext) → claims (under h S) ss ≡ claims S ss
   unfolding claims claimsAt
   same-claims [] = refl
-  same-claims (s ∷ ss) = rw (same-own (s .Γ) (s .pre) (s .step), same-claims ss)
+  same-claims (s ∷ ss) = rw (conditions-same (s .Γ) (s .pre) (s .step), same-claims ss)
 
   same-start : (P : Program) → startAtMostOne P (under h S) ≡ startAtMostOne P S
   unfolding startAtMostOne startMap mapAt under headedAs
   same-start P = refl
 
-  -- of an expression's sites, and of a procedure's conditions
-  same-expression : (Γ : Env) (pre : Map) (e : Expr) → claims (under h S) (sites (under h S) Γ pre e) ≡ claims S (sites S Γ pre e)
-  same-expression Γ pre e = ap (claims (under h S)) (same-sites Γ pre e) ∙ same-claims (sites S Γ pre e)
+  -- of an expression's step contexts, and of a procedure's conditions
+  same-expression : (Γ : Env) (pre : Map) (e : Expr) → claims (under h S) (stepContexts (under h S) Γ pre e) ≡ claims S (stepContexts S Γ pre e)
+  same-expression Γ pre e = ap (claims (under h S)) (same-step-contexts Γ pre e) ∙ same-claims (stepContexts S Γ pre e)
 
   same-at-procedure : (g : Signature) (p : Procedure) → procedureConditions (under h S) g p ≡ procedureConditions S g p
   unfolding procedureConditions row type post mapAt under
   same-at-procedure g p = at-first _ (same-agree _ _)
 
   same-procedure : (g : Signature) (p : Procedure) → claimsOfProcedure (under h S) g p ≡ claimsOfProcedure S g p
-  unfolding claimsOfProcedure bodySites mapAt under
+  unfolding claimsOfProcedure bodyStepContexts mapAt under
   same-procedure g p =
       rw (same-at-procedure g p, same-expression ((p .parameter, g .argument) ∷ []) (mapAt S (g .before)) (p .body))
 
@@ -183,8 +183,8 @@ module _ (h : Heading) (S : Split) where
   same-procedures f [] = refl
   same-procedures f (p ∷ ps) = rw (same-procedure (signature S f) p, same-procedures (f + 1) ps)
 
-  same-ruled : (P : Program) → ruled P (under h S) ≡ ruled P S
-  unfolding ruled claimsOf startMap mapAt under headedAs
+  same-ruled : (P : Program) → conditionsHold P (under h S) ≡ conditionsHold P S
+  unfolding conditionsHold claimsOf startMap mapAt under headedAs
   same-ruled P = rw (same-procedures 0 (P .procedures), same-expression [] (startMap S) (P .root))
 
   pub same-ruling : (P : Program) → ruling P (under h S) ≡ ruling P S

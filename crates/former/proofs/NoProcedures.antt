@@ -10,7 +10,7 @@ use lib.ListN.{length, length-append}
 use borrow.Author.Tests.{le-leb, ne-eqb}
 use Rattle.spec.specs.Choice.{if_then_else_}
 use Rattle.spec.specs.Text.{bytes, same, Line, closed, unclosed, lines, Field, onField, fields, lookUp}
-use Rattle.spec.specs.Reading.{Out, on, _>>=_, programSheet, Seen, right, wrong, badRange, freelock, seen, wrongAfter, _to_, inRange, allInRange, numerals, ranged, numbers, Place, passed, nextLine, readLine, readLines}
+use Rattle.spec.specs.Reading.{Result, ok, _>>=_, programSheet, LineResult, good, bad, badRange, freelock, seen, refuseAfter, _to_, inRange, allInRange, numerals, ranged, numbers, Place, passed, nextLine, readLine, readLines}
 use Rattle.spec.specs.Words.{words, wordsUnder}
 use Rattle.spec.specs.Expression.{Item, Procedure}
 use Rattle.spec.specs.Program.{programLimit, Counts, firstNumber, programHeadings, countRanges, proceduresOf, countsOf, counted, countLine, wordLine, procLine, itemLine, itemLines, Program, program}
@@ -42,8 +42,8 @@ judged none = refl
 judged (some []) = refl
 judged (some (n ∷ [])) = go (allInRange (countRanges P) (n ∷ []))
   where
-    go : (x : Bool) → seen (countsOf P2) (if x then right (n ∷ 0 ∷ []) else wrong badRange)
-        ≡ seen underP2 (seen (countsOf P) (if x then right (n ∷ []) else wrong badRange))
+    go : (x : Bool) → seen (countsOf P2) (if x then good (n ∷ 0 ∷ []) else bad badRange)
+        ≡ seen underP2 (seen (countsOf P) (if x then good (n ∷ []) else bad badRange))
     go true = refl
     go false = refl
 judged (some (n ∷ k ∷ ns)) =
@@ -57,12 +57,12 @@ unfolding countLine counted programHeadings lookUp same bytes numbers
 count-counted fs = ap (λ (o : Option (List ℕ)). seen (countsOf P2) (ranged (countRanges P2) o)) (numerals-zero fs) ∙ judged (numerals fs)
 
 -- such a sheet is headed `P`
-count-plain : (fs : List Field) (N : Counts) → countLine (bytes "P" ∷ fs) ≡ right N → N .heading ≡ P
+count-plain : (fs : List Field) (N : Counts) → countLine (bytes "P" ∷ fs) ≡ good N → N .heading ≡ P
 unfolding countLine counted programHeadings lookUp same bytes countsOf
 count-plain fs N h = let (ns, _, e) = seen-right _ h in sym (ap (λ (x : Counts). x .heading) e)
 
 module _ (a : List ℕ) where
-  line-plain : (N : Counts) → countLine (fields (plainHeader a)) ≡ right N → N .heading ≡ P
+  line-plain : (N : Counts) → countLine (fields (plainHeader a)) ≡ good N → N .heading ≡ P
   unfolding bytes fields onField
   line-plain N h = count-plain (fields a) N h
 
@@ -79,22 +79,22 @@ item-same k [] h = refl
 item-same k (f ∷ fs) h = by-word (same f (bytes "proc")) (same (bytes "call") f) h
   where
     by-word : (b c : Bool) → (b || c) ≡ false
-        → (if same f (bytes "freelock") then wrongAfter freelock (numbers ((0 to 0) ∷ []) fs)
+        → (if same f (bytes "freelock") then refuseAfter freelock (numbers ((0 to 0) ∷ []) fs)
         else if b then procLine P2 k fs else wordLine k (if c then some (Unary Call) else lookUp words f) fs)
-        ≡ (if same f (bytes "freelock") then wrongAfter freelock (numbers ((0 to 0) ∷ []) fs)
+        ≡ (if same f (bytes "freelock") then refuseAfter freelock (numbers ((0 to 0) ∷ []) fs)
         else if b then procLine P k fs else wordLine k (lookUp words f) fs)
     by-word true c h = true-is-not-false h
     by-word false true h = true-is-not-false h
     by-word false false h = refl
 
 -- an item found alike, and the lines behind it read alike
-then-same : (k : ℕ) (rest : List Line) (x : Seen Item) (more more′ : Place → Out (List Item × Place))
+then-same : (k : ℕ) (rest : List Line) (x : LineResult Item) (more more′ : Place → Result (List Item × Place))
     → more (record { last = k; rest = rest }) ≡ more′ (record { last = k; rest = rest })
-    → _≡_ {A = Out (List Item × Place)} (passed programSheet k rest x >>= λ (a, after). more after >>= λ (as′, end). on (a ∷ as′, end))
-    (passed programSheet k rest x >>= λ (a, after). more′ after >>= λ (as′, end). on (a ∷ as′, end))
+    → _≡_ {A = Result (List Item × Place)} (passed programSheet k rest x >>= λ (a, after). more after >>= λ (as′, end). ok (a ∷ as′, end))
+    (passed programSheet k rest x >>= λ (a, after). more′ after >>= λ (as′, end). ok (a ∷ as′, end))
 unfolding passed _>>=_
-then-same k rest (right a) more more′ h = ap (λ (o : Out (List Item × Place)). o >>= λ (as′, end). on (a ∷ as′, end)) h
-then-same k rest (wrong w) more more′ h = refl
+then-same k rest (good a) more more′ h = ap (λ (o : Result (List Item × Place)). o >>= λ (as′, end). ok (a ∷ as′, end)) h
+then-same k rest (bad w) more more′ h = refl
 
 items-same : (k n last : ℕ) (ls : List Line) → NoNewWords ls
     → readLines programSheet (itemLines P2 k n) (record { last = last; rest = ls }) ≡ readLines programSheet (itemLines P k n) (record { last = last; rest = ls })
@@ -109,12 +109,12 @@ items-same k (suc n) last (closed l ∷ ls) h =
 
 -- ------------------------------------------------------------------ the sheet
 
-passed-same : (ls : List Line) → NoNewWords ls → (s : Seen Counts) → ((N : Counts) → s ≡ right N → N .heading ≡ P)
+passed-same : (ls : List Line) → NoNewWords ls → (s : LineResult Counts) → ((N : Counts) → s ≡ good N → N .heading ≡ P)
     → (passed programSheet 1 ls (seen underP2 s) >>= afterCount itemLines) ≡ (passed programSheet 1 ls s >>= afterCount itemLines)
 unfolding passed seen _>>=_ afterCount underP2
-passed-same ls old (right N) headed =
+passed-same ls old (good N) headed =
     rw (headed N refl) (ap (_>>= afterItems (N .procedures)) (items-same 2 (N .steps + N .procedures) 1 ls old))
-passed-same ls old (wrong w) headed = refl
+passed-same ls old (bad w) headed = refl
 
 module _ (a t : List ℕ) (one : OneLine a) (old : NoNewWords (lines t)) where
   plain-line : OneLine (plainHeader a)
@@ -130,7 +130,7 @@ module _ (a t : List ℕ) (one : OneLine a) (old : NoNewWords (lines t)) where
   program-same : program (headerWithNone a above t) ≡ program (plainHeader a above t)
   program-same =
       program-stages (headerWithNone a) t none-line
-      ∙ ap (λ (s : Seen Counts). passed programSheet 1 (lines t) s >>= afterCount itemLines) (line-counted a)
+      ∙ ap (λ (s : LineResult Counts). passed programSheet 1 (lines t) s >>= afterCount itemLines) (line-counted a)
       ∙ passed-same (lines t) old (countLine (fields (plainHeader a))) (line-plain a)
       ∙ sym (program-stages (plainHeader a) t plain-line)
 
@@ -157,7 +157,7 @@ plain-has-no-procedures {Q = Q} w is-plain = none-there (Q .procedures) (none-co
     none-there [] h = refl
     none-there (p ∷ ps) h = absurd (omega (arith, h))
 
-    by-heading : (o : Option ProgramHeading) (fs : List Field) (N : Counts) → counted o fs ≡ right N → N .heading ≡ P → N .procedures ≡ 0
+    by-heading : (o : Option ProgramHeading) (fs : List Field) (N : Counts) → counted o fs ≡ good N → N .heading ≡ P → N .procedures ≡ 0
     by-heading none fs N h e = unfold counted in wrong-is-not-right h
     by-heading (some P) fs N h e = unfold counted countsOf proceduresOf in
         let (ns, _, is) = seen-right _ h in
@@ -168,6 +168,6 @@ plain-has-no-procedures {Q = Q} w is-plain = none-there (Q .procedures) (none-co
         let clash : _≡_ {A = ℕ} 0 1 = cc in
         absurd (omega arith)
 
-    none-counted : (fs : List Field) (N : Counts) → countLine fs ≡ right N → N .heading ≡ P → N .procedures ≡ 0
+    none-counted : (fs : List Field) (N : Counts) → countLine fs ≡ good N → N .heading ≡ P → N .procedures ≡ 0
     none-counted [] N h e = unfold countLine in wrong-is-not-right h
     none-counted (f ∷ fs) N h e = unfold countLine in by-heading (lookUp programHeadings f) fs N h e

@@ -6,10 +6,10 @@ use Prim.Native.Nat.{ℕ}
 use lib.ListN.{length}
 use Rattle.spec.specs.Choice.{if_then_else_}
 use Rattle.spec.specs.Text.{Field}
-use Rattle.spec.specs.Reading.{Out, Fault, badForm, badRange, Seen, right, wrong, programSheet, splitSheet, SheetName, form, outside, faulty}
+use Rattle.spec.specs.Reading.{Result, Fault, badForm, badRange, LineResult, good, bad, programSheet, splitSheet, SheetName, form, outside, faulty}
 use Rattle.spec.specs.Program.{Program, program, countLine, itemLines}
 use Rattle.spec.specs.Split.{headerLine, typeLines, mapLine, signatureLine, rowLine, split}
-use Rattle.spec.specs.Verdict.{sheets, ruled, checked, answer, verdict}
+use Rattle.spec.specs.Verdict.{sheets, conditionsHold, checked, answer, verdict}
 use Rattle.spec.specs.declared.Answer.the-variants.{Refuse}
 use Rattle.spec.specs.declared.Purpose.the-variants.{Check}
 use Rattle.spec.specs.declared.Refusal.{Refusal}
@@ -34,24 +34,24 @@ lost-gone splitSheet badForm lost-form k = split-form
 lost-gone splitSheet badRange lost-range k = split-range
 
 module _ (sheet : SheetName) {A : Type 0} where
-  abbrev Alike : (x y : Seen A) → Type 0
+  abbrev Alike : (x y : LineResult A) → Type 0
   Alike x y = SeenUnless Gone sheet Lost (lost-gone sheet) x y
 
-  by-seven-alike : (read : List Field → Seen A) (fs : List Field) → Alike (bySeven read fs) (read fs)
+  by-seven-alike : (read : List Field → LineResult A) (fs : List Field) → Alike (bySeven read fs) (read fs)
   unfolding bySeven
   by-seven-alike read fs = by-length (overSeven fs)
     where
-      by-length : (b : Bool) → Alike (if b then wrong badForm else read fs) (read fs)
+      by-length : (b : Bool) → Alike (if b then bad badForm else read fs) (read fs)
       by-length true = lost lost-form
       by-length false = same-seen
 
-  narrowed-alike : (test : A → Bool) {x y : Seen A} → Alike x y → Alike (narrowed test x) y
+  narrowed-alike : (test : A → Bool) {x y : LineResult A} → Alike x y → Alike (narrowed test x) y
   unfolding narrowed
   narrowed-alike test (lost w) = lost w
-  narrowed-alike test (same-seen {x = wrong w}) = same-seen
-  narrowed-alike test (same-seen {x = right a}) = by-test (test a)
+  narrowed-alike test (same-seen {x = bad w}) = same-seen
+  narrowed-alike test (same-seen {x = good a}) = by-test (test a)
     where
-      by-test : (b : Bool) → Alike (if b then right a else wrong badRange) (right a)
+      by-test : (b : Bool) → Alike (if b then good a else bad badRange) (good a)
       by-test true = same-seen
       by-test false = lost lost-range
 
@@ -88,7 +88,7 @@ module _ (P : Program) where
 
 -- ------------------------------------------------------------------ the answer
 
-checked-alike : (room : ℕ) (p s : List ℕ) → Unless Gone (checkedBy programBySeven (splitBy linesBySeven) ruled room p s) (checked room p s)
+checked-alike : (room : ℕ) (p s : List ℕ) → Unless Gone (checkedBy programBySeven (splitBy linesBySeven) conditionsHold room p s) (checked room p s)
 unfolding checkedBy sheetsBy checked sheets
 checked-alike room p s =
     then-unless Gone _ _ same λ enough.
@@ -102,6 +102,6 @@ pub other-ranges-stay : OtherRangesStay
 unfolding verdictBySeven verdictBy verdict
 other-ranges-stay room p s = by-cases (checked-alike room p s)
   where
-    by-cases : {o o′ : Out (Unit {0})} → Unless Gone o o′ → (OnFormOrRange (answer o) → ⊥) → answer o′ ≡ answer o
+    by-cases : {o o′ : Result (Unit {0})} → Unless Gone o o′ → (OnFormOrRange (answer o) → ⊥) → answer o′ ≡ answer o
     by-cases same h = refl
     by-cases (gone w) h = unfold answer in absurd (h w)

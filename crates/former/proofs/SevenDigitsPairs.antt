@@ -2,7 +2,7 @@
 use mathlib.Core.Path.{_≡_, refl}
 use mathlib.Core.List.{List, [], _∷_, _++_, map}
 use Rattle.spec.specs.Workspace.{workspaceSize}
-use Rattle.spec.specs.Verdict.{four, returned}
+use Rattle.spec.specs.Verdict.{numbers4, returned}
 use Rattle.spec.specs.Pairs.KnownPairs.{Pair, barred, _with_is_, found, P, S, Z, starred}
 use Rattle.spec.specs.declared.Returned.{Returned}
 use Rattle.former.specs.Judging.{programBy, splitBy, sheetsBy, checkedBy, verdictBy}
@@ -11,13 +11,13 @@ use Rattle.former.specs.SevenDigits.{overSeven, bySeven, narrowed, milli
 -- one step; each used to get the answer listed
 unfoldable pub limits : List Pair
 limits =
-    ("P,1|int,0|" with "C,1000000,1,1,1|int,0,0|1000000|0,0,|" is four 0 0 0 0) ∷
-    ("P,1|int,9999999|" with "" is four 12 2 0 0) ∷
-    ("P,1|var,1000000000|" with "" is four 11 2 0 0) ∷
-    ("P,1|int,0|" with "C,1000001,1,1,1|int,0,0|0|0,0,|" is four 22 1 0 0) ∷
-    ("P,1|int,0|" with "C,10000000,1,1,1|int,0,0|0|0,0,|" is four 21 1 0 0) ∷
-    ("P,1|int,0|" with "C,1000000,1,1,1|int,0,0|1000001|0,0,|" is four 22 3 0 0) ∷
-    ("P,1|int,0|" with "C,1000000,1,1,1|int,0,0|10000000|0,0,|" is four 21 3 0 0) ∷
+    ("P,1|int,0|" with "C,1000000,1,1,1|int,0,0|1000000|0,0,|" is numbers4 0 0 0 0) ∷
+    ("P,1|int,9999999|" with "" is numbers4 12 2 0 0) ∷
+    ("P,1|var,1000000000|" with "" is numbers4 11 2 0 0) ∷
+    ("P,1|int,0|" with "C,1000001,1,1,1|int,0,0|0|0,0,|" is numbers4 22 1 0 0) ∷
+    ("P,1|int,0|" with "C,10000000,1,1,1|int,0,0|0|0,0,|" is numbers4 21 1 0 0) ∷
+    ("P,1|int,0|" with "C,1000000,1,1,1|int,0,0|1000001|0,0,|" is numbers4 22 3 0 0) ∷
+    ("P,1|int,0|" with "C,1000000,1,1,1|int,0,0|10000000|0,0,|" is numbers4 21 3 0 0) ∷
     []
 
 unfoldable pub answeredBySeven : Pair → Returned
@@ -28,7 +28,7 @@ pub record LimitsAnswered : Type 0 where
   pub formerly : map answeredBySeven (limits ++ starred) ≡ map (λ (r : Pair). r .expected) (limits ++ starred)
   pub now :
       map found limits
-      ≡ four 0 0 0 0 ∷ four 12 2 0 0 ∷ four 12 2 0 0 ∷ four 0 0 0 0 ∷ four 0 0 0 0 ∷ four 30 2 0 0 ∷ four 30 2 0 0 ∷ []
+      ≡ numbers4 0 0 0 0 ∷ numbers4 12 2 0 0 ∷ numbers4 12 2 0 0 ∷ numbers4 0 0 0 0 ∷ numbers4 0 0 0 0 ∷ numbers4 30 2 0 0 ∷ numbers4 30 2 0 0 ∷ []
 
 pub limits-answered : LimitsAnswered
 unfolding found _with_is_ P S Z starred limits answeredBySeven programBy splitBy sheetsBy checkedBy verdictBy overSeven bySeven narrowed millionAtMost programBySeven verdictBySeven

@@ -12,7 +12,7 @@ use lib.ListN.{length, replicate, length-append}
 use borrow.Author.Tests.{le-leb, ne-eqb}
 use Rattle.spec.specs.Choice.{if_then_else_}
 use Rattle.spec.specs.Text.{bytes, same, Line, closed, unclosed, lines, Field, onField, fields, lookUp}
-use Rattle.spec.specs.Reading.{splitSheet, Out, stop, on, _>>=_, demand, noStart, Seen, right, wrong, badRange, seen, insist, allInRange, numerals, ranged, numbers, faulty, passed, nextLine, readLine, readLines, begin, end, Place}
+use Rattle.spec.specs.Reading.{splitSheet, Result, refuse, ok, _>>=_, require, noStart, LineResult, good, bad, badRange, seen, ensure, allInRange, numerals, ranged, numbers, faulty, passed, nextLine, readLine, readLines, begin, end, Place}
 use Rattle.spec.specs.Expression.{Step}
 use Rattle.spec.specs.Words.{keepsBack}
 use Rattle.spec.specs.Program.{Program, programLimit, program}
@@ -47,11 +47,11 @@ judged (some (d ∷ [])) = refl
 judged (some (d ∷ l ∷ [])) = refl
 judged (some (d ∷ l ∷ t ∷ [])) = refl
 judged (some (d ∷ l ∷ t ∷ m ∷ [])) =
-    ap (λ (x : Bool). seen (headerOf C2) (if x then right (d ∷ l ∷ t ∷ m ∷ 0 ∷ []) else wrong badRange)) (sym (first-map-fits d l t m))
+    ap (λ (x : Bool). seen (headerOf C2) (if x then good (d ∷ l ∷ t ∷ m ∷ 0 ∷ []) else bad badRange)) (sym (first-map-fits d l t m))
     ∙ go (allInRange (headerRanges C m) (d ∷ l ∷ t ∷ m ∷ []))
   where
-    go : (x : Bool) → seen (headerOf C2) (if x then right (d ∷ l ∷ t ∷ m ∷ 0 ∷ []) else wrong badRange)
-        ≡ seen (headedAs C2) (seen (headerOf C) (if x then right (d ∷ l ∷ t ∷ m ∷ []) else wrong badRange))
+    go : (x : Bool) → seen (headerOf C2) (if x then good (d ∷ l ∷ t ∷ m ∷ 0 ∷ []) else bad badRange)
+        ≡ seen (headedAs C2) (seen (headerOf C) (if x then good (d ∷ l ∷ t ∷ m ∷ []) else bad badRange))
     go true = refl
     go false = refl
 judged (some (d ∷ l ∷ t ∷ m ∷ r ∷ ns)) =
@@ -66,14 +66,14 @@ header-named fs =
     ap (λ (o : Option (List ℕ)). seen (headerOf C2) (ranged (headerRanges C2 (mapsIn o)) o)) (numerals-zero fs) ∙ judged (numerals fs)
 
 -- such a header is headed `C`
-header-plain : (fs : List Field) (H : Header) → headerLine Check (bytes "C" ∷ fs) ≡ right H → H .heading ≡ C
+header-plain : (fs : List Field) (H : Header) → headerLine Check (bytes "C" ∷ fs) ≡ good H → H .heading ≡ C
 unfolding headerLine headings lookUp same bytes headed headerOf
 header-plain fs H h = let (ns, _, e) = seen-right _ h in sym (ap (λ (x : Header). x .heading) e)
 
 -- ------------------------------------------------------------------ line 1
 
 module _ (a : List ℕ) where
-  line-plain : (H : Header) → headerLine Check (fields (headerUnnamed a)) ≡ right H → H .heading ≡ C
+  line-plain : (H : Header) → headerLine Check (fields (headerUnnamed a)) ≡ good H → H .heading ≡ C
   unfolding bytes fields onField
   line-plain H h = header-plain (fields a) H h
 
@@ -96,24 +96,24 @@ module _ (H : Header) (plain : H .heading ≡ C) where
 
 module _ (H : Header) where
   -- of a row that leaves out the start of a spawn
-  data Alike (x y : Seen Row) : Type 0 where
+  data Alike (x y : LineResult Row) : Type 0 where
     same-row : x ≡ y → Alike x y
-    turned-away : y ≡ wrong noStart → Alike x y
+    turned-away : y ≡ bad noStart → Alike x y
 
-  empty-alike : (b : Bool) (x : Seen Row) → Alike (insist true noStart x) (insist b noStart x)
-  unfolding insist
-  empty-alike b (wrong v) = same-row refl
-  empty-alike true (right a) = same-row refl
-  empty-alike false (right a) = turned-away refl
+  empty-alike : (b : Bool) (x : LineResult Row) → Alike (ensure true noStart x) (ensure b noStart x)
+  unfolding ensure
+  empty-alike b (bad v) = same-row refl
+  empty-alike true (good a) = same-row refl
+  empty-alike false (good a) = turned-away refl
 
   -- the s of a call is empty under no heading
-  left-alike : (s : Step) (x : Seen Row)
-      → Alike (insist (mayBeEmpty C2 (s .word)) (emptyFault (s .word)) x) (insist (mayBeEmpty (H .heading) (s .word)) (emptyFault (s .word)) x)
+  left-alike : (s : Step) (x : LineResult Row)
+      → Alike (ensure (mayBeEmpty C2 (s .word)) (emptyFault (s .word)) x) (ensure (mayBeEmpty (H .heading) (s .word)) (emptyFault (s .word)) x)
   unfolding mayBeEmpty emptyFault
   left-alike s x = by-word (keepsBack (s .word)) refl
     where
       by-word : (b : Bool) → keepsBack (s .word) ≡ b
-          → Alike (insist (mayBeEmpty C2 (s .word)) (emptyFault (s .word)) x) (insist (mayBeEmpty (H .heading) (s .word)) (emptyFault (s .word)) x)
+          → Alike (ensure (mayBeEmpty C2 (s .word)) (emptyFault (s .word)) x) (ensure (mayBeEmpty (H .heading) (s .word)) (emptyFault (s .word)) x)
       by-word true e = same-row (rw (never-empty (H .heading) (s .word) e, e))
       by-word false e = rw e (empty-alike (mayBeEmpty (H .heading) (s .word)) x)
 
@@ -127,29 +127,29 @@ module _ (H : Header) where
   row-alike s (t ∷ m ∷ f ∷ g ∷ fs) = same-row refl
 
 -- an outcome that is not stopped by 40
-Started : {A : Type 0} → Out A → Type 0
-Started o = (k : ℕ) → o ≡ stop (NoStart k) → ⊥
+Started : {A : Type 0} → Result A → Type 0
+Started o = (k : ℕ) → o ≡ refuse (NoStart k) → ⊥
 
 -- two outcomes that go on alike from whatever was found, but for 40
-same-on : {A B E : Type 0} (o : Out A) (f g : A → Out B) (j k : B → Out E) → ((a : A) → Started (g a >>= k) → (f a >>= j) ≡ (g a >>= k))
+same-on : {A B E : Type 0} (o : Result A) (f g : A → Result B) (j k : B → Result E) → ((a : A) → Started (g a >>= k) → (f a >>= j) ≡ (g a >>= k))
     → Started (o >>= g >>= k) → (o >>= f >>= j) ≡ (o >>= g >>= k)
 unfolding _>>=_
-same-on (stop r) f g j k h started = refl
-same-on (on a) f g j k h started = h a started
+same-on (refuse r) f g j k h started = refl
+same-on (ok a) f g j k h started = h a started
 
-same-then : {A B : Type 0} (o : Out A) (f g : A → Out B) → ((a : A) → Started (g a) → f a ≡ g a) → Started (o >>= g) → (o >>= f) ≡ (o >>= g)
+same-then : {A B : Type 0} (o : Result A) (f g : A → Result B) → ((a : A) → Started (g a) → f a ≡ g a) → Started (o >>= g) → (o >>= f) ≡ (o >>= g)
 unfolding _>>=_
-same-then (stop r) f g h started = refl
-same-then (on a) f g h started = h a started
+same-then (refuse r) f g h started = refl
+same-then (ok a) f g h started = h a started
 
-first-started : {A B : Type 0} (o : Out A) (f : A → Out B) → Started (o >>= f) → Started o
+first-started : {A B : Type 0} (o : Result A) (f : A → Result B) → Started (o >>= f) → Started o
 unfolding _>>=_ Started
 first-started o f started k e = started k (rw e)
 
 -- ------------------------------------------------------------------ the rows
 
 module _ (H : Header) where
-  away : {x : Seen Row} (k : ℕ) (ls : List Line) → x ≡ wrong noStart → passed splitSheet k ls x ≡ stop (NoStart k)
+  away : {x : LineResult Row} (k : ℕ) (ls : List Line) → x ≡ bad noStart → passed splitSheet k ls x ≡ refuse (NoStart k)
   unfolding passed faulty
   away k ls e = rw e
 
@@ -178,21 +178,21 @@ module _ (H : Header) where
 
 -- from the header on, stage by stage
 module _ (P : Program) (H : Header) where
-  unfoldable afterRows : List TypeLine → List Map → List Signature → List Row × Place → Out Split
+  unfoldable afterRows : List TypeLine → List Map → List Signature → List Row × Place → Result Split
   afterRows types maps signatures (rows, p) = do
     done ← end splitSheet p
-    on (record { header = H; types = types; maps = maps; signatures = signatures; rows = rows })
+    ok (record { header = H; types = types; maps = maps; signatures = signatures; rows = rows })
 
-  unfoldable afterSignatures : List TypeLine → List Map → List Signature × Place → Out Split
+  unfoldable afterSignatures : List TypeLine → List Map → List Signature × Place → Result Split
   afterSignatures types maps (signatures, p) = readLines splitSheet (map (rowLine Check H) (P .steps)) p >>= afterRows types maps signatures
 
-  unfoldable afterMaps : List TypeLine → List Map × Place → Out Split
+  unfoldable afterMaps : List TypeLine → List Map × Place → Result Split
   afterMaps types (maps, p) = readLines splitSheet (replicate (length (P .procedures)) (signatureLine H)) p >>= afterSignatures types maps
 
-  unfoldable afterTypes : List TypeLine × Place → Out Split
+  unfoldable afterTypes : List TypeLine × Place → Result Split
   afterTypes (types, p) = readLines splitSheet (replicate (H .maps) (mapLine H)) p >>= afterMaps types
 
-  unfoldable afterHeader : Place → Out Split
+  unfoldable afterHeader : Place → Result Split
   afterHeader p = readLines splitSheet (typeLines H 0 (H .types)) p >>= afterTypes
 
 module _ (P : Program) (H : Header) (plain : H .heading ≡ C) where
@@ -209,7 +209,7 @@ module _ (P : Program) (H : Header) (plain : H .heading ≡ C) where
       → (afterSignatures P (headedAs C2 H) types maps x >>= ruling P) ≡ (afterSignatures P H types maps x >>= ruling P)
   unfolding afterSignatures
   signatures-same types maps (signatures, p) started =
-      ap (λ (o : Out (List Row × Place)). o >>= afterRows P (headedAs C2 H) types maps signatures >>= ruling P)
+      ap (λ (o : Result (List Row × Place)). o >>= afterRows P (headedAs C2 H) types maps signatures >>= ruling P)
       (rows-alike H (P .steps) p (first-started _ _ (first-started _ (ruling P) started)))
       ∙ same-on (readLines splitSheet (map (rowLine Check H) (P .steps)) p) _ _ (ruling P) (ruling P) (rows-same types maps signatures) started
 
@@ -230,12 +230,12 @@ module _ (P : Program) (H : Header) (plain : H .heading ≡ C) where
       → (afterHeader P (headedAs C2 H) p >>= ruling P) ≡ (afterHeader P H p >>= ruling P)
   unfolding afterHeader headedAs
   header-same p started =
-      ap (λ (rs : List (List Field → Seen TypeLine)). readLines splitSheet rs p >>= afterTypes P (headedAs C2 H) >>= ruling P) (same-types H plain 0 (H .types))
+      ap (λ (rs : List (List Field → LineResult TypeLine)). readLines splitSheet rs p >>= afterTypes P (headedAs C2 H) >>= ruling P) (same-types H plain 0 (H .types))
       ∙ same-on (readLines splitSheet (typeLines H 0 (H .types)) p) _ _ (ruling P) (ruling P) types-same started
 
 -- ------------------------------------------------------------------ the sheet
 
-unfoldable behind : Program → Header × Place → Out Split
+unfoldable behind : Program → Header × Place → Result Split
 behind P (H, p) = afterHeader P H p
 
 by-lines : (P : Program) (l t : List ℕ) → OneLine l
@@ -244,11 +244,11 @@ unfolding split begin readLine nextLine _>>=_ behind afterHeader afterTypes afte
 by-lines P l t one = rw (above-lines l t one)
 
 module _ (P : Program) (r : List Line) where
-  passed-same : (s : Seen Header) → ((H : Header) → s ≡ right H → H .heading ≡ C) → Started (passed splitSheet 1 r s >>= behind P >>= ruling P)
+  passed-same : (s : LineResult Header) → ((H : Header) → s ≡ good H → H .heading ≡ C) → Started (passed splitSheet 1 r s >>= behind P >>= ruling P)
       → (passed splitSheet 1 r (seen (headedAs C2) s) >>= behind P >>= ruling P) ≡ (passed splitSheet 1 r s >>= behind P >>= ruling P)
   unfolding seen passed _>>=_ behind
-  passed-same (right H) plain started = header-same P H (plain H refl) (record { last = 1; rest = r }) started
-  passed-same (wrong w) plain started = refl
+  passed-same (good H) plain started = header-same P H (plain H refl) (record { last = 1; rest = r }) started
+  passed-same (bad w) plain started = refl
 
 module _ (a t : List ℕ) (one : OneLine a) where
   unnamed-line : OneLine (headerUnnamed a)
@@ -264,11 +264,11 @@ module _ (a t : List ℕ) (one : OneLine a) where
   sheet-same : (P : Program) → Started (split Check P (headerUnnamed a above t) >>= ruling P)
       → (split Check P (headerNamed a above t) >>= ruling P) ≡ (split Check P (headerUnnamed a above t) >>= ruling P)
   sheet-same P started =
-      ap (λ (o : Out Split). o >>= ruling P) (by-lines P (headerNamed a) t named-line)
-      ∙ ap (λ (s : Seen Header). passed splitSheet 1 (lines t) s >>= behind P >>= ruling P) (line-named a)
+      ap (λ (o : Result Split). o >>= ruling P) (by-lines P (headerNamed a) t named-line)
+      ∙ ap (λ (s : LineResult Header). passed splitSheet 1 (lines t) s >>= behind P >>= ruling P) (line-named a)
       ∙ passed-same P (lines t) (headerLine Check (fields (headerUnnamed a))) (line-plain a)
-      (along Started (ap (λ (o : Out Split). o >>= ruling P) (by-lines P (headerUnnamed a) t unnamed-line)) started)
-      ∙ sym (ap (λ (o : Out Split). o >>= ruling P) (by-lines P (headerUnnamed a) t unnamed-line))
+      (along Started (ap (λ (o : Result Split). o >>= ruling P) (by-lines P (headerUnnamed a) t unnamed-line)) started)
+      ∙ sym (ap (λ (o : Result Split). o >>= ruling P) (by-lines P (headerUnnamed a) t unnamed-line))
 
   module _ (fits : length (headerNamed a above t) ≤ splitLimit) where
     shorter : length (headerUnnamed a above t) ≤ splitLimit
@@ -277,10 +277,10 @@ module _ (a t : List ℕ) (one : OneLine a) where
         omega (arith, fits, length-append a (10 ∷ t), length-append (a ++ 44 ∷ 48 ∷ []) (10 ∷ t), length-append a (44 ∷ 48 ∷ []))
 
     answer-same : (P : Program)
-        → Started (demand (leb (length (headerUnnamed a above t)) splitLimit) LongSplit >>= λ fits. split Check P (headerUnnamed a above t) >>= ruling P)
-        → (demand (leb (length (headerNamed a above t)) splitLimit) LongSplit >>= λ fits. split Check P (headerNamed a above t) >>= ruling P)
-        ≡ (demand (leb (length (headerUnnamed a above t)) splitLimit) LongSplit >>= λ fits. split Check P (headerUnnamed a above t) >>= ruling P)
-    unfolding demand _>>=_
+        → Started (require (leb (length (headerUnnamed a above t)) splitLimit) LongSplit >>= λ fits. split Check P (headerUnnamed a above t) >>= ruling P)
+        → (require (leb (length (headerNamed a above t)) splitLimit) LongSplit >>= λ fits. split Check P (headerNamed a above t) >>= ruling P)
+        ≡ (require (leb (length (headerUnnamed a above t)) splitLimit) LongSplit >>= λ fits. split Check P (headerUnnamed a above t) >>= ruling P)
+    unfolding require _>>=_
     answer-same P started = rw (le-leb _ _ fits, le-leb _ _ shorter) (sheet-same P (rw (le-leb _ _ shorter) at started))
 
     start-written-out : (room : ℕ) (p : List ℕ) → ((k : ℕ) → verdict room p (headerUnnamed a above t) ≡ Refuse (NoStart k) → ⊥)
@@ -288,8 +288,8 @@ module _ (a t : List ℕ) (one : OneLine a) where
     unfolding verdict checked ruling answer Started
     start-written-out room p started =
         ap answer
-        (same-then (demand (leb workspaceSize room) ShortWorkspace) _ _
-        (rw (sheets-then Check p (headerUnnamed a above t), sheets-then Check p (headerNamed a above t)) (λ enough. same-then (demand (leb (length p) programLimit) LongProgram) _ _
+        (same-then (require (leb workspaceSize room) ShortWorkspace) _ _
+        (rw (sheets-then Check p (headerUnnamed a above t), sheets-then Check p (headerNamed a above t)) (λ enough. same-then (require (leb (length p) programLimit) LongProgram) _ _
         (λ fits. same-then (program p) _ _ answer-same))) (λ k e. started k (ap answer e)))
 
 pub map-zero-stays : MapZeroStays

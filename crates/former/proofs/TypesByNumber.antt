@@ -4,7 +4,7 @@ use mathlib.Core.List.{List, [], _∷_, map}
 use mathlib.Core.Bool.{true}
 use Prim.Native.Nat.{ℕ, _+_}
 use borrow.Author.Tests.{eqb-true}
-use Rattle.spec.specs.Reading.{Out, on, _>>=_}
+use Rattle.spec.specs.Reading.{Result, ok, _>>=_}
 use Rattle.spec.specs.Expression.{Expr, Procedure}
 use Rattle.spec.specs.Program.{Program, program}
 use Rattle.spec.specs.Split.{Map, Split, split}
@@ -14,9 +14,9 @@ use Rattle.spec.specs.Kinds.{ref, is, content}
 use Rattle.spec.specs.Table as entry
 use Rattle.spec.specs.Table.{Entry, table}
 use Rattle.spec.specs.Conditions.{Env, startMap, signature, contains, mayShow, stepWord, says, conditionsBy, conditionsOf, procedureConditions}
-use Rattle.spec.specs.Sites.{Site, sites, numbered, claimsAt, claims, bodySites, claimsOfProcedure, claimsOfProcedures, claimsOf}
+use Rattle.spec.specs.StepContexts.{StepContext, stepContexts, numbered, claimsAt, claims, bodyStepContexts, claimsOfProcedure, claimsOfProcedures, claimsOf}
 use Rattle.spec.specs.FirstFalse.{Holds, AllHold}
-use Rattle.spec.specs.Verdict.{sheets, ruled, checked, answer, verdict}
+use Rattle.spec.specs.Verdict.{sheets, conditionsHold, checked, answer, verdict}
 use Rattle.spec.specs.declared.TypeNumber.{TypeNumber}
 use Rattle.spec.specs.declared.TypeLine.{TypeLine}
 use Rattle.former.specs.Judging.{sheetsBy, checkedBy, verdictBy}
@@ -67,23 +67,23 @@ module _ (S : Split) where
     all-say n i [] h = h
     all-say n i (x ∷ xs) h = (says-holds x (h .0), all-say n (i + 1) xs (h .1))
 
-    own-holds : (n i : ℕ) → AllHold (numbered n i (conditionsByNumber S Γ pre e)) → AllHold (numbered n i (conditionsOf S Γ pre e))
+    conditions-hold : (n i : ℕ) → AllHold (numbered n i (conditionsByNumber S Γ pre e)) → AllHold (numbered n i (conditionsOf S Γ pre e))
     unfolding conditionsByNumber conditionsOf conditionsBy
-    own-holds n i = all-say n i (table (stepWord e))
+    conditions-hold n i = all-say n i (table (stepWord e))
 
-  claims-hold : (ss : List Site) → AllHold (claimsByNumber S ss) → AllHold (claims S ss)
+  claims-hold : (ss : List StepContext) → AllHold (claimsByNumber S ss) → AllHold (claims S ss)
   unfolding claims claimsAt claimsByNumber
   claims-hold [] h = h
   claims-hold (s ∷ ss) h =
       let both = all-hold-parts _ (claimsByNumber S ss) h in
-      all-hold-append _ (claims S ss) (own-holds (s .Γ) _ (s .step) _ 1 (both .0)) (claims-hold ss (both .1))
+      all-hold-append _ (claims S ss) (conditions-hold (s .Γ) _ (s .step) _ 1 (both .0)) (claims-hold ss (both .1))
 
   procedure-holds : (g : Signature) (p : Procedure) → AllHold (claimsOfProcedureByNumber S g p) → AllHold (claimsOfProcedure S g p)
   unfolding claimsOfProcedureByNumber claimsOfProcedure procedureConditionsByNumber procedureConditions numbered AllHold Holds
   procedure-holds g p h =
-      let (own, body) = all-hold-parts (numbered (p .line) 1 (procedureConditionsByNumber S g p)) (claimsByNumber S (bodySites S g p)) h in
-      all-hold-append (numbered (p .line) 1 (procedureConditions S g p)) (claims S (bodySites S g p)) (agreed _ _ (own .0), own .1)
-      (claims-hold (bodySites S g p) body)
+      let (own, body) = all-hold-parts (numbered (p .line) 1 (procedureConditionsByNumber S g p)) (claimsByNumber S (bodyStepContexts S g p)) h in
+      all-hold-append (numbered (p .line) 1 (procedureConditions S g p)) (claims S (bodyStepContexts S g p)) (agreed _ _ (own .0), own .1)
+      (claims-hold (bodyStepContexts S g p) body)
 
   procedures-hold : (f : ℕ) (ps : List Procedure) → AllHold (claimsOfProceduresByNumber S f ps) → AllHold (claimsOfProcedures S f ps)
   unfolding claimsOfProceduresByNumber claimsOfProcedures
@@ -98,16 +98,16 @@ module _ (S : Split) where
   all-claims-hold P h =
       let (bodies, root) = all-hold-parts (claimsOfProceduresByNumber S 0 (P .procedures)) _ h in
       all-hold-append (claimsOfProcedures S 0 (P .procedures)) _ (procedures-hold 0 (P .procedures) bodies)
-      (claims-hold (sites S [] (startMap S) (P .root)) root)
+      (claims-hold (stepContexts S [] (startMap S) (P .root)) root)
 
 -- what goes on after m by one continuation does so by another
-goes-on-too : {A B : Type 0} {b : B} (m : Out A) (f g : A → Out B) → ((a : A) → f a ≡ on b → g a ≡ on b) → (m >>= f) ≡ on b → (m >>= g) ≡ on b
+goes-on-too : {A B : Type 0} {b : B} (m : Result A) (f g : A → Result B) → ((a : A) → f a ≡ ok b → g a ≡ ok b) → (m >>= f) ≡ ok b → (m >>= g) ≡ ok b
 goes-on-too m f g too h =
     let (a, e, k) = bind-goes-on m f h in
     goes-on-bind m g e (too a k)
 
-checked-too : (room : ℕ) (p s : List ℕ) → checkedBy program (split Check) ruledByNumber room p s ≡ on tt → checked room p s ≡ on tt
-unfolding checkedBy sheetsBy checked sheets ruledByNumber ruled
+checked-too : (room : ℕ) (p s : List ℕ) → checkedBy program (split Check) ruledByNumber room p s ≡ ok tt → checked room p s ≡ ok tt
+unfolding checkedBy sheetsBy checked sheets ruledByNumber conditionsHold
 checked-too room p s =
     goes-on-too _ _ _ λ _.
     goes-on-too _ _ _ λ found.

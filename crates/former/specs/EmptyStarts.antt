@@ -7,13 +7,13 @@ use Prim.Native.Nat.{ℕ, _≤_}
 use lib.ListN.{length, replicate, take}
 use Rattle.spec.specs.Choice.{if_then_else_}
 use Rattle.spec.specs.Text.{bytes, Line, closed, unclosed, lines, Field, fields}
-use Rattle.spec.specs.Reading.{on, Seen, right, wrong, seen, below, numbers}
+use Rattle.spec.specs.Reading.{ok, LineResult, good, bad, seen, below, numbers}
 use Rattle.spec.specs.Words.{takesStart, keepsBack}
 use Rattle.spec.specs.Expression.{Step}
 use Rattle.spec.specs.Program.{Program, program}
 use Rattle.spec.specs.Split.{splitLimit, headerLine, typeLines, mapLine, signatureLine, Row, rowOf, rowLine}
 use Rattle.spec.specs.declared.Header.{Header}
-use Rattle.spec.specs.Verdict.{ruled, verdict}
+use Rattle.spec.specs.Verdict.{conditionsHold, verdict}
 use Rattle.spec.specs.declared.Answer.{Answer}
 use Rattle.spec.specs.declared.Purpose.the-variants.{Check}
 use Rattle.former.specs.Texts.{onClosed}
@@ -31,7 +31,7 @@ startLeft s (t ∷ m ∷ (b ∷ f) ∷ []) = false
 startLeft s (t ∷ m ∷ f ∷ g ∷ fs) = false
 
 -- "On a spawn, an empty s means map 0", under each heading; other lines are read as they are now
-unfoldable pub rowLineWithMapZero : Header → Step → List Field → Seen Row
+unfoldable pub rowLineWithMapZero : Header → Step → List Field → LineResult Row
 rowLineWithMapZero H s fs =
     if startLeft s fs
     then seen (rowOf (some (record { 0 = 0 }))) (numbers (below (H .types) ∷ below (H .maps) ∷ []) (take 2 fs))
@@ -47,7 +47,7 @@ linesWithMapZero = record {
 }
 
 unfoldable pub verdictWithMapZero : (room : ℕ) → (programText splitText : List ℕ) → Answer
-verdictWithMapZero = verdictBy program (splitBy linesWithMapZero) ruled
+verdictWithMapZero = verdictBy program (splitBy linesWithMapZero) conditionsHold
 
 -- ------------------------------------------------------------------ the owner's change
 
@@ -66,9 +66,9 @@ changedInTurn (f ∷ fs) (l ∷ ls) = onClosed f l ∷ changedInTurn fs ls
 
 -- the lines behind a header: types, maps and signatures are kept, and 0 is written on the lines of the steps; behind what is no header
 -- all stays
-unfoldable pub zerosBehind : Seen Header → Program → List Line → List Line
-zerosBehind (wrong w) P ls = ls
-zerosBehind (right H) P ls =
+unfoldable pub zerosBehind : LineResult Header → Program → List Line → List Line
+zerosBehind (bad w) P ls = ls
+zerosBehind (good H) P ls =
     changedInTurn
     (replicate (H .types) asItWas ++ (replicate (H .maps) asItWas ++ (replicate (length (P .procedures)) asItWas ++ map writeZero (P .steps)))) ls
 
@@ -80,7 +80,7 @@ zerosWritten P (closed l ∷ ls) = closed l ∷ zerosBehind (headerLine Check (f
 
 -- t′ is t with 0 written, for the program p
 abbrev pub ZeroWritten : (p t t′ : List ℕ) → Type 0
-ZeroWritten p t t′ = (P : Program) → program p ≡ on P → lines t′ ≡ zerosWritten P (lines t)
+ZeroWritten p t t′ = (P : Program) → program p ≡ ok P → lines t′ ≡ zerosWritten P (lines t)
 
 -- "A `C` sheet that leaned on the old meaning is turned away; its owner writes 0": then it gets what it got, refused or accepted, under
 -- each heading

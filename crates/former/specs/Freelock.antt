@@ -8,11 +8,11 @@ use lib.Dec.{eqb, leb}
 use lib.ListN.{drop}
 use Rattle.spec.specs.Choice.{if_then_else_}
 use Rattle.spec.specs.Text.{bytes, same, lines, Field, fields}
-use Rattle.spec.specs.Reading.{Out, Seen}
+use Rattle.spec.specs.Reading.{Result, LineResult}
 use Rattle.spec.specs.Expression.{Item}
 use Rattle.spec.specs.Program.{countLine, wordLine, itemLine, Program}
 use Rattle.spec.specs.Split.{split}
-use Rattle.spec.specs.Verdict.{ruled, verdict, returned}
+use Rattle.spec.specs.Verdict.{conditionsHold, verdict, returned}
 use Rattle.spec.specs.declared.Answer.{Answer}
 use Rattle.spec.specs.declared.ProgramHeading.{ProgramHeading}
 use Rattle.spec.specs.declared.Purpose.the-variants.{Check}
@@ -24,19 +24,19 @@ use Rattle.former.specs.Judging.{programBy, verdictBy}
 -- ------------------------------------------------------------------ the reading before
 
 -- `freelock,v` was read as `lock,v`; other lines are read as they are now
-unfoldable pub itemLineWithFreelock : ProgramHeading → (line : ℕ) → List Field → Seen Item
+unfoldable pub itemLineWithFreelock : ProgramHeading → (line : ℕ) → List Field → LineResult Item
 itemLineWithFreelock h k [] = itemLine h k []
 itemLineWithFreelock h k (f ∷ fs) = if same f (bytes "freelock") then wordLine k (some (Unary Lock)) fs else itemLine h k (f ∷ fs)
 
-unfoldable pub itemLinesWithFreelock : ProgramHeading → (line n : ℕ) → List (List Field → Seen Item)
+unfoldable pub itemLinesWithFreelock : ProgramHeading → (line n : ℕ) → List (List Field → LineResult Item)
 itemLinesWithFreelock h k zero = []
 itemLinesWithFreelock h k (suc n) = itemLineWithFreelock h k ∷ itemLinesWithFreelock h (k + 1) n
 
-unfoldable pub programWithFreelock : List ℕ → Out Program
+unfoldable pub programWithFreelock : List ℕ → Result Program
 programWithFreelock = programBy countLine itemLinesWithFreelock
 
 unfoldable pub verdictWithFreelock : (room : ℕ) → (programText splitText : List ℕ) → Answer
-verdictWithFreelock = verdictBy programWithFreelock (split Check) ruled
+verdictWithFreelock = verdictBy programWithFreelock (split Check) conditionsHold
 
 -- ------------------------------------------------------------------ the owner's change
 

@@ -4,7 +4,7 @@ use Prim.Native.Nat.{ℕ, _+_}
 use lib.Dec.{leb}
 use lib.ListN.{length, replicate}
 use Rattle.spec.specs.Text.{lines, Field}
-use Rattle.spec.specs.Reading.{programSheet, splitSheet, Out, _>>=_, on, demand, Seen, readLine, readLines, begin, end}
+use Rattle.spec.specs.Reading.{programSheet, splitSheet, Result, _>>=_, ok, require, LineResult, readLine, readLines, begin, end}
 use Rattle.spec.specs.Expression.{Step, Item, stepsAmong, structure, scopes}
 use Rattle.spec.specs.Program.{Counts, Program, programLimit}
 use Rattle.spec.specs.Split.{Map, headerLine, typeLines, mapLine, signatureLine, Row, rowLine, Split, splitLimit}
@@ -19,7 +19,7 @@ use Rattle.spec.specs.declared.Refusal.the-variants.{ShortWorkspace, LongProgra
 use Rattle.spec.specs.declared.TypeLine.{TypeLine}
 
 -- `program` of crates/spec, with the reader of line 1 and those of the lines behind it
-unfoldable pub programBy : (List Field → Seen Counts) → (ProgramHeading → (line n : ℕ) → List (List Field → Seen Item)) → List ℕ → Out Program
+unfoldable pub programBy : (List Field → LineResult Counts) → (ProgramHeading → (line n : ℕ) → List (List Field → LineResult Item)) → List ℕ → Result Program
 programBy count items text = do
   top ← begin programSheet (lines text)
   (N, first) ← readLine programSheet count top
@@ -27,15 +27,15 @@ programBy count items text = do
   done ← end programSheet last
   (ps, e) ← structure (last .last) (N .procedures) 0 read
   bound ← scopes (N .procedures) ps e []
-  on (record { steps = stepsAmong read; procedures = ps; root = e })
+  ok (record { steps = stepsAmong read; procedures = ps; root = e })
 
 -- the readers of the lines of a split sheet
 pub record SplitLines : Type 0 where
-  pub header : List Field → Seen Header
-  pub types : Header → List (List Field → Seen TypeLine)
-  pub map : Header → List Field → Seen Map
-  pub signature : Header → List Field → Seen Signature
-  pub row : Header → Step → List Field → Seen Row
+  pub header : List Field → LineResult Header
+  pub types : Header → List (List Field → LineResult TypeLine)
+  pub map : Header → List Field → LineResult Map
+  pub signature : Header → List Field → LineResult Signature
+  pub row : Header → Step → List Field → LineResult Row
 
 -- those of a check
 abbrev pub linesToCheck : SplitLines
@@ -48,7 +48,7 @@ linesToCheck = record {
 }
 
 -- `split` of crates/spec, with these
-unfoldable pub splitBy : SplitLines → Program → List ℕ → Out Split
+unfoldable pub splitBy : SplitLines → Program → List ℕ → Result Split
 splitBy L P text = do
   top ← begin splitSheet (lines text)
   (H, p₁) ← readLine splitSheet (L .header) top
@@ -57,21 +57,21 @@ splitBy L P text = do
   (signatures, p₄) ← readLines splitSheet (replicate (length (P .procedures)) (L .signature H)) p₃
   (rows, p₅) ← readLines splitSheet (map (L .row H) (P .steps)) p₄
   done ← end splitSheet p₅
-  on (record { header = H; types = types; maps = maps; signatures = signatures; rows = rows })
+  ok (record { header = H; types = types; maps = maps; signatures = signatures; rows = rows })
 
 -- `verdict` of crates/spec, with the readers of the two sheets and with 31 to 33
-module _ (program : List ℕ → Out Program) (split : Program → List ℕ → Out Split) (ruled : Program → Split → Out (Unit {0})) where
-  unfoldable pub sheetsBy : (programText splitText : List ℕ) → Out (Program × Split)
+module _ (program : List ℕ → Result Program) (split : Program → List ℕ → Result Split) (ruled : Program → Split → Result (Unit {0})) where
+  unfoldable pub sheetsBy : (programText splitText : List ℕ) → Result (Program × Split)
   sheetsBy programText splitText = do
-    fits ← demand (leb (length programText) programLimit) LongProgram
+    fits ← require (leb (length programText) programLimit) LongProgram
     P ← program programText
-    fits′ ← demand (leb (length splitText) splitLimit) LongSplit
+    fits′ ← require (leb (length splitText) splitLimit) LongSplit
     S ← split P splitText
-    on (P, S)
+    ok (P, S)
 
-  unfoldable pub checkedBy : (room : ℕ) → (programText splitText : List ℕ) → Out (Unit {0})
+  unfoldable pub checkedBy : (room : ℕ) → (programText splitText : List ℕ) → Result (Unit {0})
   checkedBy room programText splitText = do
-    enough ← demand (leb workspaceSize room) ShortWorkspace
+    enough ← require (leb workspaceSize room) ShortWorkspace
     (P, S) ← sheetsBy programText splitText
     locks ← locksTakeEnough S
     whole ← startAtMostOne P S

@@ -5,7 +5,7 @@ use Prim.Native.Nat.{ℕ, zero, suc, _≤_}
 use lib.ListN.{length}
 use Rattle.spec.specs.Choice.{if_then_else_}
 use Rattle.spec.specs.Text.{bytes, same, Line, closed, lines, Field, fields}
-use Rattle.spec.specs.Reading.{on}
+use Rattle.spec.specs.Reading.{ok}
 use Rattle.spec.specs.Program.{Program, program}
 use Rattle.spec.specs.Split.{Split, split, splitLimit}
 use Rattle.spec.specs.Verdict.{verdict}
@@ -36,7 +36,7 @@ pub data WrittenOut (n : ℕ) : List Line → List Line → Type 0 where
 
 -- t′ is the `C2` sheet t written out, for the steps of the program p, which reads t
 abbrev pub LocksWritten : (p t t′ : List ℕ) → Type 0
-LocksWritten p t t′ = (P : Program) → program p ≡ on P → (S : Split) × (split Check P t ≡ on S) × WrittenOut (S .header .types) (lines t) (lines t′)
+LocksWritten p t t′ = (P : Program) → program p ≡ ok P → (S : Split) × (split Check P t ≡ ok S) × WrittenOut (S .header .types) (lines t) (lines t′)
 
 -- "Older lock lines mean in = out": the sheet that says so gets the same answer
 abbrev pub InIsOutStays : Type 0

@@ -6,12 +6,12 @@ use Prim.Native.Nat.{ℕ, zero, suc, _+_, _≤_}
 use lib.ListN.{length}
 use Rattle.spec.specs.Choice.{if_then_else_}
 use Rattle.spec.specs.Text.{bytes, same, Line, closed, unclosed, lines, Field, fields, lookUp}
-use Rattle.spec.specs.Reading.{Out, Seen, wrong, badForm, freelock, seen, wrongAfter, _to_, numbers}
+use Rattle.spec.specs.Reading.{Result, LineResult, bad, badForm, freelock, seen, refuseAfter, _to_, numbers}
 use Rattle.spec.specs.Words.{words}
 use Rattle.spec.specs.Expression.{Item}
 use Rattle.spec.specs.Program.{programLimit, Counts, countRanges, countsOf, wordLine, Program}
 use Rattle.spec.specs.Split.{split}
-use Rattle.spec.specs.Verdict.{ruled, verdict}
+use Rattle.spec.specs.Verdict.{conditionsHold, verdict}
 use Rattle.spec.specs.declared.Answer.{Answer}
 use Rattle.spec.specs.declared.Answer.the-variants.{Refuse}
 use Rattle.spec.specs.declared.ProgramHeading.{ProgramHeading}
@@ -23,24 +23,24 @@ use Rattle.former.specs.Judging.{programBy, verdictBy}
 
 -- ------------------------------------------------------------------ the reading before
 
-unfoldable pub plainCountLine : List Field → Seen Counts
-plainCountLine [] = wrong badForm
-plainCountLine (f ∷ fs) = if same (bytes "P") f then seen (countsOf P) (numbers (countRanges P) fs) else wrong badForm
+unfoldable pub plainCountLine : List Field → LineResult Counts
+plainCountLine [] = bad badForm
+plainCountLine (f ∷ fs) = if same (bytes "P") f then seen (countsOf P) (numbers (countRanges P) fs) else bad badForm
 
-unfoldable pub plainItemLine : (line : ℕ) → List Field → Seen Item
-plainItemLine k [] = wrong badForm
+unfoldable pub plainItemLine : (line : ℕ) → List Field → LineResult Item
+plainItemLine k [] = bad badForm
 plainItemLine k (f ∷ fs) =
-    if same f (bytes "freelock") then wrongAfter freelock (numbers ((0 to 0) ∷ []) fs) else wordLine k (lookUp words f) fs
+    if same f (bytes "freelock") then refuseAfter freelock (numbers ((0 to 0) ∷ []) fs) else wordLine k (lookUp words f) fs
 
-unfoldable pub plainItemLines : ProgramHeading → (line n : ℕ) → List (List Field → Seen Item)
+unfoldable pub plainItemLines : ProgramHeading → (line n : ℕ) → List (List Field → LineResult Item)
 plainItemLines h k zero = []
 plainItemLines h k (suc n) = plainItemLine k ∷ plainItemLines h (k + 1) n
 
-unfoldable pub plainProgram : List ℕ → Out Program
+unfoldable pub plainProgram : List ℕ → Result Program
 plainProgram = programBy plainCountLine plainItemLines
 
 unfoldable pub verdictOfPlain : (room : ℕ) → (programText splitText : List ℕ) → Answer
-verdictOfPlain = verdictBy plainProgram (split Check) ruled
+verdictOfPlain = verdictBy plainProgram (split Check) conditionsHold
 
 -- "In a `P` sheet both new words are 11", as any unknown word: what was not refused for the form of line 1 gets what it got
 abbrev pub PlainProgramsStay : Type 0

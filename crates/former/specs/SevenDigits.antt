@@ -7,11 +7,11 @@ use lib.Dec.{leb, ltb}
 use lib.ListN.{length}
 use Rattle.spec.specs.Choice.{if_then_else_}
 use Rattle.spec.specs.Text.{Field, digits}
-use Rattle.spec.specs.Reading.{Out, Seen, right, wrong, badForm, badRange}
+use Rattle.spec.specs.Reading.{Result, LineResult, good, bad, badForm, badRange}
 use Rattle.spec.specs.Program.{countLine, itemLines, Program}
 use Rattle.spec.specs.Split.{Map, headerLine, typeLines, mapLine, signatureLine, rowLine}
 use Rattle.spec.specs.declared.Header.{Header}
-use Rattle.spec.specs.Verdict.{ruled, verdict}
+use Rattle.spec.specs.Verdict.{conditionsHold, verdict}
 use Rattle.spec.specs.declared.Answer.{Answer}
 use Rattle.spec.specs.declared.Answer.the-variants.{Refuse}
 use Rattle.spec.specs.declared.Purpose.the-variants.{Check}
@@ -24,13 +24,13 @@ overSeven [] = false
 overSeven (f ∷ fs) = (digits f && ltb 7 (length f)) || overSeven fs
 
 -- such a field was no numeral, so its line was of the wrong form; other lines are read as they are now
-unfoldable pub bySeven : {A : Type 0} → (List Field → Seen A) → List Field → Seen A
-bySeven read fs = if overSeven fs then wrong badForm else read fs
+unfoldable pub bySeven : {A : Type 0} → (List Field → LineResult A) → List Field → LineResult A
+bySeven read fs = if overSeven fs then bad badForm else read fs
 
 -- a range that ended earlier
-unfoldable pub narrowed : {A : Type 0} → (A → Bool) → Seen A → Seen A
-narrowed test (wrong w) = wrong w
-narrowed test (right a) = if test a then right a else wrong badRange
+unfoldable pub narrowed : {A : Type 0} → (A → Bool) → LineResult A → LineResult A
+narrowed test (bad w) = bad w
+narrowed test (good a) = if test a then good a else bad badRange
 
 unfoldable pub millionAtMost : Map → Bool
 millionAtMost [] = true
@@ -45,11 +45,11 @@ linesBySeven = record {
   row = λ H s. bySeven (rowLine Check H s);
 }
 
-unfoldable pub programBySeven : List ℕ → Out Program
+unfoldable pub programBySeven : List ℕ → Result Program
 programBySeven = programBy (bySeven countLine) (λ h k n. map bySeven (itemLines h k n))
 
 unfoldable pub verdictBySeven : (room : ℕ) → (programText splitText : List ℕ) → Answer
-verdictBySeven = verdictBy programBySeven (splitBy linesBySeven) ruled
+verdictBySeven = verdictBy programBySeven (splitBy linesBySeven) conditionsHold
 
 -- 11, 12, 21 and 22
 pub data OnFormOrRange : Answer → Type 0 where

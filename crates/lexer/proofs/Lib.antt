@@ -10,4 +10,4 @@ pub mod LineNumbers
 pub mod LineEnds
 pub mod Stored
 pub mod Ranges
-pub mod Turns
+pub mod LoopSteps

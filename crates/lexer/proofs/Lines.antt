@@ -10,7 +10,7 @@ use lib.ListN.{length}
 use borrow.Author.Tests.{eqb-true}
 use Rattle.spec.specs.Choice.{if_then_else_}
 use Rattle.spec.specs.Text.{Line, closed, unclosed, onLine, lines, Field, fields}
-use Rattle.spec.specs.Reading.{SheetName, stop, on, Seen, form, miscounted, passed, nextLine, begin, noneLeft}
+use Rattle.spec.specs.Reading.{SheetName, refuse, ok, LineResult, form, miscounted, passed, nextLine, begin, noneLeft}
 use Rattle.lexer.specs.Views.{withField, withByte, lineAt}
 
 -- ------------------------------------------------------------------ the first of the lines
@@ -77,13 +77,13 @@ some-lines b t = go (eqb b 10)
 
 -- ------------------------------------------------------------------ a counted line
 
-module _ {A : Type 0} (sheet : SheetName) (read : List Field → Seen A) (k : ℕ) where
+module _ {A : Type 0} (sheet : SheetName) (read : List Field → LineResult A) (k : ℕ) where
   -- none is left
-  pub next-missing : nextLine sheet read k (lines []) ≡ stop (miscounted sheet k)
+  pub next-missing : nextLine sheet read k (lines []) ≡ refuse (miscounted sheet k)
   unfolding nextLine lines
   next-missing = refl
 
-  open-lines : (ls : List Line) → (ls ≡ [] → ⊥) → firstLine ls ≡ none → nextLine sheet read k ls ≡ stop (form sheet (k + 1))
+  open-lines : (ls : List Line) → (ls ≡ [] → ⊥) → firstLine ls ≡ none → nextLine sheet read k ls ≡ refuse (form sheet (k + 1))
   unfolding firstLine nextLine
   open-lines [] n e = absurd (n refl)
   open-lines (unclosed l ∷ r) n e = refl
@@ -97,7 +97,7 @@ module _ {A : Type 0} (sheet : SheetName) (read : List Field → Seen A) (k : �
   closed-lines (closed l ∷ r) found e = let p : (fields l, r) ≡ found = cc in rw (← p)
 
   -- no byte 10 closes what is left
-  pub next-open : (t : List ℕ) → 0 < length t → lineAt t ≡ none → nextLine sheet read k (lines t) ≡ stop (form sheet (k + 1))
+  pub next-open : (t : List ℕ) → 0 < length t → lineAt t ≡ none → nextLine sheet read k (lines t) ≡ refuse (form sheet (k + 1))
   unfolding restLines
   next-open [] h e = absurd (omega arith)
   next-open (b ∷ t) h e = open-lines (lines (b ∷ t)) (some-lines b t) (line-first (b ∷ t) ∙ ap restLines e)
@@ -111,28 +111,28 @@ module _ {A : Type 0} (sheet : SheetName) (read : List Field → Seen A) (k : �
 -- ------------------------------------------------------------------ the first and the last line
 
 module _ (sheet : SheetName) where
-  pub begin-empty : begin sheet (lines []) ≡ stop (form sheet 1)
+  pub begin-empty : begin sheet (lines []) ≡ refuse (form sheet 1)
   unfolding begin lines
   begin-empty = refl
 
-  begin-lines : (ls : List Line) → (ls ≡ [] → ⊥) → begin sheet ls ≡ on (record { last = 0; rest = ls })
+  begin-lines : (ls : List Line) → (ls ≡ [] → ⊥) → begin sheet ls ≡ ok (record { last = 0; rest = ls })
   unfolding begin
   begin-lines [] n = absurd (n refl)
   begin-lines (l ∷ r) n = refl
 
-  pub begin-some : (t : List ℕ) → 0 < length t → begin sheet (lines t) ≡ on (record { last = 0; rest = lines t })
+  pub begin-some : (t : List ℕ) → 0 < length t → begin sheet (lines t) ≡ ok (record { last = 0; rest = lines t })
   begin-some [] h = absurd (omega arith)
   begin-some (b ∷ t) h = begin-lines (lines (b ∷ t)) (some-lines b t)
 
-  pub end-none : (k : ℕ) → noneLeft sheet k (lines []) ≡ on tt
+  pub end-none : (k : ℕ) → noneLeft sheet k (lines []) ≡ ok tt
   unfolding noneLeft lines
   end-none k = refl
 
-  spare-lines : (k : ℕ) (ls : List Line) → (ls ≡ [] → ⊥) → noneLeft sheet k ls ≡ stop (miscounted sheet (k + 1))
+  spare-lines : (k : ℕ) (ls : List Line) → (ls ≡ [] → ⊥) → noneLeft sheet k ls ≡ refuse (miscounted sheet (k + 1))
   unfolding noneLeft
   spare-lines k [] n = absurd (n refl)
   spare-lines k (l ∷ r) n = refl
 
-  pub end-spare : (k : ℕ) (t : List ℕ) → 0 < length t → noneLeft sheet k (lines t) ≡ stop (miscounted sheet (k + 1))
+  pub end-spare : (k : ℕ) (t : List ℕ) → 0 < length t → noneLeft sheet k (lines t) ≡ refuse (miscounted sheet (k + 1))
   end-spare k [] h = absurd (omega arith)
   end-spare k (b ∷ t) h = spare-lines k (lines (b ∷ t)) (some-lines b t)

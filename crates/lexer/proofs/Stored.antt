@@ -8,7 +8,7 @@ use lib.Dec.{leb}
 use lib.ListN.{length}
 use borrow.Author.Tests.{leb-false, lt-leb, le-ltb}
 use Rattle.spec.specs.Choice.{if_then_else_}
-use Rattle.spec.specs.Reading.{right, wrong, badRange, Range, _to_, below, inRange, allInRange}
+use Rattle.spec.specs.Reading.{good, bad, badRange, Range, _to_, below, inRange, allInRange}
 use Rattle.lexer.specs.Numbers.{stored}
 use Rattle.lexer.proofs.Digits.{both-true}
 
@@ -76,9 +76,9 @@ all-same (r ∷ rs) narrow (n ∷ ns) l h =
 
 -- as many numbers as ranges, judged as they are stored
 pub stored-judged : (rs : List Range) → AllNarrow rs → (ns : List ℕ) → length ns ≡ length rs
-    → (if allInRange rs ns then right ns else wrong badRange) ≡ (if allInRange rs (map stored ns) then right (map stored ns) else wrong badRange)
-stored-judged rs narrow ns l = go (allInRange rs ns) refl ∙ ap (λ (x : Bool). if x then right (map stored ns) else wrong badRange) (sym (all-ranged rs narrow ns))
+    → (if allInRange rs ns then good ns else bad badRange) ≡ (if allInRange rs (map stored ns) then good (map stored ns) else bad badRange)
+stored-judged rs narrow ns l = go (allInRange rs ns) refl ∙ ap (λ (x : Bool). if x then good (map stored ns) else bad badRange) (sym (all-ranged rs narrow ns))
   where
-    go : (x : Bool) → allInRange rs ns ≡ x → (if x then right ns else wrong badRange) ≡ (if x then right (map stored ns) else wrong badRange)
-    go true e = ap right (sym (all-same rs narrow ns l e))
+    go : (x : Bool) → allInRange rs ns ≡ x → (if x then good ns else bad badRange) ≡ (if x then good (map stored ns) else bad badRange)
+    go true e = ap good (sym (all-same rs narrow ns l e))
     go false e = refl

@@ -7,7 +7,7 @@ use Prim.Native.Nat.{ℕ, _+_, _-_, _<_}
 use native.Mathlib.Omega.{arith}
 use lib.ListN.{length}
 use Rattle.spec.specs.Text.{lines, Field, numeral}
-use Rattle.spec.specs.Reading.{SheetName, stop, Seen, wrong, badForm, form, faulty, passed, nextLine}
+use Rattle.spec.specs.Reading.{SheetName, refuse, LineResult, bad, badForm, form, faulty, passed, nextLine}
 use Rattle.lexer.specs.Views.{endOf, firstField, behind, textEnded, withField, lineAt}
 use Rattle.lexer.specs.Cursors.{Placed, start, rest, behindField, spanTo, spanAt}
 use types.Run.{OneOf, miss}
@@ -110,27 +110,27 @@ left-some (b ∷ t) e = omega arith
 
 -- ------------------------------------------------------------------ a line by its first field
 
-module _ {A : Type 0} (sheet : SheetName) (read : List Field → Seen A) (k : ℕ) (t : List ℕ) (some-left : 0 < length t) where
-  bad-fields : (f : Field) (o : Option (List Field × List ℕ)) → lineAt t ≡ withField f o → ((fs : List Field) → read (f ∷ fs) ≡ wrong badForm)
-      → nextLine sheet read k (lines t) ≡ stop (form sheet (k + 1))
+module _ {A : Type 0} (sheet : SheetName) (read : List Field → LineResult A) (k : ℕ) (t : List ℕ) (some-left : 0 < length t) where
+  bad-fields : (f : Field) (o : Option (List Field × List ℕ)) → lineAt t ≡ withField f o → ((fs : List Field) → read (f ∷ fs) ≡ bad badForm)
+      → nextLine sheet read k (lines t) ≡ refuse (form sheet (k + 1))
   unfolding withField faulty passed
   bad-fields f none e h = next-open sheet read k t some-left e
   bad-fields f (some line) e h = next-closed sheet read k t (f ∷ line .0) (line .1) e ∙ rw h
 
-  by-comma : (endOf t ≡ Comma → nextLine sheet read k (lines t) ≡ stop (form sheet (k + 1))) → read (firstField t ∷ []) ≡ wrong badForm
-      → nextLine sheet read k (lines t) ≡ stop (form sheet (k + 1))
+  by-comma : (endOf t ≡ Comma → nextLine sheet read k (lines t) ≡ refuse (form sheet (k + 1))) → read (firstField t ∷ []) ≡ bad badForm
+      → nextLine sheet read k (lines t) ≡ refuse (form sheet (k + 1))
   unfolding faulty passed
   by-comma n h = go (endOf t) refl
     where
-      go : (e : FieldEnd) → endOf t ≡ e → nextLine sheet read k (lines t) ≡ stop (form sheet (k + 1))
+      go : (e : FieldEnd) → endOf t ≡ e → nextLine sheet read k (lines t) ≡ refuse (form sheet (k + 1))
       go Comma e = n e
       go Newline e = next-closed sheet read k t (firstField t ∷ []) (behind t) (line-newline t e) ∙ rw h
       go Text e = next-open sheet read k t some-left (line-text t e)
 
   -- the first field is enough to refuse the line
-  pub first-wrong : ((fs : List Field) → read (firstField t ∷ fs) ≡ wrong badForm) → nextLine sheet read k (lines t) ≡ stop (form sheet (k + 1))
+  pub first-wrong : ((fs : List Field) → read (firstField t ∷ fs) ≡ bad badForm) → nextLine sheet read k (lines t) ≡ refuse (form sheet (k + 1))
   first-wrong h = by-comma (λ e. bad-fields (firstField t) (lineAt (behind t)) (line-comma t e) h) (h [])
 
   -- the first field is the last, and that is too few
-  pub first-alone : (endOf t ≡ Comma → ⊥) → read (firstField t ∷ []) ≡ wrong badForm → nextLine sheet read k (lines t) ≡ stop (form sheet (k + 1))
+  pub first-alone : (endOf t ≡ Comma → ⊥) → read (firstField t ∷ []) ≡ bad badForm → nextLine sheet read k (lines t) ≡ refuse (form sheet (k + 1))
   first-alone n h = by-comma (λ e. absurd (n e)) h

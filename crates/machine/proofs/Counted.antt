@@ -14,7 +14,7 @@ use Rattle.spec.proofs.Tests.{both-true}
 use Rattle.calculus.specs.Expression.{Redex}
 use Rattle.replay_theory.specs.Trace.{TraceLine}
 use Rattle.replay_theory.specs.Paths.{Path}
-use Rattle.replay_theory.specs.Run.{ObjectKind, cells, locks, rwlocks, semaphores, identifiers, Effect, effect, thingsAfter, oneMore, threadLimit, thingLimit, withinLimits, callLimit, openIn}
+use Rattle.replay_theory.specs.Run.{ObjectKind, cells, locks, rwlocks, semaphores, identifiers, Effect, effect, thingsAfter, oneMore, threadLimit, thingLimit, withinLimits, callLimit, stillOpen}
 use Rattle.machine.specs.State.{MachineThread, Machine, rank, startMachine}
 use Rattle.machine.specs.Replay.{Replay, startReplay, stepped, callsIn, countsWithin, within}
 use Rattle.machine.specs.Counted.{total, Counted}
@@ -59,7 +59,7 @@ stepped-counted R R′ l C q limited =
     })
 
 pub start-counted : {text : List ℕ} {P : Program} → WellFormedProgram text P → Counted (startReplay P)
-unfolding startReplay startMachine total within withinLimits threadLimit thingLimit callsIn countsWithin callLimit openIn
+unfolding startReplay startMachine total within withinLimits threadLimit thingLimit callsIn countsWithin callLimit stillOpen
 start-counted {P = P} w = record {
   kept = start-kept w;
   named = refl;

@@ -13,7 +13,7 @@ use Rattle.calculus.specs.State.{Slot, unused, cell, Thread, State, Part, first
 use Rattle.calculus.specs.Reduction.{_>>=_, _>>_, nameOf, ifUnused, ifIdentifier, cellValue, lockState, ifOpened, count, oneLess, rwState, insideAfter, ifEqual, valueOf, zeroExp, nowhere, partListed, made, becomes, withThread, withoutThread, named, reduct, wordOf, reduce}
 use Rattle.calculus.specs.Claim.{Every}
 use Rattle.calculus.proofs.Laws.Places.{set-elsewhere}
-use Rattle.calculus.proofs.Laws.Questions.{equal-is-told}
+use Rattle.calculus.proofs.Laws.Questions.{equal-complete}
 use Rattle.machine.specs.Environment.{Env, zeros, closed, closedUnder}
 use Rattle.machine.specs.Control.{Frame, markFrame, fill, Word, letWord, ifWord, whileWord, spawnWord, writeWord, unaryWord, nullaryWord, unrolledWord, againWord, redex, Control, done, at, decode, nextRedex, return, enter}
 use Rattle.machine.specs.State.{MachineThread, Machine, decodeThread, live, rank, decodeState, decodeProcedures, running}
@@ -136,7 +136,7 @@ module _ (M : Machine) (i tid : ℕ) (σ : Env) (w : Word) (K : List Frame) (her
           ∙ ap (λ (o : Option Thread). o >>= asked (rank (M .threads) j))
           (live-at (λ i t. decodeThread t) (M .threads) 0 j (L .thread) (record { there = L .there; not-joined = L .can .not-joined }))
           ∙ ap (λ (o : Option (Unit {0})). o >> (valueOf (nextWord (decode (L .thread .control))) >> some (joinedAt (rank (M .threads) j))))
-          (equal-is-told (L .thread .tid) n (L .can .same))
+          (equal-complete (L .thread .tid) n (L .can .same))
           ∙ ap (λ (b : Control). valueOf (nextWord (decode b)) >> some (joinedAt (rank (M .threads) j))) (L .can .finished)
           ∙ ap some (joined-leaves n j L)
           ∙ sym (ap (λ (o : Option MachineThread). Option·map decodeState (o >>= λ u. some (markJoined j u (gives M i tid σ K (M .names) zeroValue)))) (L .there))

@@ -11,7 +11,7 @@ use Rattle.calculus.specs.Expression.{Value, int, newtid, Exp, value, Redex, Ne
 use Rattle.calculus.specs.State.{first, second}
 use Rattle.soundness.specs.Erasure.{LeafForm, variable, constant, reduces, leafForm, UnaryForm, loop, strict, unaryForm}
 use Rattle.replay_theory.specs.Paths.{Path, pathOnce, nextPath, onlyPart, partOf, partAt}
-use Rattle.replay_theory.specs.Run.{hasFinished, isOpen, openIn}
+use Rattle.replay_theory.specs.Run.{hasFinished, isOpen, stillOpen}
 use Rattle.machine.specs.Environment.{Env, closed}
 use Rattle.machine.specs.Control.{Frame, letFrame, spawnFrame, writeFirst, writeSecond, unaryFrame, againFrame, markFrame, around, fill, Word, letWord, ifWord, whileWord, spawnWord, writeWord, unaryWord, nullaryWord, unrolledWord, againWord, wordExp, Control, done, at, decode, seekLeaf, seekUnary, seek, return, enter, runPart, marks, openCalls}
 use Rattle.machine.proofs.Decoding.{return-keeps, next-around, word-is-next}
@@ -121,15 +121,15 @@ path-of-decoded (at σ w K) = path-found σ K (wordExp σ w) (word-is-next σ w)
 
 -- Of those calls, the control has the open ones.
 abbrev pub Tells : Control → List Path → Type 0
-Tells b ps = openIn (decode b) ps ≡ callPaths b
+Tells b ps = stillOpen (decode b) ps ≡ callPaths b
 
-open-first : (e : Exp) (q : Path) (ps : List Path) (b : Bool) → isOpen (partAt q e) ≡ b → openIn e (q ∷ ps) ≡ (if b then (q ∷ openIn e ps) else openIn e ps)
-unfolding openIn
-open-first e q ps b h = ap (λ (c : Bool). if c then (q ∷ openIn e ps) else openIn e ps) h
+open-first : (e : Exp) (q : Path) (ps : List Path) (b : Bool) → isOpen (partAt q e) ≡ b → stillOpen e (q ∷ ps) ≡ (if b then (q ∷ stillOpen e ps) else stillOpen e ps)
+unfolding stillOpen
+open-first e q ps b h = ap (λ (c : Bool). if c then (q ∷ stillOpen e ps) else stillOpen e ps) h
 
 -- Around a word every call is open.
-still-open : {r : Redex} (σ : Env) (K : List Frame) (E : Exp) → nextWord E ≡ atWord r → openIn (fill σ K E) (paths K) ≡ paths K
-unfolding openIn isOpen hasFinished partAt
+still-open : {r : Redex} (σ : Env) (K : List Frame) (E : Exp) → nextWord E ≡ atWord r → stillOpen (fill σ K E) (paths K) ≡ paths K
+unfolding stillOpen isOpen hasFinished partAt
 still-open σ [] E h = refl
 still-open σ (letFrame k x e ∷ K) E h = still-open σ K (around σ (letFrame k x e) E) (next-around σ (letFrame k x e) E h)
 still-open σ (spawnFrame k e ∷ K) E h = still-open σ K (around σ (spawnFrame k e) E) (next-around σ (spawnFrame k e) E h)
@@ -146,7 +146,7 @@ at-tells : (σ : Env) (w : Word) (K : List Frame) → Tells (at σ w K) (paths K
 at-tells σ w K = still-open σ K (wordExp σ w) (word-is-next σ w)
 
 pub control-tells : (b : Control) → Tells b (callPaths b)
-unfolding openIn
+unfolding stillOpen
 control-tells (done v) = refl
 control-tells (at σ w K) = at-tells σ w K
 
@@ -174,7 +174,7 @@ seek-tells (binary Write k v e₁ e₂) σ K c h =
 
 -- A value closes the calls whose marks it meets, and no others.
 pub return-tells : (σ : Env) (v : Value) (K : List Frame) → Tells (return σ v K) (paths K)
-unfolding openIn isOpen hasFinished partAt
+unfolding stillOpen isOpen hasFinished partAt
 return-tells σ v [] = refl
 return-tells σ v (letFrame k x e ∷ K) = at-tells σ (letWord k x v e) K
 return-tells σ v (spawnFrame k e ∷ K) = at-tells σ (spawnWord k v e) K

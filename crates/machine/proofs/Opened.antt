@@ -9,7 +9,7 @@ use lib.ListN.{getElem?, set, length}
 use Rattle.calculus.specs.State.{Thread, remove}
 use Rattle.calculus.proofs.Laws.Maps.{some-injective, none-is-not-some}
 use Rattle.replay_theory.specs.Paths.{Path}
-use Rattle.replay_theory.specs.Run.{taken, openIn, openCalls}
+use Rattle.replay_theory.specs.Run.{recordCall, stillOpen, openCalls}
 use Rattle.replay_theory.proofs.Lists.{length-set}
 use Rattle.machine.specs.Control.{Control}
 use Rattle.machine.specs.State.{MachineThread, unless, ofLive, decodeThread, live, rank, running}
@@ -20,21 +20,21 @@ use Rattle.machine.proofs.Books.{callsFrom, set-to-same}
 -- ---- Lists of threads and of their calls
 
 open-set : (ts : List Thread) (calls : List (List Path)) (p : ℕ) (t : Thread) (ps : List Path) →
-    openCalls (set ts p t) (set calls p ps) ≡ set (openCalls ts calls) p (openIn (t .body) ps)
+    openCalls (set ts p t) (set calls p ps) ≡ set (openCalls ts calls) p (stillOpen (t .body) ps)
 unfolding openCalls
 open-set [] calls p t ps = refl
 open-set (u ∷ ts) [] zero t ps = refl
 open-set (u ∷ ts) [] (suc p) t ps = refl
 open-set (u ∷ ts) (qs ∷ calls) zero t ps = refl
-open-set (u ∷ ts) (qs ∷ calls) (suc p) t ps = ap (λ (l : List (List Path)). openIn (u .body) qs ∷ l) (open-set ts calls p t ps)
+open-set (u ∷ ts) (qs ∷ calls) (suc p) t ps = ap (λ (l : List (List Path)). stillOpen (u .body) qs ∷ l) (open-set ts calls p t ps)
 
 open-append : (ts : List Thread) (calls : List (List Path)) (t : Thread) (ps : List Path) → length ts ≡ length calls →
-    openCalls (ts ++ (t ∷ [])) (calls ++ (ps ∷ [])) ≡ openCalls ts calls ++ (openIn (t .body) ps ∷ [])
+    openCalls (ts ++ (t ∷ [])) (calls ++ (ps ∷ [])) ≡ openCalls ts calls ++ (stillOpen (t .body) ps ∷ [])
 unfolding openCalls
 open-append [] [] t ps h = refl
 open-append [] (qs ∷ calls) t ps h = absurd (omega (arith, h))
 open-append (u ∷ ts) [] t ps h = absurd (omega (arith, h))
-open-append (u ∷ ts) (qs ∷ calls) t ps h = ap (λ (l : List (List Path)). openIn (u .body) qs ∷ l) (open-append ts calls t ps (omega (arith, h)))
+open-append (u ∷ ts) (qs ∷ calls) t ps h = ap (λ (l : List (List Path)). stillOpen (u .body) qs ∷ l) (open-append ts calls t ps (omega (arith, h)))
 
 open-of-none : (ts : List Thread) → openCalls ts [] ≡ []
 unfolding openCalls
@@ -46,10 +46,10 @@ unfolding openCalls
 open-remove [] calls p = refl
 open-remove (u ∷ ts) [] p = open-of-none (remove (u ∷ ts) p)
 open-remove (u ∷ ts) (qs ∷ calls) zero = refl
-open-remove (u ∷ ts) (qs ∷ calls) (suc p) = ap (λ (l : List (List Path)). openIn (u .body) qs ∷ l) (open-remove ts calls p)
+open-remove (u ∷ ts) (qs ∷ calls) (suc p) = ap (λ (l : List (List Path)). stillOpen (u .body) qs ∷ l) (open-remove ts calls p)
 
-taken-is-set : (calls : List (List Path)) (p : ℕ) (q : Path) (ps : List Path) → getElem? calls p ≡ some ps → taken p q calls ≡ set calls p (q ∷ ps)
-unfolding taken
+taken-is-set : (calls : List (List Path)) (p : ℕ) (q : Path) (ps : List Path) → getElem? calls p ≡ some ps → recordCall p q calls ≡ set calls p (q ∷ ps)
+unfolding recordCall
 taken-is-set [] p q ps h = none-is-not-some h
 taken-is-set (c ∷ calls) zero q ps h = ap (λ (l : List Path). (q ∷ l) ∷ calls) (some-injective h)
 taken-is-set (c ∷ calls) (suc p) q ps h = ap (λ (l : List (List Path)). c ∷ l) (taken-is-set calls p q ps h)
@@ -96,7 +96,7 @@ module _ (ts : List MachineThread) (i tid : ℕ) (t : MachineThread) (h : LiveAt
       ∙ calls-set (callPaths (t .control)) tells
 
   -- It takes a call.
-  pub calls-taken : (q : Path) → Tells b (q ∷ callPaths (t .control)) → openCalls (live now) (taken (rank ts i) q (callsFrom 0 ts)) ≡ callsFrom 0 now
+  pub calls-taken : (q : Path) → Tells b (q ∷ callPaths (t .control)) → openCalls (live now) (recordCall (rank ts i) q (callsFrom 0 ts)) ≡ callsFrom 0 now
   calls-taken q tells =
       ap (openCalls (live now)) (taken-is-set (callsFrom 0 ts) (rank ts i) q (callPaths (t .control)) (live-at (λ n u. callPaths (u .control)) ts 0 i t h))
       ∙ calls-set (q ∷ callPaths (t .control)) tells

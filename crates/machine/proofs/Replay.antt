@@ -9,18 +9,18 @@ use lib.Dec.{leb}
 use lib.ListN.{length}
 use Rattle.spec.specs.Choice.{if_then_else_}
 use Rattle.spec.specs.Text.{Line, lines}
-use Rattle.spec.specs.Reading.{Out, stop, on}
+use Rattle.spec.specs.Reading.{Result, refuse, ok}
 use Rattle.spec.specs.Program.{Program}
 use Rattle.spec.specs.WellFormed.{UsedInside}
 use Rattle.soundness.specs.Erasure.{eraseProgram}
 use Rattle.replay_theory.specs.Trace.{TraceLine, traceLine}
 use Rattle.replay_theory.specs.Run as run
-use Rattle.replay_theory.specs.Run.{Run, startRun, openIn, callLimit}
+use Rattle.replay_theory.specs.Run.{Run, startRun, stillOpen, callLimit}
 use Rattle.replay_theory.specs.Paths.{Path}
 use Rattle.replay_theory.specs.LowestPair as run-pair
 use Rattle.replay_theory.specs.LowestPair.{lowestAmong}
 use Rattle.replay_theory.specs.Replay as answer
-use Rattle.replay_theory.specs.Replay.{Outcome, pastLimit, step as stepOf, limited, lineOutcome, goesOn, way, raceOr, firstRace, judged}
+use Rattle.replay_theory.specs.Replay.{Outcome, pastLimit, step as stepOf, checkLimits, lineOutcome, continue, execution, raceOr, firstRace, judged}
 use Rattle.replay_theory.specs.declared.Ending.{Ending}
 use Rattle.replay_theory.specs.declared.FirstRace.{FirstRace}
 use Rattle.replay_theory.specs.declared.FirstRace.the-variants.{None, Found}
@@ -30,7 +30,7 @@ use Rattle.machine.specs.Environment.{zeros}
 use Rattle.machine.specs.State.{MachineThread, unless, ofLive, startMachine}
 use Rattle.machine.specs.Control.{openCalls}
 use Rattle.machine.specs.Kept.{Kept}
-use Rattle.machine.specs.Replay.{Replay, startReplay, stepped, callsIn, countsWithin, within, usesIn, lowestPair, orRace, ended, playOn, playFrom, play, played, replay}
+use Rattle.machine.specs.Replay.{Replay, startReplay, stepped, callsIn, countsWithin, within, usesIn, lowestPair, orRace, ended, playOn, playFrom, play, replayed, replay}
 use Rattle.machine.proofs.Kept.{step-kept}
 use Rattle.machine.proofs.Stepped.{step-taken}
 use Rattle.machine.proofs.Start.{start-decoded, root-is-inside, start-kept}
@@ -94,18 +94,18 @@ unfolding firstRace
 ends ending k race = let none-more : k ≡ k + 0 = omega arith in λ i. ended ending (none-more i) (sym (no-race-behind race) i)
 
 abbrev Alike : List Line → Type 0
-Alike ls = (k : ℕ) (race : FirstRace) (R : Replay) → Kept (R .machine) → playFrom k race R ls ≡ atEnd k race (way (k + 1) (runOf R) ls)
+Alike ls = (k : ℕ) (race : FirstRace) (R : Replay) → Kept (R .machine) → playFrom k race R ls ≡ atEnd k race (execution (k + 1) (runOf R) ls)
 
 -- A step is done, and the rest goes on from there.
 step-alike : (ls : List Line) (k : ℕ) (race : FirstRace) (R : Replay) → Alike ls → Kept (R .machine) →
-    playFrom (k + 1) (orRace race (k + 1) (lowestPair R)) R ls ≡ atEnd k race (goesOn (k + 1) (stepOf (runOf R)) (λ r. way (k + 1 + 1) r ls))
-unfolding goesOn firstRace
+    playFrom (k + 1) (orRace race (k + 1) (lowestPair R)) R ls ≡ atEnd k race (continue (k + 1) (stepOf (runOf R)) (λ r. execution (k + 1 + 1) r ls))
+unfolding continue firstRace
 step-alike ls k race R alike kept =
     alike (k + 1) (orRace race (k + 1) (lowestPair R)) R kept
     ∙ (λ i. ended (rest .1) (counted i) (races i))
   where
     rest : List Run × Ending
-    rest = way (k + 1 + 1) (runOf R) ls
+    rest = execution (k + 1 + 1) (runOf R) ls
 
     counted : k + 1 + length (rest .0) ≡ k + suc (length (rest .0))
     counted = omega arith
@@ -121,11 +121,11 @@ module _ (ls : List Line) (k : ℕ) (race : FirstRace) (R : Replay) (alike : Ali
   playing o = playOn k race o (λ R′. playFrom (k + 1) (orRace race (k + 1) (lowestPair R′)) R′ ls)
 
   abbrev going : Outcome Run → List Run × Ending
-  going o = goesOn (k + 1) o (λ r. way (k + 1 + 1) r ls)
+  going o = continue (k + 1) o (λ r. execution (k + 1 + 1) r ls)
 
   stepped-alike : (l : TraceLine) (o : Option Replay) → stepped R l ≡ o →
-      playing (limited within o) ≡ atEnd k race (going (limited run.within (Option·map runOf o)))
-  unfolding limited playOn goesOn
+      playing (checkLimits within o) ≡ atEnd k race (going (checkLimits run.within (Option·map runOf o)))
+  unfolding checkLimits playOn continue
   stepped-alike l none q = ends _ k race
   stepped-alike l (some R′) q =
       by-limit (within R′) ∙ ap (λ (b : Bool). atEnd k race (going (if b then stepOf (runOf R′) else pastLimit))) (sym (within-alike R′))
@@ -135,26 +135,26 @@ module _ (ls : List Line) (k : ℕ) (race : FirstRace) (R : Replay) (alike : Ali
       by-limit false = ends _ k race
 
   line-goes-on : (o : Option TraceLine) → playing (lineOutcome (stepped R) within o) ≡ atEnd k race (going (lineOutcome (run.stepped (runOf R)) run.within o))
-  unfolding lineOutcome playOn goesOn
+  unfolding lineOutcome playOn continue
   line-goes-on none = ends _ k race
   line-goes-on (some l) =
-      stepped-alike l (stepped R l) refl ∙ ap (λ (o : Option Run). atEnd k race (going (limited run.within o))) (sym (line-alike R kept l))
+      stepped-alike l (stepped R l) refl ∙ ap (λ (o : Option Run). atEnd k race (going (checkLimits run.within o))) (sym (line-alike R kept l))
 
 trace-alike : (ls : List Line) → Alike ls
-unfolding playFrom way
+unfolding playFrom execution
 trace-alike [] k race R kept = ends _ k race
 trace-alike (l ∷ ls) k race R kept = line-goes-on ls k race R (trace-alike ls) kept (traceLine l)
 
 -- ---- The whole
 
-pub play-alike : (R : Replay) → Kept (R .machine) → (ls : List Line) → play R ls ≡ answer.reported (runOf R) (way 1 (runOf R) ls)
+pub play-alike : (R : Replay) → Kept (R .machine) → (ls : List Line) → play R ls ≡ answer.reported (runOf R) (execution 1 (runOf R) ls)
 unfolding play answer.reported firstRace ended
 play-alike R kept ls =
     trace-alike ls 0 (orRace None 0 (lowestPair R)) R kept
     ∙ (λ i. ended (rest .1) (counted i) (races i))
   where
     rest : List Run × Ending
-    rest = way 1 (runOf R) ls
+    rest = execution 1 (runOf R) ls
 
     counted : 0 + length (rest .0) ≡ length (rest .0)
     counted = omega arith
@@ -165,17 +165,17 @@ play-alike R kept ls =
         ∙ ap (λ (p : Option (ℕ × ℕ)). raceOr 0 p (firstRace 1 (rest .0))) (sym (pair-alike R))
 
 start-alike : (P : Program) → UsedInside (length (P .procedures)) [] (P .root) → runOf (startReplay P) ≡ startRun (eraseProgram P)
-unfolding startReplay startMachine startRun openIn
+unfolding startReplay startMachine startRun stillOpen
 start-alike P used =
     same-run refl (start-decoded P used) refl (ap (λ (ps : List Path). ps ∷ []) (sym (enter-tells zeros (P .root) []))) refl refl refl
 
 pub machine-replays : (room : ℕ) (programText traceText : List ℕ) → replay room programText traceText ≡ answer.replay room programText traceText
-unfolding replay played answer.replay answer.played startReplay
+unfolding replay replayed answer.replay answer.replayed startReplay
 machine-replays room programText traceText = by-cases (judged room programText) refl
   where
-    by-cases : (o : Out Program) → judged room programText ≡ o → played o (lines traceText) ≡ answer.played o (lines traceText)
-    by-cases (stop r) q = refl
-    by-cases (on P) q =
+    by-cases : (o : Result Program) → judged room programText ≡ o → replayed o (lines traceText) ≡ answer.replayed o (lines traceText)
+    by-cases (refuse r) q = refl
+    by-cases (ok P) q =
         let w = judged-well-formed room programText q in
         play-alike (startReplay P) (start-kept w) (lines traceText)
-        ∙ ap (λ (r : Run). answer.reported r (way 1 r (lines traceText))) (start-alike P (root-is-inside w))
+        ∙ ap (λ (r : Run). answer.reported r (execution 1 r (lines traceText))) (start-alike P (root-is-inside w))

@@ -7,7 +7,7 @@ use mathlib.Core.Option.{Option, none, some}
 use lib.Dec.{leb}
 use lib.ListN.{getElem?, length}
 use Rattle.spec.specs.Text.{Line, lines}
-use Rattle.spec.specs.Reading.{Out, stop, on}
+use Rattle.spec.specs.Reading.{Result, refuse, ok}
 use Rattle.spec.specs.Program.{Program}
 use Rattle.calculus.specs.Expression.{Redex}
 use Rattle.calculus.specs.Reduction.{_>>=_}
@@ -99,9 +99,9 @@ playFrom k race R (l ∷ ls) =
 unfoldable pub play : Replay → List Line → Replayed
 play R ls = playFrom 0 (orRace None 0 (lowestPair R)) R ls
 
-unfoldable pub played : Out Program → List Line → Replayed
-played (stop r) ls = refused r
-played (on P) ls = play (startReplay P) ls
+unfoldable pub replayed : Result Program → List Line → Replayed
+replayed (refuse r) ls = refused r
+replayed (ok P) ls = play (startReplay P) ls
 
 unfoldable pub replay : (room : ℕ) → (programText traceText : List ℕ) → Replayed
-replay room programText traceText = played (judged room programText) (lines traceText)
+replay room programText traceText = replayed (judged room programText) (lines traceText)

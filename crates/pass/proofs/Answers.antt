@@ -11,7 +11,7 @@ use Rattle.fill_theory.specs.Found.{_>>=_}
 use Rattle.fill_theory.specs.Pass.{ownPost}
 use Rattle.turns.specs.declared.Found.{Found}
 use Rattle.turns.specs.declared.Found.the-variants.{Number, Nothing}
-use Rattle.turns.specs.Turns.{asFound}
+use Rattle.turns.specs.AfterSteps.{asFound}
 use Rattle.pass.specs.Passed.{settled, Answers}
 
 pub found-number : {x : ℕ} (o : Option (List ℕ)) (k : ℕ) (q : List ℕ) (r : Found) → Answers o k q r → r ≡ Number x

@@ -1,4 +1,4 @@
--- A step with parts: the parts that the work space shows of it, and the bounds and the pass of its flow by its way.
+-- A step with parts: the parts that the work space shows of it, and the bounds and the pass of its flow by its transfer function.
 use mathlib.Core.Path.{_≡_, refl, ap, ap₂, sym, _∙_, subst}
 use mathlib.Core.Bool.{Bool, true, false}
 use mathlib.Core.List.{List, _∷_, _++_}
@@ -10,59 +10,59 @@ use lib.ListN.{length, getD, length-append}
 use Rattle.workspace.specs.Region.{Region}
 use Rattle.workspace.proofs.Region.{region-moved, region-first, region-behind, region-left, region-right}
 use Rattle.fill_theory.specs.declared.Effect.{Effect}
-use Rattle.fill_theory.specs.Found.{_>>=_, demand}
+use Rattle.fill_theory.specs.Found.{_>>=_, require}
 use Rattle.fill_theory.specs.Flow.{taking, Flow, alone, after, inTurn, branch, loop, fork, call, steps, unaryFlow, binaryFlow}
-use Rattle.fill_theory.specs.Pass.{back, turn, ownPost, ceiling, reach, pass}
+use Rattle.fill_theory.specs.Pass.{back, apply, ownPost, ceiling, attainable, pass}
 use Rattle.fill_theory.proofs.Pass.{steps-positive}
 use Rattle.ways.specs.declared.Column.{Column}
-use Rattle.fill_theory.specs.declared.Way.the-variants.{Leaf, Unary, Binary}
-use Rattle.fill_theory.specs.declared.UnaryWay.{UnaryWay}
-use Rattle.fill_theory.specs.declared.UnaryWay.the-variants.{After, Loop, Call}
-use Rattle.fill_theory.specs.declared.BinaryWay.{BinaryWay}
-use Rattle.fill_theory.specs.declared.BinaryWay.the-variants.{InTurn, Branch, Fork}
-use Rattle.ways.specs.Ways.{wayIn}
+use Rattle.fill_theory.specs.declared.Transfer.the-variants.{Leaf, Unary, Binary}
+use Rattle.fill_theory.specs.declared.UnaryTransfer.{UnaryTransfer}
+use Rattle.fill_theory.specs.declared.UnaryTransfer.the-variants.{After, Loop, Call}
+use Rattle.fill_theory.specs.declared.BinaryTransfer.{BinaryTransfer}
+use Rattle.fill_theory.specs.declared.BinaryTransfer.the-variants.{InTurn, Branch, Fork}
+use Rattle.ways.specs.Transfers.{transferIn}
 use Rattle.ways.specs.Shows.{endIn, Shows, leafShown, unaryShown, binaryShown}
-use Rattle.turns.specs.Bounds.{top, partCap, lastCap, firstCap, unaryCap, unaryCeiling, binaryCeiling, unaryReach, binaryReach}
-use Rattle.turns.specs.Turns.{partPre, afterUnary, secondPre, afterBinary}
-use Rattle.pass.specs.Bounds.{capsOf}
+use Rattle.turns.specs.Bounds.{top, partUpperBound, lastUpperBound, firstUpperBound, unaryUpperBound, unaryCeiling, binaryCeiling, unaryAttainable, binaryAttainable}
+use Rattle.turns.specs.AfterSteps.{partPre, afterUnary, secondPre, afterBinary}
+use Rattle.pass.specs.Bounds.{upperBoundsOf}
 
 -- ------------------------------------------------------------------ the parts that are shown
 
-pub record UnaryParts (w : List ℕ) (column : Column) (k : ℕ) (way : UnaryWay) (f : Flow) : Type 0 where
+pub record UnaryParts (w : List ℕ) (column : Column) (k : ℕ) (transfer : UnaryTransfer) (f : Flow) : Type 0 where
   pub part : Flow
-  pub is : f ≡ unaryFlow way part
+  pub is : f ≡ unaryFlow transfer part
   pub shown : Shows w column (k + 1) part
 
-pub record BinaryParts (w : List ℕ) (column : Column) (k : ℕ) (way : BinaryWay) (f : Flow) : Type 0 where
+pub record BinaryParts (w : List ℕ) (column : Column) (k : ℕ) (transfer : BinaryTransfer) (f : Flow) : Type 0 where
   pub first : Flow
   pub second : Flow
-  pub is : f ≡ binaryFlow way first second
+  pub is : f ≡ binaryFlow transfer first second
   pub shown : Shows w column (k + 1) first
   pub ends : endIn w (k + 1) ≡ k + 1 + steps first
   pub behind : Shows w column (k + 1 + steps first) second
 
 module _ (w : List ℕ) (column : Column) where
-  pub leaf-parts : (k : ℕ) (E : Effect) (f : Flow) → Shows w column k f → wayIn w column k ≡ Leaf E → f ≡ alone E
+  pub leaf-parts : (k : ℕ) (E : Effect) (f : Flow) → Shows w column k f → transferIn w column k ≡ Leaf E → f ≡ alone E
   leaf-parts k E f (leafShown {E = F} e) h = let same : F ≡ E = cc in ap alone same
-  leaf-parts k E f (unaryShown way e s) h = let clash : _≡_ {A = ℕ} 0 1 = cc in absurd (omega arith)
-  leaf-parts k E f (binaryShown way e s ends t) h = let clash : _≡_ {A = ℕ} 0 1 = cc in absurd (omega arith)
+  leaf-parts k E f (unaryShown transfer e s) h = let clash : _≡_ {A = ℕ} 0 1 = cc in absurd (omega arith)
+  leaf-parts k E f (binaryShown transfer e s ends t) h = let clash : _≡_ {A = ℕ} 0 1 = cc in absurd (omega arith)
 
-  pub unary-parts : (k : ℕ) (way : UnaryWay) (f : Flow) → Shows w column k f → wayIn w column k ≡ Unary way → UnaryParts w column k way f
-  unary-parts k way f (leafShown e) h = let clash : _≡_ {A = ℕ} 0 1 = cc in absurd (omega arith)
-  unary-parts k way f (unaryShown {f = g} shape e s) h =
-      let same : shape ≡ way = cc in
-      record { part = g; is = ap (λ way. unaryFlow way g) same; shown = s }
-  unary-parts k way f (binaryShown shape e s ends t) h = let clash : _≡_ {A = ℕ} 0 1 = cc in absurd (omega arith)
+  pub unary-parts : (k : ℕ) (transfer : UnaryTransfer) (f : Flow) → Shows w column k f → transferIn w column k ≡ Unary transfer → UnaryParts w column k transfer f
+  unary-parts k transfer f (leafShown e) h = let clash : _≡_ {A = ℕ} 0 1 = cc in absurd (omega arith)
+  unary-parts k transfer f (unaryShown {f = g} shape e s) h =
+      let same : shape ≡ transfer = cc in
+      record { part = g; is = ap (λ transfer. unaryFlow transfer g) same; shown = s }
+  unary-parts k transfer f (binaryShown shape e s ends t) h = let clash : _≡_ {A = ℕ} 0 1 = cc in absurd (omega arith)
 
-  pub binary-parts : (k : ℕ) (way : BinaryWay) (f : Flow) → Shows w column k f → wayIn w column k ≡ Binary way → BinaryParts w column k way f
-  binary-parts k way f (leafShown e) h = let clash : _≡_ {A = ℕ} 0 1 = cc in absurd (omega arith)
-  binary-parts k way f (unaryShown shape e s) h = let clash : _≡_ {A = ℕ} 0 1 = cc in absurd (omega arith)
-  binary-parts k way f (binaryShown {f = g} {g = h′} shape e s ends t) h =
-      let same : shape ≡ way = cc in
+  pub binary-parts : (k : ℕ) (transfer : BinaryTransfer) (f : Flow) → Shows w column k f → transferIn w column k ≡ Binary transfer → BinaryParts w column k transfer f
+  binary-parts k transfer f (leafShown e) h = let clash : _≡_ {A = ℕ} 0 1 = cc in absurd (omega arith)
+  binary-parts k transfer f (unaryShown shape e s) h = let clash : _≡_ {A = ℕ} 0 1 = cc in absurd (omega arith)
+  binary-parts k transfer f (binaryShown {f = g} {g = h′} shape e s ends t) h =
+      let same : shape ≡ transfer = cc in
       record {
         first = g;
         second = h′;
-        is = ap (λ way. binaryFlow way g h′) same;
+        is = ap (λ transfer. binaryFlow transfer g h′) same;
         shown = s;
         ends = ends;
         behind = t;
@@ -71,108 +71,108 @@ module _ (w : List ℕ) (column : Column) where
 -- one flow is shown
 pub shows-same : {w : List ℕ} {column : Column} {k : ℕ} {f : Flow} (g : Flow) → Shows w column k f → Shows w column k g → f ≡ g
 shows-same {w} {column} {k} g (leafShown {E = E} seen) T = sym (leaf-parts w column k E g T seen)
-shows-same {w} {column} {k} g (unaryShown way seen s) T =
-    let U = unary-parts w column k way g T seen in
-    ap (unaryFlow way) (shows-same (U .part) s (U .shown)) ∙ sym (U .is)
-shows-same {w} {column} {k} g (binaryShown {f = f₁} {g = f₂} way seen s ends t) T =
-    let B = binary-parts w column k way g T seen in
+shows-same {w} {column} {k} g (unaryShown transfer seen s) T =
+    let U = unary-parts w column k transfer g T seen in
+    ap (unaryFlow transfer) (shows-same (U .part) s (U .shown)) ∙ sym (U .is)
+shows-same {w} {column} {k} g (binaryShown {f = f₁} {g = f₂} transfer seen s ends t) T =
+    let B = binary-parts w column k transfer g T seen in
     let first = shows-same (B .first) s (B .shown) in
     let behind : Shows w column (k + 1 + steps f₁) (B .second) = rw (← first) at (B .behind) in
-    ap₂ (binaryFlow way) first (shows-same (B .second) t behind) ∙ sym (B .is)
+    ap₂ (binaryFlow transfer) first (shows-same (B .second) t behind) ∙ sym (B .is)
 
--- ------------------------------------------------------------------ the bounds by the way
+-- ------------------------------------------------------------------ the bounds by the transfer function
 
 -- the most that a step may leave, by what its part may start with and can leave
-abbrev pub ownCapOf : UnaryWay → (c : ℕ) → Flow → ℕ
-ownCapOf way c f = unaryCap way c (ceiling top (partCap way c) f) (reach top top (partCap way c) f)
+abbrev pub ownUpperBoundOf : UnaryTransfer → (c : ℕ) → Flow → ℕ
+ownUpperBoundOf transfer c f = unaryUpperBound transfer c (ceiling top (partUpperBound transfer c) f) (attainable top top (partUpperBound transfer c) f)
 
 -- the most that the first part may leave, by what the second may start with
-abbrev pub firstCapOf : BinaryWay → (c : ℕ) → Flow → ℕ
-firstCapOf way c g = firstCap way c (ceiling top (lastCap way c) g)
+abbrev pub firstUpperBoundOf : BinaryTransfer → (c : ℕ) → Flow → ℕ
+firstUpperBoundOf transfer c g = firstUpperBound transfer c (ceiling top (lastUpperBound transfer c) g)
 
 module _ (c : ℕ) where
-  pub caps-unary : (way : UnaryWay) (f : Flow) → capsOf c (unaryFlow way f) ≡ ownCapOf way c f ∷ capsOf (partCap way c) f
-  unfolding capsOf unaryFlow partCap unaryCap
-  caps-unary (After E) f = refl
-  caps-unary Loop f = refl
-  caps-unary (Call wanted left) f = refl
+  pub upper-bounds-unary : (transfer : UnaryTransfer) (f : Flow) → upperBoundsOf c (unaryFlow transfer f) ≡ ownUpperBoundOf transfer c f ∷ upperBoundsOf (partUpperBound transfer c) f
+  unfolding upperBoundsOf unaryFlow partUpperBound unaryUpperBound
+  upper-bounds-unary (After E) f = refl
+  upper-bounds-unary Loop f = refl
+  upper-bounds-unary (Call wanted left) f = refl
 
-  pub caps-binary : (way : BinaryWay) (f g : Flow) → capsOf c (binaryFlow way f g) ≡ c ∷ (capsOf (firstCapOf way c g) f ++ capsOf (lastCap way c) g)
-  unfolding capsOf binaryFlow lastCap firstCap
-  caps-binary (InTurn E) f g = refl
-  caps-binary Branch f g = refl
-  caps-binary (Fork start due) f g = refl
+  pub upper-bounds-binary : (transfer : BinaryTransfer) (f g : Flow) → upperBoundsOf c (binaryFlow transfer f g) ≡ c ∷ (upperBoundsOf (firstUpperBoundOf transfer c g) f ++ upperBoundsOf (lastUpperBound transfer c) g)
+  unfolding upperBoundsOf binaryFlow lastUpperBound firstUpperBound
+  upper-bounds-binary (InTurn E) f g = refl
+  upper-bounds-binary Branch f g = refl
+  upper-bounds-binary (Fork start due) f g = refl
 
-  pub ceiling-unary : (way : UnaryWay) (f : Flow) → ceiling top c (unaryFlow way f) ≡ unaryCeiling way (ceiling top (partCap way c) f)
-  unfolding ceiling unaryFlow partCap unaryCeiling
+  pub ceiling-unary : (transfer : UnaryTransfer) (f : Flow) → ceiling top c (unaryFlow transfer f) ≡ unaryCeiling transfer (ceiling top (partUpperBound transfer c) f)
+  unfolding ceiling unaryFlow partUpperBound unaryCeiling
   ceiling-unary (After E) f = refl
   ceiling-unary Loop f = refl
   ceiling-unary (Call wanted left) f = refl
 
-  pub ceiling-binary : (way : BinaryWay) (f g : Flow)
-      → ceiling top c (binaryFlow way f g) ≡ binaryCeiling way (ceiling top (firstCapOf way c g) f) (ceiling top (lastCap way c) g)
-  unfolding ceiling binaryFlow lastCap firstCap binaryCeiling
+  pub ceiling-binary : (transfer : BinaryTransfer) (f g : Flow)
+      → ceiling top c (binaryFlow transfer f g) ≡ binaryCeiling transfer (ceiling top (firstUpperBoundOf transfer c g) f) (ceiling top (lastUpperBound transfer c) g)
+  unfolding ceiling binaryFlow lastUpperBound firstUpperBound binaryCeiling
   ceiling-binary (InTurn E) f g = refl
   ceiling-binary Branch f g = refl
   ceiling-binary (Fork start due) f g = refl
 
-  pub reach-unary : (x : ℕ) (way : UnaryWay) (f : Flow)
-      → reach top x c (unaryFlow way f) ≡ unaryReach way x (ownCapOf way c f) (reach top x (partCap way c) f)
-  unfolding reach unaryFlow partCap unaryCap unaryReach
-  reach-unary x (After E) f = refl
-  reach-unary x Loop f = refl
-  reach-unary x (Call wanted left) f = refl
+  pub attainable-unary : (x : ℕ) (transfer : UnaryTransfer) (f : Flow)
+      → attainable top x c (unaryFlow transfer f) ≡ unaryAttainable transfer x (ownUpperBoundOf transfer c f) (attainable top x (partUpperBound transfer c) f)
+  unfolding attainable unaryFlow partUpperBound unaryUpperBound unaryAttainable
+  attainable-unary x (After E) f = refl
+  attainable-unary x Loop f = refl
+  attainable-unary x (Call wanted left) f = refl
 
-  pub reach-binary : (x : ℕ) (way : BinaryWay) (f g : Flow) → let first = reach top x (firstCapOf way c g) f in
-      reach top x c (binaryFlow way f g) ≡ binaryReach way c first (reach top (secondPre way x first) (lastCap way c) g)
-  unfolding reach binaryFlow lastCap firstCap binaryReach secondPre
-  reach-binary x (InTurn E) f g = refl
-  reach-binary x Branch f g = refl
-  reach-binary x (Fork start due) f g = refl
+  pub attainable-binary : (x : ℕ) (transfer : BinaryTransfer) (f g : Flow) → let first = attainable top x (firstUpperBoundOf transfer c g) f in
+      attainable top x c (binaryFlow transfer f g) ≡ binaryAttainable transfer c first (attainable top (secondPre transfer x first) (lastUpperBound transfer c) g)
+  unfolding attainable binaryFlow lastUpperBound firstUpperBound binaryAttainable secondPre
+  attainable-binary x (InTurn E) f g = refl
+  attainable-binary x Branch f g = refl
+  attainable-binary x (Fork start due) f g = refl
 
-pub caps-length : (c : ℕ) (f : Flow) → length (capsOf c f) ≡ steps f
-unfolding capsOf steps
-caps-length c (alone E) = refl
-caps-length c (after E f) = ap suc (caps-length _ f)
-caps-length c (inTurn E f g) =
-    omega (arith, length-append (capsOf (ceiling top (back E c) g) f) (capsOf (back E c) g), caps-length (ceiling top (back E c) g) f, caps-length (back E c) g)
-caps-length c (branch f g) = omega (arith, length-append (capsOf top f) (capsOf top g), caps-length top f, caps-length top g)
-caps-length c (loop f) = ap suc (caps-length top f)
-caps-length c (fork s k f g) =
-    omega (arith, length-append (capsOf (back (taking s) c) f) (capsOf top g), caps-length (back (taking s) c) f, caps-length top g)
-caps-length c (call b d f) = ap suc (caps-length b f)
+pub upper-bounds-length : (c : ℕ) (f : Flow) → length (upperBoundsOf c f) ≡ steps f
+unfolding upperBoundsOf steps
+upper-bounds-length c (alone E) = refl
+upper-bounds-length c (after E f) = ap suc (upper-bounds-length _ f)
+upper-bounds-length c (inTurn E f g) =
+    omega (arith, length-append (upperBoundsOf (ceiling top (back E c) g) f) (upperBoundsOf (back E c) g), upper-bounds-length (ceiling top (back E c) g) f, upper-bounds-length (back E c) g)
+upper-bounds-length c (branch f g) = omega (arith, length-append (upperBoundsOf top f) (upperBoundsOf top g), upper-bounds-length top f, upper-bounds-length top g)
+upper-bounds-length c (loop f) = ap suc (upper-bounds-length top f)
+upper-bounds-length c (fork s k f g) =
+    omega (arith, length-append (upperBoundsOf (back (taking s) c) f) (upperBoundsOf top g), upper-bounds-length (back (taking s) c) f, upper-bounds-length top g)
+upper-bounds-length c (call b d f) = ap suc (upper-bounds-length b f)
 
 -- a step's own cap stands at its place, those of its parts behind it
 module _ {m : List ℕ} {k : ℕ} (c : ℕ) where
-  pub caps-stored : (f : Flow) → Region m k (capsOf c f) → k < length m
-  caps-stored f C = omega (arith, C .fits, caps-length c f, steps-positive f)
+  pub upper-bounds-stored : (f : Flow) → Region m k (upperBoundsOf c f) → k < length m
+  upper-bounds-stored f C = omega (arith, C .fits, upper-bounds-length c f, steps-positive f)
 
-  module _ (way : UnaryWay) (part : Flow) {f : Flow} (is : f ≡ unaryFlow way part) (C : Region m k (capsOf c f)) where
-    stands : Region m k (ownCapOf way c part ∷ capsOf (partCap way c) part)
-    stands = rw (is, caps-unary c way part) at C
+  module _ (transfer : UnaryTransfer) (part : Flow) {f : Flow} (is : f ≡ unaryFlow transfer part) (C : Region m k (upperBoundsOf c f)) where
+    stands : Region m k (ownUpperBoundOf transfer c part ∷ upperBoundsOf (partUpperBound transfer c) part)
+    stands = rw (is, upper-bounds-unary c transfer part) at C
 
-    pub unary-cap : getD m k 0 ≡ ownCapOf way c part
-    unary-cap = region-first stands
+    pub unary-upper-bound : getD m k 0 ≡ ownUpperBoundOf transfer c part
+    unary-upper-bound = region-first stands
 
-    pub part-caps : Region m (k + 1) (capsOf (partCap way c) part)
-    part-caps = region-behind stands
+    pub part-upper-bounds : Region m (k + 1) (upperBoundsOf (partUpperBound transfer c) part)
+    part-upper-bounds = region-behind stands
 
-  module _ (way : BinaryWay) (first second : Flow) {f : Flow} (is : f ≡ binaryFlow way first second) (C : Region m k (capsOf c f)) where
-    both-stand : Region m k (c ∷ (capsOf (firstCapOf way c second) first ++ capsOf (lastCap way c) second))
-    both-stand = rw (is, caps-binary c way first second) at C
+  module _ (transfer : BinaryTransfer) (first second : Flow) {f : Flow} (is : f ≡ binaryFlow transfer first second) (C : Region m k (upperBoundsOf c f)) where
+    both-stand : Region m k (c ∷ (upperBoundsOf (firstUpperBoundOf transfer c second) first ++ upperBoundsOf (lastUpperBound transfer c) second))
+    both-stand = rw (is, upper-bounds-binary c transfer first second) at C
 
-    pub binary-cap : getD m k 0 ≡ c
-    binary-cap = region-first both-stand
+    pub binary-upper-bound : getD m k 0 ≡ c
+    binary-upper-bound = region-first both-stand
 
-    pub first-caps : Region m (k + 1) (capsOf (firstCapOf way c second) first)
-    first-caps = region-left (capsOf (firstCapOf way c second) first) (capsOf (lastCap way c) second) (region-behind both-stand)
+    pub first-upper-bounds : Region m (k + 1) (upperBoundsOf (firstUpperBoundOf transfer c second) first)
+    first-upper-bounds = region-left (upperBoundsOf (firstUpperBoundOf transfer c second) first) (upperBoundsOf (lastUpperBound transfer c) second) (region-behind both-stand)
 
-    pub last-caps : Region m (k + 1 + steps first) (capsOf (lastCap way c) second)
-    last-caps =
-        region-moved _ _ (ap (k + 1 +_) (caps-length (firstCapOf way c second) first))
-        (region-right (capsOf (firstCapOf way c second) first) (capsOf (lastCap way c) second) (region-behind both-stand))
+    pub last-upper-bounds : Region m (k + 1 + steps first) (upperBoundsOf (lastUpperBound transfer c) second)
+    last-upper-bounds =
+        region-moved _ _ (ap (k + 1 +_) (upper-bounds-length (firstUpperBoundOf transfer c second) first))
+        (region-right (upperBoundsOf (firstUpperBoundOf transfer c second) first) (upperBoundsOf (lastUpperBound transfer c) second) (region-behind both-stand))
 
--- ------------------------------------------------------------------ the pass by the way
+-- ------------------------------------------------------------------ the pass by the transfer function
 
 pub nothing-bind : {A B : Type 0} (m : Option A) (f : A → Option B) → m ≡ none → (m >>= f) ≡ none
 unfolding _>>=_
@@ -184,34 +184,34 @@ bind-same none f g h = refl
 bind-same (some a) f g h = h a
 
 -- what a test lets pass comes first as if the test came first
-tested : (b : Bool) (o : Option ℕ) (ps : List ℕ) → (demand b >>= λ met. o >>= λ p. some (p ∷ ps)) ≡ ((demand b >>= λ met. o) >>= λ p. some (p ∷ ps))
-unfolding _>>=_ demand
+tested : (b : Bool) (o : Option ℕ) (ps : List ℕ) → (require b >>= λ met. o >>= λ p. some (p ∷ ps)) ≡ ((require b >>= λ met. o) >>= λ p. some (p ∷ ps))
+unfolding _>>=_ require
 tested true o ps = refl
 tested false o ps = refl
 
-pub pass-unary : (pre c before : ℕ) (way : UnaryWay) (f : Flow) → before ≡ partPre way pre (ownCapOf way c f)
-    → pass top pre c (unaryFlow way f)
-    ≡ (pass top before (partCap way c) f >>= λ ps. afterUnary way before (ownPost ps) >>= λ p. some (p ∷ ps))
-unfolding pass reach unaryFlow partCap unaryCap partPre afterUnary _>>=_
-pass-unary pre c before way f e =
-    subst (λ (b : ℕ). pass top pre c (unaryFlow way f) ≡ (pass top b (partCap way c) f >>= λ ps. afterUnary way b (ownPost ps) >>= λ p. some (p ∷ ps))) (sym e) (by way)
+pub pass-unary : (pre c before : ℕ) (transfer : UnaryTransfer) (f : Flow) → before ≡ partPre transfer pre (ownUpperBoundOf transfer c f)
+    → pass top pre c (unaryFlow transfer f)
+    ≡ (pass top before (partUpperBound transfer c) f >>= λ ps. afterUnary transfer before (ownPost ps) >>= λ p. some (p ∷ ps))
+unfolding pass attainable unaryFlow partUpperBound unaryUpperBound partPre afterUnary _>>=_
+pass-unary pre c before transfer f e =
+    subst (λ (b : ℕ). pass top pre c (unaryFlow transfer f) ≡ (pass top b (partUpperBound transfer c) f >>= λ ps. afterUnary transfer b (ownPost ps) >>= λ p. some (p ∷ ps))) (sym e) (by transfer)
   where
-    by : (way : UnaryWay) → let b = partPre way pre (ownCapOf way c f) in
-        pass top pre c (unaryFlow way f) ≡ (pass top b (partCap way c) f >>= λ ps. afterUnary way b (ownPost ps) >>= λ p. some (p ∷ ps))
+    by : (transfer : UnaryTransfer) → let b = partPre transfer pre (ownUpperBoundOf transfer c f) in
+        pass top pre c (unaryFlow transfer f) ≡ (pass top b (partUpperBound transfer c) f >>= λ ps. afterUnary transfer b (ownPost ps) >>= λ p. some (p ∷ ps))
     by (After E) = refl
     by Loop =
-        let most = reach top pre c (loop f) in
+        let most = attainable top pre c (loop f) in
         bind-same (pass top most top f) _ _ (λ ps. tested (leb most (ownPost ps)) (some most) ps)
     by (Call wanted left) = bind-same (pass top pre wanted f) _ _ (λ ps. tested (eqb (ownPost ps) wanted) (some left) ps)
 
-pub pass-binary : (pre c : ℕ) (way : BinaryWay) (f g : Flow)
-    → pass top pre c (binaryFlow way f g)
-    ≡ (pass top pre (firstCapOf way c g) f >>= λ ps. pass top (secondPre way pre (ownPost ps)) (lastCap way c) g >>= λ qs.
-    afterBinary way c (ownPost ps) (ownPost qs) >>= λ p. some (p ∷ (ps ++ qs)))
-unfolding pass binaryFlow lastCap firstCap secondPre afterBinary _>>=_
+pub pass-binary : (pre c : ℕ) (transfer : BinaryTransfer) (f g : Flow)
+    → pass top pre c (binaryFlow transfer f g)
+    ≡ (pass top pre (firstUpperBoundOf transfer c g) f >>= λ ps. pass top (secondPre transfer pre (ownPost ps)) (lastUpperBound transfer c) g >>= λ qs.
+    afterBinary transfer c (ownPost ps) (ownPost qs) >>= λ p. some (p ∷ (ps ++ qs)))
+unfolding pass binaryFlow lastUpperBound firstUpperBound secondPre afterBinary _>>=_
 pass-binary pre c (InTurn E) f g = refl
 pass-binary pre c Branch f g = refl
 pass-binary pre c (Fork start due) f g =
     bind-same (pass top pre (back (taking start) c) f) _ _ (λ ps.
     bind-same (pass top start top g) _ _ (λ qs.
-    tested (leb due (ownPost qs)) (turn (taking start) (ownPost ps)) (ps ++ qs)))
+    tested (leb due (ownPost qs)) (apply (taking start) (ownPost ps)) (ps ++ qs)))

@@ -11,13 +11,13 @@ use borrow.Author.Tests.{le-leb, lt-leb}
 use Rattle.workspace.specs.Layout.{mapCell}
 use Rattle.workspace.specs.Region.{Region, ChangedWithin}
 use Rattle.workspace.proofs.Region.{region-append, region-kept, region-moved, changed-then, changed-wider}
-use Rattle.fill_theory.specs.Found.{_>>=_, demand}
+use Rattle.fill_theory.specs.Found.{_>>=_, require}
 use Rattle.fill_theory.specs.Flow.{Flow, steps, Root, stepsOf}
 use Rattle.fill_theory.specs.Pass.{ownPost, greatestPosts, postsOfRoots}
 use Rattle.fill_theory.proofs.Found.{finds-bind}
 use Rattle.fill_theory.proofs.Greatest.{posts-counted}
 use Rattle.ways.specs.declared.Column.{Column}
-use Rattle.ways.specs.Ways.{cellIn, beforeIn, afterIn}
+use Rattle.ways.specs.Transfers.{cellIn, beforeIn, afterIn}
 use Rattle.ways.specs.Shows.{Shows}
 use Rattle.turns.specs.declared.Found.{Found}
 use Rattle.turns.specs.declared.Found.the-variants.{Number, Nothing}
@@ -39,15 +39,15 @@ module _ (pre due : ℕ) (g : Flow) (rs : List Root) where
 
   module _ {ps : List ℕ} (found : greatestPosts pre g ≡ some ps) where
     root-short : ownPost ps < due → postsOfRoots here ≡ none
-    unfolding postsOfRoots demand _>>=_
+    unfolding postsOfRoots require _>>=_
     root-short l = finds-bind _ _ found (rw (lt-leb due (ownPost ps) l))
 
     others-missed : due ≤ ownPost ps → postsOfRoots rs ≡ none → postsOfRoots here ≡ none
-    unfolding postsOfRoots demand _>>=_
+    unfolding postsOfRoots require _>>=_
     others-missed l e = finds-bind _ _ found (rw (le-leb due (ownPost ps) l, e))
 
     both-found : {qs : List ℕ} → due ≤ ownPost ps → postsOfRoots rs ≡ some qs → postsOfRoots here ≡ some (ps ++ qs)
-    unfolding postsOfRoots demand _>>=_
+    unfolding postsOfRoots require _>>=_
     both-found l e = finds-bind _ _ found (rw (le-leb due (ownPost ps) l, e))
 
 -- ------------------------------------------------------------------ the parts that are shown

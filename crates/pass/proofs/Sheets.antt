@@ -18,7 +18,7 @@ use Rattle.fill_theory.specs.GreatestMaps.{postsAt}
 use Rattle.fill_theory.proofs.Limits.{steps-few, procedures-few}
 use Rattle.fill_theory.proofs.Placed.{flow-steps, sizeOf, roots-steps, steps-sized}
 use Rattle.ways.specs.declared.Column.{Column}
-use Rattle.ways.specs.Ways.{cellIn}
+use Rattle.ways.specs.Transfers.{cellIn}
 use Rattle.ways.proofs.Held.{before-held, after-held, held-shows}
 use Rattle.pass.specs.declared.Given.{Given}
 use Rattle.pass.specs.Roots.{firstIn, RootsShown, rootShown, bodyShown, RootsReady, RootsFilled}

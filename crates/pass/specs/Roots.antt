@@ -11,7 +11,7 @@ use Rattle.workspace.specs.Region.{Region, ChangedWithin}
 use Rattle.fill_theory.specs.Flow.{Flow, steps, Root, stepsOf}
 use Rattle.fill_theory.specs.Pass.{postsOfRoots}
 use Rattle.ways.specs.declared.Column.{Column}
-use Rattle.ways.specs.Ways.{cellIn, beforeIn, afterIn}
+use Rattle.ways.specs.Transfers.{cellIn, beforeIn, afterIn}
 use Rattle.ways.specs.Shows.{Shows}
 use Rattle.pass.specs.declared.Given.{Given}
 

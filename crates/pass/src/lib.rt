@@ -1,9 +1,9 @@
 // The pass of filling at one location, request (viii): the greatest posts of all steps there, from what the work space holds of a
 // program and a split.
-mod caps;
+mod attainable;
 mod posts;
-mod reach;
 mod roots;
+mod upper_bounds;
 
 use roots::fill_roots;
 use spec::MapNumber;

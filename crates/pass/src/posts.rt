@@ -1,14 +1,14 @@
 // The pass: from the number before a step to the number after it. Parts come before their step, so it calls itself for each part.
-use super::caps::cap_at;
-use fill_theory::Way;
+use super::upper_bounds::upper_bound_at;
+use fill_theory::Transfer;
 use turns::Found;
 use turns::after_binary;
 use turns::after_unary;
+use turns::apply;
 use turns::part_pre;
 use turns::second_pre;
-use turns::turn;
 use ways::Column;
-use ways::way_in;
+use ways::transfer_in;
 use workspace::ENDS;
 use workspace::at;
 use workspace::index;
@@ -53,25 +53,29 @@ pub(crate) fn pass_step(
     requires { ⌜ Ready (now work) (now caps) column k pre (now posts) ⌝ }
     ensures { λ r. ⌜ Passed (now (work .entry)) (now (caps .entry)) column k pre (now (posts .entry)) (now (posts .exit)) r ⌝ }
 {
-    match way_in(work, column, k) {
-        Way::Leaf(effect) => settle(posts, k, turn(effect, pre)),
-        Way::Unary(way) => {
-            let before = part_pre(way, pre, cap_at(caps, k));
+    match transfer_in(work, column, k) {
+        Transfer::Leaf(effect) => settle(posts, k, apply(effect, pre)),
+        Transfer::Unary(transfer) => {
+            let before = part_pre(transfer, pre, upper_bound_at(caps, k));
             let Found::Number(first) = pass_step(work, caps, posts, column, k + 1, before) else {
                 return Found::Nothing;
             };
-            settle(posts, k, after_unary(way, before, first))
+            settle(posts, k, after_unary(transfer, before, first))
         }
-        Way::Binary(way) => {
+        Transfer::Binary(transfer) => {
             let Found::Number(first) = pass_step(work, caps, posts, column, k + 1, pre) else {
                 return Found::Nothing;
             };
             let second = second_in(work, k);
-            let next = second_pre(way, pre, first);
+            let next = second_pre(transfer, pre, first);
             let Found::Number(last) = pass_step(work, caps, posts, column, second, next) else {
                 return Found::Nothing;
             };
-            settle(posts, k, after_binary(way, cap_at(caps, k), first, last))
+            settle(
+                posts,
+                k,
+                after_binary(transfer, upper_bound_at(caps, k), first, last),
+            )
         }
     }
 }

@@ -1,7 +1,7 @@
 // Roots: steps that start by themselves, with a number that is given. They are the bodies of procedures and the root of the program.
 use super::Given;
-use super::caps::cap_step;
 use super::posts::pass_step;
+use super::upper_bounds::upper_bound_step;
 use turns::Found;
 use turns::bounds::TOP;
 use ways::Column;
@@ -28,7 +28,7 @@ pub(crate) fn root_posts(
     ensures { λ r. ⌜ RootPassed (now (work .entry)) column k pre (now (posts .entry)) (now (posts .exit)) r ⌝ }
 {
     let mut caps = [0u64; 256];
-    cap_step(work, &mut caps, column, k, TOP);
+    upper_bound_step(work, &mut caps, column, k, TOP);
     pass_step(work, &caps, posts, column, k, pre)
 }
 

@@ -16,7 +16,7 @@ use Rattle.engine.specs.declared.Outcome.the-variants.{Moved, Stuck, Past}
 use Rattle.engine.specs.declared.Stepped.{Stepped}
 use Rattle.engine.specs.Steps.{stepped}
 use Rattle.replay_theory.specs.Trace.{TraceLine, traceLine}
-use Rattle.replay_theory.specs.Replay.{Outcome, badForm, noStep, pastLimit, step, limited, lineOutcome}
+use Rattle.replay_theory.specs.Replay.{Outcome, badForm, noStep, pastLimit, step, checkLimits, lineOutcome}
 use Rattle.replay_theory.specs.declared.Ending.{Ending}
 use Rattle.replay_theory.specs.declared.Replayed.{Replayed}
 use Rattle.machine.specs.Replay as machine
@@ -24,24 +24,24 @@ use Rattle.machine.specs.Replay.{Replay, within, orRace, ended, playOn, playFro
 use Rattle.simulation.proofs.Moving.{Answered}
 use Rattle.simulation.proofs.Racing.{lowest-pair-alike}
 use Rattle.simulation.proofs.Posting.{CountsWithin, stepped-counts}
-use Rattle.simulation.proofs.Lining.{LineTold, open-line, shut-line, line-told}
+use Rattle.simulation.proofs.Lining.{LineDecoded, open-line, shut-line, line-decodes}
 use Rattle.simulation.proofs.Resting.{RestAt, rest-at}
 use Rattle.simulation.proofs.Stored.{line-answered}
 use Rattle.play.specs.declared.Progress.{Progress}
 use Rattle.play.specs.declared.Progress.the-variants.{Goes, Stops}
 use Rattle.play.specs.declared.Point.{Point}
-use Rattle.play.specs.Play.{raceAfter, stoppedBy, byOutcome, afterStep, lineDone, Steady, PlaysTo, GoesTo, ComesTo}
+use Rattle.play.specs.Play.{raceAfter, stoppedBy, byOutcome, afterStep, lineDone, Steady, LoopPre, GoesTo, LoopPost}
 
 -- what is known of a run behind a line, by its progress
 abbrev pub Tells : Progress → (whole : List Line → Replayed) (p s piece : List ℕ) → Point → Type 0
 Tells (Stops e) whole p s piece q = (ls : List Line) → ended e (q .steps) (q .race) ≡ whole ls
-Tells Goes whole p s piece q = PlaysTo whole p s piece q
+Tells Goes whole p s piece q = LoopPre whole p s piece q
 
 abbrev pub LineTells : (whole : List Line → Replayed) (p piece : List ℕ) → Point × List ℕ → Type 0
 LineTells whole p piece r = Tells (r .0 .progress) whole p (r .1) piece (r .0)
 
-limited-step : (o : Option Replay) (R : Replay) → limited within o ≡ step R → o ≡ some R
-unfolding limited
+limited-step : (o : Option Replay) (R : Replay) → checkLimits within o ≡ step R → o ≡ some R
+unfolding checkLimits
 limited-step none R e = absurd (let y : _≡_ {A = ℕ} 0 1 = cc in omega arith)
 limited-step (some a) R e = by-limit (within a) e
   where
@@ -61,14 +61,14 @@ some-line (b ∷ t) h e = by-byte (eqb b 10) (lines t) e
     by-byte false (closed l ∷ r) e = let y : _≡_ {A = ℕ} 0 1 = cc in omega arith
     by-byte false (unclosed l ∷ r) e = let y : _≡_ {A = ℕ} 0 1 = cc in omega arith
 
-module _ (whole : List Line → Replayed) (p s piece : List ℕ) (q : Point) (P : PlaysTo whole p s piece q) (S : Steady piece q) where
+module _ (whole : List Line → Replayed) (p s piece : List ℕ) (q : Point) (P : LoopPre whole p s piece q) (S : Steady piece q) where
   abbrev R : Replay
   R = P .run
 
   few : q .at < length piece → suc (q .steps) < 18446744073709551616
   few l = let b = S .room in omega (arith, b, l)
 
-  answers : q .at < length piece → (l : TraceLine) → Answered p (limited within (machine.stepped R l)) (stepped p s (q .threads) (stored (l .thread)) (stored (l .choice)))
+  answers : q .at < length piece → (l : TraceLine) → Answered p (checkLimits within (machine.stepped R l)) (stepped p s (q .threads) (stored (l .thread)) (stored (l .choice)))
   answers h l = line-answered p s (q .threads) R (q .steps) (P .held) (P .counts) (few h) l
 
   -- the answer to a line that lists a move
@@ -93,7 +93,7 @@ module _ (whole : List Line → Replayed) (p s piece : List ℕ) (q : Point) (P 
       )
 
   -- the first of the lines that are left
-  by-line : q .at < length piece → (l : Line) (rest : List Line) → lines (drop (q .at) piece) ≡ l ∷ rest → LineTold (drop (q .at) piece) l rest (length piece) →
+  by-line : q .at < length piece → (l : Line) (rest : List Line) → lines (drop (q .at) piece) ≡ l ∷ rest → LineDecoded (drop (q .at) piece) l rest (length piece) →
       LineTells whole p piece (lineDone p s q (moveIn (length piece) (lineAt (drop (q .at) piece))))
   unfolding playFrom playOn lineOutcome lineDone stoppedBy
   by-line h l rest e (open-line malformed none-there) =
@@ -111,7 +111,7 @@ module _ (whole : List Line → Replayed) (p s piece : List ℕ) (q : Point) (P 
       by-form none z = rw (told, z) (rw z at w)
       by-form (some m) z =
           rw (told, z)
-          (by-answer (limited within (machine.stepped R m)) (stepped p s (q .threads) (stored (m .thread)) (stored (m .choice))) (length piece - length r) rest (answers h m)
+          (by-answer (checkLimits within (machine.stepped R m)) (stepped p s (q .threads) (stored (m .thread)) (stored (m .choice))) (length piece - length r) rest (answers h m)
           (λ R′ y. stepped-counts (q .steps) R R′ m (P .counts) (limited-step (machine.stepped R m) R′ y))
           (ap lines (behind .left) ∙ left)
           (rw z at w))
@@ -121,12 +121,12 @@ module _ (whole : List Line → Replayed) (p s piece : List ℕ) (q : Point) (P 
     where
       by-lines : (ls : List Line) → lines (drop (q .at) piece) ≡ ls → LineTells whole p piece (lineDone p s q (moveIn (length piece) (lineAt (drop (q .at) piece))))
       by-lines [] e = absurd (some-line (drop (q .at) piece) (let l = length-drop (q .at) piece in omega (arith, l, h)) e)
-      by-lines (l ∷ ls) e = by-line h l ls e (line-told (drop (q .at) piece) l ls (length piece) e)
+      by-lines (l ∷ ls) e = by-line h l ls e (line-decodes (drop (q .at) piece) l ls (length piece) e)
 
   -- the end of the piece
-  pub piece-done : length piece ≤ q .at → ComesTo (q .progress) whole p s q
+  pub piece-done : length piece ≤ q .at → LoopPost (q .progress) whole p s q
   unfolding lines
-  piece-done h = subst (λ (x : Progress). ComesTo x whole p s q) (sym (P .going))
+  piece-done h = subst (λ (x : Progress). LoopPost x whole p s q) (sym (P .going))
       (record { run = P .run; held = P .held; counts = P .counts; comes-to = rw (drop-of-length-le piece {i = q .at} h) at (P .comes-to) })
 
   -- ---- what a caller of a line knows
@@ -137,9 +137,9 @@ module _ (whole : List Line → Replayed) (p s piece : List ℕ) (q : Point) (P 
   told-after : (q′ : Point) (s′ : List ℕ) → q .at < length piece → After q′ s′ → Tells (q′ .progress) whole p s′ piece q′
   told-after q′ s′ h e = subst (LineTells whole p piece) e (line-tells h)
 
-  pub line-stops : {q′ : Point} {s′ : List ℕ} {ending : Ending} → q .at < length piece → After q′ s′ → q′ .progress ≡ Stops ending → ComesTo (q′ .progress) whole p s′ q′
+  pub line-stops : {q′ : Point} {s′ : List ℕ} {ending : Ending} → q .at < length piece → After q′ s′ → q′ .progress ≡ Stops ending → LoopPost (q′ .progress) whole p s′ q′
   line-stops {q′} {s′} {ending} h e z =
-      subst (λ (x : Progress). ComesTo x whole p s′ q′) (sym z) (subst (λ (x : Progress). Tells x whole p s′ piece q′) z (told-after q′ s′ h e))
+      subst (λ (x : Progress). LoopPost x whole p s′ q′) (sym z) (subst (λ (x : Progress). Tells x whole p s′ piece q′) z (told-after q′ s′ h e))
 
-  pub line-goes : {q′ : Point} {s′ : List ℕ} → q .at < length piece → After q′ s′ → q′ .progress ≡ Goes → PlaysTo whole p s′ piece q′
+  pub line-goes : {q′ : Point} {s′ : List ℕ} → q .at < length piece → After q′ s′ → q′ .progress ≡ Goes → LoopPre whole p s′ piece q′
   line-goes {q′} {s′} h e z = subst (λ (x : Progress). Tells x whole p s′ piece q′) z (told-after q′ s′ h e)

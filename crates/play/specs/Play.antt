@@ -18,14 +18,14 @@ use Rattle.replay_theory.specs.declared.FirstRace.{FirstRace}
 use Rattle.replay_theory.specs.declared.Replayed.{Replayed}
 use Rattle.machine.specs.Replay.{Replay, orRace, ended, playFrom}
 use Rattle.simulation.proofs.Holds.{Holds}
-use Rattle.simulation.proofs.Racing.{pairTold}
+use Rattle.simulation.proofs.Racing.{pairDecoded}
 use Rattle.simulation.proofs.Posting.{CountsWithin}
 use Rattle.play.specs.declared.Point.{Point}
 use Rattle.play.specs.declared.Progress.{Progress}
 use Rattle.play.specs.declared.Progress.the-variants.{Stops, Goes}
 
 unfoldable pub raceAfter : (p s : List ℕ) (count : ℕ) → FirstRace → (state : ℕ) → FirstRace
-raceAfter p s n race k = orRace race k (pairTold (lowestPair p s n))
+raceAfter p s n race k = orRace race k (pairDecoded (lowestPair p s n))
 
 unfoldable pub stoppedBy : Point → Ending → Point
 stoppedBy q e = record { progress = Stops e; threads = q .threads; at = q .at; steps = q .steps; race = q .race }
@@ -55,7 +55,7 @@ pub record Steady (piece : List ℕ) (q : Point) : Type 0 where
   pub few : q .threads .count ≤ 16
 
 -- the numbers hold a run of the machine; what is left of the piece, and whatever lines come behind it, come to what `whole` says of those lines
-pub record PlaysTo (whole : List Line → Replayed) (p s piece : List ℕ) (q : Point) : Type 0 where
+pub record LoopPre (whole : List Line → Replayed) (p s piece : List ℕ) (q : Point) : Type 0 where
   pub going : q .progress ≡ Goes
   pub run : Replay
   pub held : Holds p s (q .threads) run
@@ -69,6 +69,6 @@ pub record GoesTo (whole : List Line → Replayed) (p s : List ℕ) (q : Point) 
   pub counts : CountsWithin (q .steps) (run .machine .names)
   pub comes-to : (ls : List Line) → playFrom (q .steps) (q .race) run ls ≡ whole ls
 
-abbrev pub ComesTo : Progress → (whole : List Line → Replayed) (p s : List ℕ) → Point → Type 0
-ComesTo (Stops e) whole p s q = (ls : List Line) → ended e (q .steps) (q .race) ≡ whole ls
-ComesTo Goes whole p s q = GoesTo whole p s q
+abbrev pub LoopPost : Progress → (whole : List Line → Replayed) (p s : List ℕ) → Point → Type 0
+LoopPost (Stops e) whole p s q = (ls : List Line) → ended e (q .steps) (q .race) ≡ whole ls
+LoopPost Goes whole p s q = GoesTo whole p s q

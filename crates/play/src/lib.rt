@@ -14,7 +14,7 @@ ghost use Rattle.lexer.specs.Views.{lineAt};
 ghost use Rattle.trace.specs.Lines.{moveIn};
 ghost use Rattle.engine.specs.Steps.{stepped};
 ghost use Rattle.replay_theory.specs.declared.Replayed.{Replayed as Whole};
-ghost use Rattle.play.specs.Play.{raceAfter, stoppedBy, afterStep, lineDone, Steady, PlaysTo, ComesTo};
+ghost use Rattle.play.specs.Play.{raceAfter, stoppedBy, afterStep, lineDone, Steady, LoopPre, LoopPost};
 
 // Whether a run goes on, or what has stopped it.
 pub enum Progress {
@@ -127,7 +127,7 @@ fn next_line(program: &[u32], space: &mut [u32], piece: &[u8], p: Point) -> Poin
 // The lines of the piece from there on, until one stops the run.
 pub fn play(program: &[u32], space: &mut [u32], piece: &[u8], start: Point) -> Point
     requires { ⌜ Steady (now piece) start ⌝ }
-    ensures { λ r. ⌜ ((whole : List Line → Whole) → PlaysTo whole (now (program .entry)) (now (space .entry)) (now (piece .entry)) start → ComesTo (r .progress) whole (now (program .entry)) (now (space .exit)) r) ⌝ }
+    ensures { λ r. ⌜ ((whole : List Line → Whole) → LoopPre whole (now (program .entry)) (now (space .entry)) (now (piece .entry)) start → LoopPost (r .progress) whole (now (program .entry)) (now (space .exit)) r) ⌝ }
 {
     let mut p = start;
     while p.at < piece.len() {

@@ -6,7 +6,7 @@ use Prim.Native.Nat.{ℕ, suc, zero, _+_, _<_, _≤_}
 use native.Mathlib.Omega.{arith}
 use lib.ListN.{length, set, length-set, length-append, length-map}
 use Rattle.spec.specs.Text.{Field}
-use Rattle.spec.specs.Reading.{programSheet, Out, Seen, Place, readLine, readLines}
+use Rattle.spec.specs.Reading.{programSheet, Result, LineResult, Place, readLine, readLines}
 use Rattle.spec.specs.Expression.{Step, Item, step, proc, stepsAmong}
 use Rattle.spec.specs.Program.{itemLine, itemLines}
 use Rattle.spec.specs.declared.ProgramHeading.{ProgramHeading}
@@ -14,7 +14,7 @@ use Rattle.spec.specs.declared.Refusal.{Refusal}
 use Rattle.spec.specs.declared.Word.{Word}
 use Rattle.lexer.specs.Cursors.{Placed, placeAt}
 use Rattle.lexer.specs.declared.Cursor.{Cursor}
-use Rattle.lexer.proofs.Turns.{numbered, Turn, first-turn, turn-on, turn-stops, turns-done}
+use Rattle.lexer.proofs.LoopSteps.{numbered, LoopStep, first-loop-step, loop-step-on, loop-step-stops, loop-steps-done}
 use Rattle.workspace.specs.Layout.{wordsAt, valuesAt, linesAt, procLinesAt, procVarsAt, procFirstsAt, rowTypesAt, stepRoom, codeOf, workSize}
 use Rattle.workspace.specs.Region.{Region, ChangedWithin}
 use Rattle.workspace.specs.Holds.{HoldsSteps}
@@ -116,7 +116,7 @@ procs-beside c H = record {
 -- ------------------------------------------------------------------ the loop
 
 -- how the line with number i is read, where l is the line in front of them
-abbrev lineFrom : ProgramHeading → (l : ℕ) → ℕ → List Field → Seen Item
+abbrev lineFrom : ProgramHeading → (l : ℕ) → ℕ → List Field → LineResult Item
 lineFrom h l i = itemLine h (l + 1 + i)
 
 items-numbered : (h : ProgramHeading) (l k n : ℕ) → itemLines h (l + 1 + k) n ≡ numbered (lineFrom h l) k n
@@ -130,7 +130,7 @@ items-numbered h l k (suc n) =
 pub record StepsSoFar (text : List ℕ) (h : ProgramHeading) (n : ℕ) (c₀ : Cursor) (w₀ w : List ℕ) (c : Cursor) (i j k : ℕ) : Type 0 where
   pub stored : ItemsStored i j w
   pub both : i + j ≡ k
-  pub turn : Turn programSheet (lineFrom h (c₀ .line)) n text (placeAt text c₀) c k (stored .items)
+  pub loop-step : LoopStep programSheet (lineFrom h (c₀ .line)) n text (placeAt text c₀) c k (stored .items)
   pub lined : c .line ≡ c₀ .line + k
   pub changed : ChangedWithin wordsAt rowTypesAt w₀ w
 
@@ -149,14 +149,14 @@ start text h n c w l p = record {
     variables = noVariables;
   };
   both = omega arith;
-  turn = first-turn p;
+  loop-step = first-loop-step p;
   lined = omega arith;
   changed = changed-nothing wordsAt rowTypesAt w;
 }
 
 module _ (text : List ℕ) (h : ProgramHeading) (n : ℕ) (c₀ : Cursor) (w₀ w : List ℕ) (c : Cursor) (i j k : ℕ) (s : StepsSoFar text h n c₀ w₀ w c i j k) where
   -- what reading all of the lines comes to
-  all-of : (o : Out (List Item × Place)) → readLines programSheet (numbered (lineFrom h (c₀ .line)) 0 n) (placeAt text c₀) ≡ o → itemsAt text h n c₀ ≡ o
+  all-of : (o : Result (List Item × Place)) → readLines programSheet (numbered (lineFrom h (c₀ .line)) 0 n) (placeAt text c₀) ≡ o → itemsAt text h n c₀ ≡ o
   unfolding itemsAt
   all-of o e =
       let z : c₀ .line + 1 + 0 ≡ c₀ .line + 1 = omega arith in
@@ -166,23 +166,23 @@ module _ (text : List ℕ) (h : ProgramHeading) (n : ℕ) (c₀ : Cursor) (w₀ 
   finish l = record {
     found = record {
       stored = s .stored;
-      all = omega (arith, s .both, s .turn .few);
-      shown = all-of _ (turns-done (s .turn) l);
-      placed = s .turn .placed;
+      all = omega (arith, s .both, s .loop-step .few);
+      shown = all-of _ (loop-steps-done (s .loop-step) l);
+      placed = s .loop-step .placed;
     };
     changed = s .changed;
   }
 
   module _ (l : k < n) where
     -- the line at the cursor is the next of them
-    line-here : {o : Out (Item × Place)} → itemAt text h c ≡ o → readLine programSheet (lineFrom h (c₀ .line) k) (placeAt text c) ≡ o
+    line-here : {o : Result (Item × Place)} → itemAt text h c ≡ o → readLine programSheet (lineFrom h (c₀ .line) k) (placeAt text c) ≡ o
     unfolding itemAt
     line-here e =
         let here : c₀ .line + 1 + k ≡ c .line + 1 = omega (arith, s .lined) in
         ap (λ i. readLine programSheet (itemLine h i) (placeAt text c)) here ∙ e
 
     pub refuses : (x : Refusal) → StepShown text h c (step-line.Refused x) → StepsShown text h n c₀ w₀ w (steps.Refused x)
-    refuses x p = record { found = all-of _ (turn-stops (s .turn) l (line-here p)); changed = s .changed }
+    refuses x p = record { found = all-of _ (loop-step-stops (s .loop-step) l (line-here p)); changed = s .changed }
 
     module _ (long₀ : length w₀ ≡ workSize) (few : n ≤ stepRoom) where
       whole : length w ≡ workSize
@@ -211,7 +211,7 @@ module _ (text : List ℕ) (h : ProgramHeading) (n : ℕ) (c₀ : Cursor) (w₀ 
               variables = rw (rows-step 0 (s .stored .items) one) (s .stored .variables);
             };
             both = omega (arith, s .both);
-            turn = turn-on (s .turn) l (line-here (p .0)) (p .2);
+            loop-step = loop-step-on (s .loop-step) l (line-here (p .0)) (p .2);
             lined = omega (arith, p .3, s .lined);
             changed = changed-then wordsAt rowTypesAt (s .changed) (Rattle.workspace.proofs.Region.changed-wider wordsAt rowTypesAt (omega arith) (omega arith) within);
           }
@@ -238,7 +238,7 @@ module _ (text : List ℕ) (h : ProgramHeading) (n : ℕ) (c₀ : Cursor) (w₀ 
               variables = rw snoc (variables-snoc row (s .stored .variables) (p .1));
             };
             both = omega (arith, s .both);
-            turn = turn-on (s .turn) l (line-here (p .0)) (p .2);
+            loop-step = loop-step-on (s .loop-step) l (line-here (p .0)) (p .2);
             lined = omega (arith, p .3, s .lined);
             changed = changed-then wordsAt rowTypesAt (s .changed) (Rattle.workspace.proofs.Region.changed-wider wordsAt rowTypesAt (omega arith) (omega arith) within);
           }

@@ -38,8 +38,8 @@ fn read_lines(
                 let spare = behind.line + 1;
                 return ProgramRead::Refused(Refusal::ProgramLines(spare));
             }
-            match structure::arrange(work, steps, procs, count, behind.line) {
-                Ruling::Met => ProgramRead::Read(n, count),
+            match structure::resolve(work, steps, procs, count, behind.line) {
+                Ruling::Holds => ProgramRead::Read(n, count),
                 Ruling::Refused(refusal) => ProgramRead::Refused(refusal),
             }
         }

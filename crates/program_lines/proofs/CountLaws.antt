@@ -9,7 +9,7 @@ use lib.ListN.{length}
 use borrow.Author.Tests.{le-leb, lt-leb}
 use Rattle.spec.specs.Choice.{if_then_else_}
 use Rattle.spec.specs.Text.{bytes, same, lines, Field, lookUp}
-use Rattle.spec.specs.Reading.{programSheet, _>>=_, right, wrong, badForm, badRange, seen, Range, _to_, inRange, allInRange, numerals, ranged, numbers, form, outside, faulty, passed, nextLine}
+use Rattle.spec.specs.Reading.{programSheet, _>>=_, good, bad, badForm, badRange, seen, Range, _to_, inRange, allInRange, numerals, ranged, numbers, form, outside, faulty, passed, nextLine}
 use Rattle.spec.specs.Program.{firstNumber, programHeadings, countRanges, proceduresOf, countsOf, counted, countLine}
 use Rattle.spec.specs.declared.Refusal.the-variants.{ProgramForm, ProgramRange}
 use Rattle.spec.specs.declared.ProgramHeading.the-variants.{P, P2}
@@ -80,7 +80,7 @@ module _ (text : List ℕ) (c : Cursor) (s : Span) (f : HeadedAt text c s P) whe
 
   module _ (n : ℕ) (d : Cursor) (t : TailShown text (s .next) (s .end) (Value n d)) where
     plain-reads : countAt text
-        ≡ passed programSheet (c .line + 1) (lines (rest text d)) (seen (countsOf P) (if inRange (1 to 256) n then right (n ∷ []) else wrong badRange))
+        ≡ passed programSheet (c .line + 1) (lines (rest text d)) (seen (countsOf P) (if inRange (1 to 256) n then good (n ∷ []) else bad badRange))
     unfolding seen
     plain-reads =
         counts text c (f .top) (f .here .left)
@@ -109,7 +109,7 @@ module _ (text : List ℕ) (c : Cursor) (s : Span) (f : HeadedAt text c s P2) wh
   unfolding countLine counted countRanges
   full-shows fs = rw (f .spelled) refl
 
-  two-ranges : numbers fullRanges [] ≡ wrong badForm
+  two-ranges : numbers fullRanges [] ≡ bad badForm
   unfolding numbers numerals ranged
   two-ranges = refl
 
@@ -122,12 +122,12 @@ module _ (text : List ℕ) (c : Cursor) (s : Span) (f : HeadedAt text c s P2) wh
 
   module _ (n k : ℕ) (d : Cursor) (t : PairShown text (s .next) (s .end) (pair.Values n k d)) where
     full-reads : countAt text
-        ≡ passed programSheet (c .line + 1) (lines (rest text d)) (seen (countsOf P2) (if inRange (1 to 256) n && inRange (0 to 16) k then right (n ∷ k ∷ []) else wrong badRange))
+        ≡ passed programSheet (c .line + 1) (lines (rest text d)) (seen (countsOf P2) (if inRange (1 to 256) n && inRange (0 to 16) k then good (n ∷ k ∷ []) else bad badRange))
     unfolding seen allInRange
     full-reads =
         counts text c (f .top) (f .here .left)
         ∙ many-shows countLine (seen (countsOf P2)) refl fullRanges two-ranges text c s (f .here .field) (f .here .placed) (left-some (rest text c) (f .here .left)) full-shows (omega arith, (omega arith, tt)) (n ∷ k ∷ []) d (t .0) (t .1)
-        ∙ ap (λ b. passed programSheet (c .line + 1) (lines (rest text d)) (seen (countsOf P2) (if inRange (1 to 256) n && b then right (n ∷ k ∷ []) else wrong badRange))) (and-true (inRange (0 to 16) k))
+        ∙ ap (λ b. passed programSheet (c .line + 1) (lines (rest text d)) (seen (countsOf P2) (if inRange (1 to 256) n && b then good (n ∷ k ∷ []) else bad badRange))) (and-true (inRange (0 to 16) k))
 
     pub full-none : n < 1 → CountShown text (count.Refused (ProgramRange 1))
     unfolding faulty passed seen outside inRange

@@ -9,7 +9,7 @@ use lib.ListN.{length, take, drop}
 use borrow.Author.Tests.{le-leb, lt-leb}
 use Rattle.spec.specs.Choice.{if_then_else_}
 use Rattle.spec.specs.Text.{lines, Field, lookUp}
-use Rattle.spec.specs.Reading.{programSheet, stop, on, right, wrong, badRange, freelock, seen, wrongAfter, _to_, inRange, numbers, form, outside, miscounted, faulty, passed, readLine}
+use Rattle.spec.specs.Reading.{programSheet, refuse, ok, good, bad, badRange, freelock, seen, refuseAfter, _to_, inRange, numbers, form, outside, miscounted, faulty, passed, readLine}
 use Rattle.spec.specs.Expression.{Step, step, proc}
 use Rattle.spec.specs.Program.{firstNumber, stepOf, wordLine, procOf, procLine, itemLine}
 use Rattle.spec.specs.Words.{calls, wordsUnder, leastValue, largestValue, valueRange}
@@ -55,28 +55,28 @@ module _ (text : List ℕ) (h : ProgramHeading) (c : Cursor) (s : Span) (f : Fre
   some-line : 0 < length (rest text c)
   some-line = left-some (rest text c) (f .here .left)
 
-  freelock-shows : (fs : List Field) → itemLine h (c .line + 1) (firstField (rest text c) ∷ fs) ≡ wrongAfter freelock (numbers ((0 to 0) ∷ []) fs)
+  freelock-shows : (fs : List Field) → itemLine h (c .line + 1) (firstField (rest text c) ∷ fs) ≡ refuseAfter freelock (numbers ((0 to 0) ∷ []) fs)
   unfolding itemLine
   freelock-shows fs = rw (f .freelock) refl
 
-  pub freelock-malformed : TailShown text (s .next) (s .end) Malformed → itemAt text h c ≡ stop (ProgramForm (c .line + 1))
-  unfolding itemAt readLine placeAt wrongAfter
+  pub freelock-malformed : TailShown text (s .next) (s .end) Malformed → itemAt text h c ≡ refuse (ProgramForm (c .line + 1))
+  unfolding itemAt readLine placeAt refuseAfter
   freelock-malformed t =
-      tail-malformed (itemLine h (c .line + 1)) (wrongAfter freelock) refl (0 to 0) text c s (f .here .field) (f .here .placed) some-line freelock-shows t
+      tail-malformed (itemLine h (c .line + 1)) (refuseAfter freelock) refl (0 to 0) text c s (f .here .field) (f .here .placed) some-line freelock-shows t
 
   module _ (v : ℕ) (d : Cursor) (t : TailShown text (s .next) (s .end) (Value v d)) where
     freelock-reads : itemAt text h c
-        ≡ passed programSheet (c .line + 1) (lines (rest text d)) (wrongAfter freelock (if inRange (0 to 0) v then right (v ∷ []) else wrong badRange))
-    unfolding itemAt readLine placeAt wrongAfter
+        ≡ passed programSheet (c .line + 1) (lines (rest text d)) (refuseAfter freelock (if inRange (0 to 0) v then good (v ∷ []) else bad badRange))
+    unfolding itemAt readLine placeAt refuseAfter
     freelock-reads =
-        tail-shows (itemLine h (c .line + 1)) (wrongAfter freelock) refl (0 to 0) text c s (f .here .field) (f .here .placed) some-line freelock-shows (omega arith) v d t
+        tail-shows (itemLine h (c .line + 1)) (refuseAfter freelock) refl (0 to 0) text c s (f .here .field) (f .here .placed) some-line freelock-shows (omega arith) v d t
 
-    pub freelock-over : 0 < v → itemAt text h c ≡ stop (ProgramRange (c .line + 1))
-    unfolding faulty passed wrongAfter outside
+    pub freelock-over : 0 < v → itemAt text h c ≡ refuse (ProgramRange (c .line + 1))
+    unfolding faulty passed refuseAfter outside
     freelock-over l = freelock-reads ∙ rw (up-to-out 0 v l) refl
 
-    pub freelock-named : v ≤ 0 → itemAt text h c ≡ stop (Freelock (c .line + 1))
-    unfolding faulty passed wrongAfter
+    pub freelock-named : v ≤ 0 → itemAt text h c ≡ refuse (Freelock (c .line + 1))
+    unfolding faulty passed refuseAfter
     freelock-named l = freelock-reads ∙ rw (up-to-in 0 v l) refl
 
 -- ------------------------------------------------------------------ step lines
@@ -137,7 +137,7 @@ module _ (text : List ℕ) (h : ProgramHeading) (c : Cursor) (s : Span) (w : Wor
 
   module _ (v : ℕ) (d : Cursor) (t : TailShown text (s .next) (s .end) (Value v d)) where
     step-reads : itemAt text h c
-        ≡ passed programSheet (c .line + 1) (lines (rest text d)) (seen (stepOf (c .line + 1) w) (if inRange (valueRange w) v then right (v ∷ []) else wrong badRange))
+        ≡ passed programSheet (c .line + 1) (lines (rest text d)) (seen (stepOf (c .line + 1) w) (if inRange (valueRange w) v then good (v ∷ []) else bad badRange))
     unfolding itemAt readLine placeAt seen
     step-reads =
         tail-shows (itemLine h (c .line + 1)) (seen (stepOf (c .line + 1) w)) refl (valueRange w) text c s (f .step .here .field) (f .step .here .placed)
@@ -161,8 +161,8 @@ module _ (text : List ℕ) (h : ProgramHeading) (c : Cursor) (s : Span) (w : Wor
     step-right l m =
         let line = tail-line text c s (f .step .here .field) d (t .0) (t .3) in
         let one : Step = record { word = w; value = v; line = c .line + 1 } in
-        let told : itemAt text h c ≡ on (step one, placeAt text d) = step-reads ∙ rw (within-limit w v l m) (passed-at programSheet text (step one) c d line) in
-        (told ∙ ap (λ i. on (step (record { word = w; value = v; line = i }), placeAt text d)) (sym line), m, t .2, line)
+        let told : itemAt text h c ≡ ok (step one, placeAt text d) = step-reads ∙ rw (within-limit w v l m) (passed-at programSheet text (step one) c d line) in
+        (told ∙ ap (λ i. ok (step (record { word = w; value = v; line = i }), placeAt text d)) (sym line), m, t .2, line)
 
 -- ------------------------------------------------------------------ `proc` lines
 
@@ -188,7 +188,7 @@ module _ (text : List ℕ) (c : Cursor) (s : Span) (f : ProcAt text c s) where
 
     module _ (x : ℕ) (d : Cursor) (t : TailShown text (s .next) (s .end) (Value x d)) where
       proc-reads : itemAt text h c
-          ≡ passed programSheet (c .line + 1) (lines (rest text d)) (seen (procOf (c .line + 1)) (if inRange (0 to 255) x then right (x ∷ []) else wrong badRange))
+          ≡ passed programSheet (c .line + 1) (lines (rest text d)) (seen (procOf (c .line + 1)) (if inRange (0 to 255) x then good (x ∷ []) else bad badRange))
       unfolding itemAt readLine placeAt seen
       proc-reads =
           tail-shows (itemLine h (c .line + 1)) (seen (procOf (c .line + 1))) refl (0 to 255) text c s (f .here .field) (f .here .placed)
@@ -207,5 +207,5 @@ module _ (text : List ℕ) (c : Cursor) (s : Span) (f : ProcAt text c s) where
       unfolding seen procOf firstNumber
       proc-right l =
           let line = tail-line text c s (f .here .field) d (t .0) (t .3) in
-          let told : itemAt text h c ≡ on (proc x (c .line + 1), placeAt text d) = proc-reads ∙ rw (up-to-in 255 x l) (passed-at programSheet text (proc x (c .line + 1)) c d line) in
-          (told ∙ ap (λ i. on (proc x i, placeAt text d)) (sym line), l, t .2, line)
+          let told : itemAt text h c ≡ ok (proc x (c .line + 1), placeAt text d) = proc-reads ∙ rw (up-to-in 255 x l) (passed-at programSheet text (proc x (c .line + 1)) c d line) in
+          (told ∙ ap (λ i. ok (proc x i, placeAt text d)) (sym line), l, t .2, line)

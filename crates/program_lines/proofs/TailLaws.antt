@@ -8,7 +8,7 @@ use native.Mathlib.Omega.{arith}
 use lib.ListN.{length, getD, take, drop, length-drop}
 use Rattle.spec.specs.Choice.{if_then_else_}
 use Rattle.spec.specs.Text.{same, lines, Field}
-use Rattle.spec.specs.Reading.{programSheet, stop, Seen, right, wrong, badForm, badRange, Range, inRange, allInRange, numerals, ranged, numbers, form, passed, nextLine}
+use Rattle.spec.specs.Reading.{programSheet, refuse, LineResult, good, bad, badForm, badRange, Range, inRange, allInRange, numerals, ranged, numbers, form, passed, nextLine}
 use Rattle.spec.specs.declared.Refusal.the-variants.{ProgramForm}
 use Rattle.lexer.specs.Views.{firstField, lineAt, textEnded}
 use Rattle.lexer.specs.Cursors.{Placed, rest, spanAt}
@@ -80,11 +80,11 @@ tail-line text c s is d comma h = h ∙ ap (λ i. i + 1) (span-line-kept text c 
 -- a line whose first field is f, and that shows what the numbers behind it show
 module _
     {A : Type 0}
-    (read : List Field → Seen A)
-    (g : Seen (List ℕ) → Seen A)
-    (bad : g (wrong badForm) ≡ wrong badForm)
+    (read : List Field → LineResult A)
+    (g : LineResult (List ℕ) → LineResult A)
+    (otherwise : g (bad badForm) ≡ bad badForm)
     (rs : List Range)
-    (some-range : numbers rs [] ≡ wrong badForm)
+    (some-range : numbers rs [] ≡ bad badForm)
     (text : List ℕ)
     (c : Cursor)
     (s : Span)
@@ -93,36 +93,36 @@ module _
     (left : 0 < length (rest text c))
     (shows : (fs : List Field) → read (firstField (rest text c) ∷ fs) ≡ g (numbers rs fs))
   where
-    alone : read (firstField (rest text c) ∷ []) ≡ wrong badForm
-    alone = shows [] ∙ ap g some-range ∙ bad
+    alone : read (firstField (rest text c) ∷ []) ≡ bad badForm
+    alone = shows [] ∙ ap g some-range ∙ otherwise
 
-    no-tail : (s .end ≡ Comma → ⊥) → nextLine programSheet read (c .line) (lines (rest text c)) ≡ stop (ProgramForm (c .line + 1))
+    no-tail : (s .end ≡ Comma → ⊥) → nextLine programSheet read (c .line) (lines (rest text c)) ≡ refuse (ProgramForm (c .line + 1))
     unfolding form
     no-tail n = first-alone programSheet read (c .line) (rest text c) left (λ e. n (span-end text c s is ∙ e)) alone
 
     pub many-malformed : (s .end ≡ Comma → numbersAt text (s .next) (length rs) ≡ none)
-        → nextLine programSheet read (c .line) (lines (rest text c)) ≡ stop (ProgramForm (c .line + 1))
+        → nextLine programSheet read (c .line) (lines (rest text c)) ≡ refuse (ProgramForm (c .line + 1))
     unfolding form
     many-malformed h = go (s .end) refl
       where
-        go : (e : FieldEnd) → s .end ≡ e → nextLine programSheet read (c .line) (lines (rest text c)) ≡ stop (ProgramForm (c .line + 1))
+        go : (e : FieldEnd) → s .end ≡ e → nextLine programSheet read (c .line) (lines (rest text c)) ≡ refuse (ProgramForm (c .line + 1))
         go Comma q =
-            tail-form programSheet read (c .line) rs g text c (firstField (rest text c)) (s .next) (span-comma text c s is p q) shows bad left (h q)
+            tail-form programSheet read (c .line) rs g text c (firstField (rest text c)) (s .next) (span-comma text c s is p q) shows otherwise left (h q)
         go Newline q = no-tail (λ e. let z : _≡_ {A = ℕ} 0 1 = cc in omega arith)
         go Text q = no-tail (λ e. let z : _≡_ {A = ℕ} 0 1 = cc in omega arith)
 
     pub many-shows : AllNarrow rs → (ns : List ℕ) (d : Cursor) → s .end ≡ Comma → numbersAt text (s .next) (length rs) ≡ some (ns, rest text d)
         → nextLine programSheet read (c .line) (lines (rest text c))
-        ≡ passed programSheet (c .line + 1) (lines (rest text d)) (g (if allInRange rs ns then right ns else wrong badRange))
+        ≡ passed programSheet (c .line + 1) (lines (rest text d)) (g (if allInRange rs ns then good ns else bad badRange))
     many-shows narrow ns d comma h =
         tail-read programSheet read (c .line) rs g text c (firstField (rest text c)) (s .next) (span-comma text c s is p comma) shows narrow ns (rest text d) h
 
 -- the same with one number behind the field
 module _
     {A : Type 0}
-    (read : List Field → Seen A)
-    (g : Seen (List ℕ) → Seen A)
-    (bad : g (wrong badForm) ≡ wrong badForm)
+    (read : List Field → LineResult A)
+    (g : LineResult (List ℕ) → LineResult A)
+    (otherwise : g (bad badForm) ≡ bad badForm)
     (range : Range)
     (text : List ℕ)
     (c : Cursor)
@@ -132,21 +132,21 @@ module _
     (left : 0 < length (rest text c))
     (shows : (fs : List Field) → read (firstField (rest text c) ∷ fs) ≡ g (numbers (range ∷ []) fs))
   where
-    one-range : numbers (range ∷ []) [] ≡ wrong badForm
+    one-range : numbers (range ∷ []) [] ≡ bad badForm
     unfolding numbers numerals ranged
     one-range = refl
 
     pub tail-malformed : TailShown text (s .next) (s .end) Malformed
-        → nextLine programSheet read (c .line) (lines (rest text c)) ≡ stop (ProgramForm (c .line + 1))
-    tail-malformed h = many-malformed read g bad (range ∷ []) one-range text c s is p left shows h
+        → nextLine programSheet read (c .line) (lines (rest text c)) ≡ refuse (ProgramForm (c .line + 1))
+    tail-malformed h = many-malformed read g otherwise (range ∷ []) one-range text c s is p left shows h
 
     module _ (narrow : Narrow range) (v : ℕ) (d : Cursor) (h : TailShown text (s .next) (s .end) (Value v d)) where
       pub tail-shows : nextLine programSheet read (c .line) (lines (rest text c))
-          ≡ passed programSheet (c .line + 1) (lines (rest text d)) (g (if inRange range v then right (v ∷ []) else wrong badRange))
+          ≡ passed programSheet (c .line + 1) (lines (rest text d)) (g (if inRange range v then good (v ∷ []) else bad badRange))
       unfolding allInRange
       tail-shows =
-          many-shows read g bad (range ∷ []) one-range text c s is p left shows (narrow, tt) (v ∷ []) d (h .0) (h .1)
-          ∙ ap (λ b. passed programSheet (c .line + 1) (lines (rest text d)) (g (if b then right (v ∷ []) else wrong badRange))) (and-true (inRange range v))
+          many-shows read g otherwise (range ∷ []) one-range text c s is p left shows (narrow, tt) (v ∷ []) d (h .0) (h .1)
+          ∙ ap (λ b. passed programSheet (c .line + 1) (lines (rest text d)) (g (if b then good (v ∷ []) else bad badRange))) (and-true (inRange range v))
 
 -- the number of a line can be counted
 pub line-fits : (text : List ℕ) (c : Cursor) → Placed text c → textEnded (rest text c) ≡ false → c .line + 1 < 4294967296

@@ -5,7 +5,7 @@ use mathlib.Core.List.{List, [], _∷_}
 use mathlib.Core.Option.{none, some}
 use Prim.Native.Nat.{ℕ, _+_, _≤_}
 use Rattle.spec.specs.Text.{bytes, same, lines, lookUp}
-use Rattle.spec.specs.Reading.{programSheet, Out, stop, on, _>>=_, Place, begin, readLine}
+use Rattle.spec.specs.Reading.{programSheet, Result, refuse, ok, _>>=_, Place, begin, readLine}
 use Rattle.spec.specs.Expression.{Item, step, proc}
 use Rattle.spec.specs.Words.{wordsUnder, largestValue}
 use Rattle.spec.specs.Program.{Counts, programHeadings, countLine, itemLine}
@@ -49,7 +49,7 @@ pub record FieldAt (text : List ℕ) (c : Cursor) (s : Span) : Type 0 where
 
 -- ------------------------------------------------------------------ line 1
 
-unfoldable pub countAt : List ℕ → Out (Counts × Place)
+unfoldable pub countAt : List ℕ → Result (Counts × Place)
 countAt text = begin programSheet (lines text) >>= λ top. readLine programSheet countLine top
 
 -- the first field of line 1 spells the heading h
@@ -60,12 +60,12 @@ pub record HeadedAt (text : List ℕ) (c : Cursor) (s : Span) (h : ProgramHeadin
 
 abbrev pub CountShown : List ℕ → CountLine → Type 0
 CountShown text (count.Count h n k d) =
-    (countAt text ≡ on (record { heading = h; steps = n; procedures = k }, placeAt text d)) × (n ≤ 256) × (k ≤ 16) × Placed text d
-CountShown text (count.Refused x) = countAt text ≡ stop x
+    (countAt text ≡ ok (record { heading = h; steps = n; procedures = k }, placeAt text d)) × (n ≤ 256) × (k ≤ 16) × Placed text d
+CountShown text (count.Refused x) = countAt text ≡ refuse x
 
 -- ------------------------------------------------------------------ the lines behind it
 
-unfoldable pub itemAt : List ℕ → ProgramHeading → Cursor → Out (Item × Place)
+unfoldable pub itemAt : List ℕ → ProgramHeading → Cursor → Result (Item × Place)
 itemAt text h c = readLine programSheet (itemLine h (c .line + 1)) (placeAt text c)
 
 -- the field is the word `freelock`
@@ -92,13 +92,13 @@ pub record WordAt (text : List ℕ) (h : ProgramHeading) (c : Cursor) (s : Span)
 
 abbrev pub StepShown : List ℕ → ProgramHeading → Cursor → StepLine → Type 0
 StepShown text h c (step-line.Step w v d) =
-    (itemAt text h c ≡ on (step (record { word = w; value = v; line = d .line }), placeAt text d))
+    (itemAt text h c ≡ ok (step (record { word = w; value = v; line = d .line }), placeAt text d))
     × (v ≤ largestValue w)
     × Placed text d
     × (d .line ≡ c .line + 1)
 StepShown text h c (step-line.Proc x d) =
-    (itemAt text h c ≡ on (proc x (d .line), placeAt text d))
+    (itemAt text h c ≡ ok (proc x (d .line), placeAt text d))
     × (x ≤ 255)
     × Placed text d
     × (d .line ≡ c .line + 1)
-StepShown text h c (step-line.Refused x) = itemAt text h c ≡ stop x
+StepShown text h c (step-line.Refused x) = itemAt text h c ≡ refuse x

@@ -10,7 +10,7 @@ use vocabulary::FoundWord;
 use word_numbers::least_of;
 use word_numbers::limit_of;
 ghost use mathlib.Core.Path.{_≡_};
-ghost use Rattle.spec.specs.Reading.{stop};
+ghost use Rattle.spec.specs.Reading.{refuse};
 ghost use Rattle.lexer.specs.Cursors.{Placed};
 ghost use Rattle.program_lines.specs.Lines.{FreelockAt, ProcAt, WordAt, itemAt, StepShown};
 
@@ -20,7 +20,7 @@ const VARIABLE_LIMIT: u32 = 255;
 // The refusal of the line at the cursor, whose first field is the word `freelock`: 45, once form and range are right.
 fn freelock_line(text: &[u8], heading: ProgramHeading, cursor: Cursor, field: Span) -> Refusal
     requires { ⌜ FreelockAt (now text) cursor field ⌝ }
-    ensures { λ r. ⌜ itemAt (now (text .entry)) heading cursor ≡ stop r ⌝ }
+    ensures { λ r. ⌜ itemAt (now (text .entry)) heading cursor ≡ refuse r ⌝ }
 {
     let line = cursor.line + 1;
     let end = field.end;

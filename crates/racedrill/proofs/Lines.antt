@@ -6,7 +6,7 @@ use native.Mathlib.Omega.{arith}
 use lib.ListN.{length, length-append}
 use Rattle.spec.specs.Text.{bytes}
 use Rattle.written.specs.Text.{decimal, line}
-use Rattle.writer.specs.Buffer.{Written}
+use Rattle.writer.specs.Buffer.{WrittenAt}
 use Rattle.writer.proofs.Buffer.{written-length}
 use Rattle.written.proofs.Decimal.{decimal-length}
 use Rattle.racedrill.specs.Line.{drillLine}
@@ -34,5 +34,5 @@ module _ (x p s : ℕ) where
 
 -- a buffer of 40 bytes has room for it
 pub line-fits : {x p s n : ℕ} {d d′ : List ℕ} → x < 4294967296 → p < 4294967296 → s < 4294967296 → 40 ≤ length d
-    → Written d d′ 0 (drillLine x p s) n → n ≤ length d′
+    → WrittenAt d d′ 0 (drillLine x p s) n → n ≤ length d′
 line-fits {x} {p} {s} hx hp hs room w = let l = line-short x p s hx hp hs in omega (arith, w .moved, written-length w)

@@ -6,15 +6,15 @@ use Prim.Native.Nat.{ℕ, _≤_}
 use native.Mathlib.Omega.{arith}
 use mathlib.Core.Option.{Option, none, some}
 use lib.ListN.{length, take}
-use Rattle.spec.specs.Reading.{Out, stop, on}
+use Rattle.spec.specs.Reading.{Result, refuse, ok}
 use Rattle.spec.specs.Split.{splitLimit}
 use Rattle.spec.specs.Workspace.{workspaceSize}
-use Rattle.spec.specs.Verdict.{four, returned}
+use Rattle.spec.specs.Verdict.{numbers4, returned}
 use Rattle.spec.specs.declared.Returned.{Returned}
 use Rattle.spec.specs.declared.Answer.the-variants.{Refuse}
 use Rattle.spec.specs.declared.Refusal.{Refusal}
 use Rattle.spec.proofs.Refusals.{refusal-number}
-use Rattle.writer.specs.Buffer.{Written}
+use Rattle.writer.specs.Buffer.{WrittenAt}
 use Rattle.report.specs.Line.{refusalLine, answerLine, outputLine}
 use Rattle.report.specs.declared.Outcome.the-variants.{Answered}
 use Rattle.report.specs.declared.Outcome.the-variants.{Unread as UnreadLine}
@@ -24,7 +24,7 @@ use Rattle.files.specs.declared.Contents.the-variants.{Unread}
 use Rattle.files.proofs.Buffers.{front, line-in-front}
 use Rattle.fill_theory.specs.Answer.{fill, returnedFor, bufferAfter}
 use Rattle.fill.specs.Numbers.{returnedBy}
-use Rattle.fill.specs.Stages.{Tells}
+use Rattle.fill.specs.Stages.{OutcomePost}
 use Rattle.fill.specs.declared.Filled.{Filled}
 use Rattle.fill.specs.declared.Filled.the-variants as filled
 use Rattle.fill.proofs.Promises.{begins}
@@ -36,16 +36,16 @@ same-fill p s enough fits = λ i. fill (enough i) (fits i) p s
 
 -- ------------------------------------------------------------------ a sheet
 
-text-length : (o : Out (List ℕ)) (text : List ℕ) → o ≡ on text → returnedFor o .line ≡ length text
-unfolding returnedFor four
+text-length : (o : Result (List ℕ)) (text : List ℕ) → o ≡ ok text → returnedFor o .line ≡ length text
+unfolding returnedFor numbers4
 text-length o text e = rw e
 
-pub sheet-in-front : {n : ℕ} (room : ℕ) (p s before after : List ℕ) (f : Filled) {o : Out (List ℕ)} → fill room (length before) p s ≡ o
+pub sheet-in-front : {n : ℕ} (room : ℕ) (p s before after : List ℕ) (f : Filled) {o : Result (List ℕ)} → fill room (length before) p s ≡ o
     → returnedBy f ≡ returnedFor (fill room (length before) p s) → after ≡ bufferAfter (fill room (length before) p s) before
     → f ≡ filled.Written n → InFront (outputOf o) n after
-unfolding returnedBy four outputOf
+unfolding returnedBy numbers4 outputOf
 sheet-in-front {n} room p s before after f same numbers buffer is =
-    let told : Tells (fill room (length before) p s) before after f = record { numbers = numbers; buffer = buffer } in
+    let told : OutcomePost (fill room (length before) p s) before after f = record { numbers = numbers; buffer = buffer } in
     let zero : returnedBy f .number ≡ 0 = rw is in
     let line : returnedBy f .line ≡ n = rw is in
     let B = begins room p s before after f told zero in
@@ -54,13 +54,13 @@ sheet-in-front {n} room p s before after f same numbers buffer is =
 
 -- ------------------------------------------------------------------ a refusal
 
-refusal-output : (o : Out (List ℕ)) (r : Refusal) → returned (Refuse r) ≡ returnedFor o → outputLine (Answered (Refuse r)) ≡ outputOf o
-unfolding returnedFor outputOf outputLine answerLine four
-refusal-output (stop q) r e = ap refusalLine e
-refusal-output (on t) r e = absurd (omega (arith, refusal-number r, ap (λ (n : Returned). n .number) e))
+refusal-output : (o : Result (List ℕ)) (r : Refusal) → returned (Refuse r) ≡ returnedFor o → outputLine (Answered (Refuse r)) ≡ outputOf o
+unfolding returnedFor outputOf outputLine answerLine numbers4
+refusal-output (refuse q) r e = ap refusalLine e
+refusal-output (ok t) r e = absurd (omega (arith, refusal-number r, ap (λ (n : Returned). n .number) e))
 
-pub refusal-in-front : {n : ℕ} {r : Refusal} (o : Out (List ℕ)) (before after : List ℕ) (f : Filled) {o′ : Out (List ℕ)} → o ≡ o′ → returnedBy f ≡ returnedFor o
-    → f ≡ filled.Refused r → Written before after 0 (outputLine (Answered (Refuse r))) n → n ≤ 51 → 51 ≤ length before
+pub refusal-in-front : {n : ℕ} {r : Refusal} (o : Result (List ℕ)) (before after : List ℕ) (f : Filled) {o′ : Result (List ℕ)} → o ≡ o′ → returnedBy f ≡ returnedFor o
+    → f ≡ filled.Refused r → WrittenAt before after 0 (outputLine (Answered (Refuse r))) n → n ≤ 51 → 51 ≤ length before
     → InFront (outputOf o′) n after
 unfolding returnedBy
 refusal-in-front {n} {r} o before after f same told is w short room =
@@ -77,7 +77,7 @@ unfolding outputFor
 unread-split none buffer e = refl
 unread-split (some p) buffer e = sym (ap (λ (y : Contents). outputFor (some p) (textIn y buffer)) e)
 
-module _ {n : ℕ} (before after : List ℕ) (w : Written before after 0 (outputLine UnreadLine) n) (short : n ≤ 51) (room : length before ≡ splitLimit) where
+module _ {n : ℕ} (before after : List ℕ) (w : WrittenAt before after 0 (outputLine UnreadLine) n) (short : n ≤ 51) (room : length before ≡ splitLimit) where
   line : InFront (outputLine UnreadLine) n after
   unfolding splitLimit
   line = line-in-front 51 before after w short (omega (arith, room)) (omega arith)

@@ -2,7 +2,7 @@
 use mathlib.Core.List.{List}
 use mathlib.Core.Option.{Option, none, some}
 use Prim.Native.Nat.{ℕ}
-use Rattle.spec.specs.Reading.{Out, stop, on}
+use Rattle.spec.specs.Reading.{Result, refuse, ok}
 use Rattle.spec.specs.Split.{splitLimit}
 use Rattle.spec.specs.Workspace.{workspaceSize}
 use Rattle.spec.specs.declared.Answer.the-variants.{Refuse}
@@ -11,9 +11,9 @@ use Rattle.report.specs.declared.Outcome.the-variants.{Answered, Unread}
 use Rattle.fill_theory.specs.Answer.{fill}
 
 -- the whole sheet, or the line of a refusal
-unfoldable pub outputOf : Out (List ℕ) → List ℕ
-outputOf (stop r) = outputLine (Answered (Refuse r))
-outputOf (on text) = text
+unfoldable pub outputOf : Result (List ℕ) → List ℕ
+outputOf (refuse r) = outputLine (Answered (Refuse r))
+outputOf (ok text) = text
 
 -- for two files, each with its text if it was read
 unfoldable pub outputFor : (program split : Option (List ℕ)) → List ℕ

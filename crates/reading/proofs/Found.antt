@@ -5,7 +5,7 @@ use mathlib.Core.List.{List}
 use Prim.Native.Nat.{ℕ, _≤_, _<_}
 use native.Mathlib.Omega.{arith}
 use lib.ListN.{length}
-use Rattle.spec.specs.Reading.{stop, on}
+use Rattle.spec.specs.Reading.{refuse, ok}
 use Rattle.spec.specs.Program.{Program, programLimit}
 use Rattle.spec.specs.Split.{Split, splitLimit, split}
 use Rattle.spec.specs.WellFormed.{WellFormedProgram}
@@ -22,24 +22,24 @@ use Rattle.workspace.specs.Holds.{HoldsProgram, HoldsSplit}
 use Rattle.workspace.proofs.Held.{program-kept}
 use Rattle.spec.specs.declared.Header.{Header}
 use Rattle.workspace.specs.Sheets.{Small}
-use Rattle.split.proofs.Found.{denominator-told, locations-told, start-told}
+use Rattle.split.proofs.Found.{denominator-decodes, locations-decodes, start-decodes}
 use Rattle.reading.specs.Answers.{SheetsHeld, SheetsAnswered}
 use Rattle.reading.specs.declared.Reading.{Reading}
 use Rattle.reading.specs.declared.Reading.the-variants.{Held, Refused}
 
 -- a program that is well formed, and the split's text
 module _ (purpose : Purpose) (p s : List ℕ) {P : Program} (F : WellFormedProgram p P) where
-  pub too-long : 65536 < length s → sheets purpose p s ≡ stop LongSplit
+  pub too-long : 65536 < length s → sheets purpose p s ≡ refuse LongSplit
   unfolding programLimit
   too-long h = long-split purpose p s (F .fits) P (well-formed-program p F) h
 
   module _ (fits : length s ≤ 65536) where
-    pub split-stops : {r : Refusal} → split purpose P s ≡ stop r → sheets purpose p s ≡ stop r
+    pub split-stops : {r : Refusal} → split purpose P s ≡ refuse r → sheets purpose p s ≡ refuse r
     unfolding programLimit
     split-stops e = split-refused purpose p s (F .fits) P (well-formed-program p F) fits _ e
 
     -- the split is read into the work space behind the program
-    pub both-held : {w w′ : List ℕ} {n k : ℕ} (header : Header) {S : Split} → split purpose P s ≡ on S
+    pub both-held : {w w′ : List ℕ} {n k : ℕ} (header : Header) {S : Split} → split purpose P s ≡ ok S
         → ChangedWithin rowTypesAt workSize w w′ → HoldsProgram w P → HoldsSplit w′ S → n ≡ length (P .steps) → n ≤ 256
         → k ≡ length (P .procedures) → k ≤ 16
         → S .header ≡ header → Small header → SheetsHeld purpose p s w′ n k header
@@ -57,9 +57,9 @@ module _ (purpose : Purpose) (p s : List ℕ) {P : Program} (F : WellFormedProgr
           split = holds′;
           stepsCounted = counted;
           proceduresCounted = procs;
-          denominatorGiven = denominator-told S header headed;
-          locationsGiven = locations-told S header headed;
-          startGiven = start-told S header headed;
+          denominatorGiven = denominator-decodes S header headed;
+          locationsGiven = locations-decodes S header headed;
+          startGiven = start-decodes S header headed;
         };
         headed = headed;
       };
@@ -71,7 +71,7 @@ module _ (purpose : Purpose) (p s : List ℕ) {P : Program} (F : WellFormedProgr
 -- ------------------------------------------------------------------ what an answer says
 
 module _ (purpose : Purpose) (p s w : List ℕ) (answer : Reading) (told : SheetsAnswered purpose p s w answer) where
-  pub refused-by : {r : Refusal} → answer ≡ Refused r → sheets purpose p s ≡ stop r
+  pub refused-by : {r : Refusal} → answer ≡ Refused r → sheets purpose p s ≡ refuse r
   refused-by e = along (SheetsAnswered purpose p s w) e told
 
   pub held-by : {n k : ℕ} {header : Header} → answer ≡ Held n k header → SheetsHeld purpose p s w n k header

@@ -3,7 +3,7 @@ use mathlib.Core.Path.{_≡_}
 use mathlib.Core.List.{List}
 use Prim.Native.Nat.{ℕ, _≤_}
 use lib.ListN.{length}
-use Rattle.spec.specs.Reading.{stop, on}
+use Rattle.spec.specs.Reading.{refuse, ok}
 use Rattle.spec.specs.Program.{Program}
 use Rattle.spec.specs.Split.{Split}
 use Rattle.spec.specs.WellFormed.{WellFormedProgram}
@@ -26,7 +26,7 @@ pub record HoldsBoth (w : List ℕ) (header : Header) (steps procedures : ℕ) (
 pub record SheetsHeld (purpose : Purpose) (programText splitText w : List ℕ) (steps procedures : ℕ) (header : Header) : Type 0 where
   pub P : Program
   pub S : Split
-  pub read : sheets purpose programText splitText ≡ on (P, S)
+  pub read : sheets purpose programText splitText ≡ ok (P, S)
   pub holds : HoldsBoth w header steps procedures P S
   pub few : steps ≤ 256
   pub fewProcedures : procedures ≤ 16
@@ -34,7 +34,7 @@ pub record SheetsHeld (purpose : Purpose) (programText splitText w : List ℕ) (
 
 abbrev pub SheetsAnswered : Purpose → (programText splitText w : List ℕ) → Reading → Type 0
 SheetsAnswered purpose programText splitText w (Held steps procedures header) = SheetsHeld purpose programText splitText w steps procedures header
-SheetsAnswered purpose programText splitText w (Refused r) = sheets purpose programText splitText ≡ stop r
+SheetsAnswered purpose programText splitText w (Refused r) = sheets purpose programText splitText ≡ refuse r
 
 -- ------------------------------------------------------------------ the split, for a program that is held
 

@@ -2,8 +2,8 @@
 use crate::slots::put_slot;
 use crate::slots::slot_at;
 use call_step::call;
+use control::ControlPoint;
 use control::ENTER;
-use control::Focus;
 use control::READY;
 use control::RETURN;
 use control::STOPPED;
@@ -11,8 +11,8 @@ use control::UNROLLED;
 use control::layout;
 use control::put;
 use things::Slot;
-use things::Used;
-use things::used_by;
+use things::StepEffect;
+use things::effect_of;
 use workspace::Shape;
 use workspace::at;
 use workspace::index;
@@ -25,7 +25,7 @@ const LIMIT: u32 = 64;
 // What a word comes to: its thread goes on from there; a thread is spawned, or joined, with that identifier; it cannot step; or the
 // step is past a limit.
 pub enum Act {
-    Go(Focus),
+    Go(ControlPoint),
     Spawn(u32),
     Join(u32),
     Stuck,
@@ -33,10 +33,10 @@ pub enum Act {
 }
 
 // The word of step k becomes a value, in that row.
-pub fn gives(program: &[u32], row: u32, k: u32, v: u32) -> Focus
+pub fn gives(program: &[u32], row: u32, k: u32, v: u32) -> ControlPoint
     ensures { λ r. ⌜ r ≡ given (now (program .entry)) row k v ⌝ }
 {
-    Focus {
+    ControlPoint {
         mode: RETURN,
         at: at(program, layout::CONTINUATIONS + index(k)),
         value: v,
@@ -45,18 +45,18 @@ pub fn gives(program: &[u32], row: u32, k: u32, v: u32) -> Focus
 }
 
 // The part of an `if` that is chosen, 0 taking e1.
-fn branch(program: &[u32], row: u32, k: u32, choice: u32) -> Focus
+fn branch(program: &[u32], row: u32, k: u32, choice: u32) -> ControlPoint
     ensures { λ r. ⌜ r ≡ branched (now (program .entry)) row k choice ⌝ }
 {
     if choice == 0 {
-        return Focus {
+        return ControlPoint {
             mode: ENTER,
             at: control::behind(k),
             value: 0,
             row,
         };
     }
-    Focus {
+    ControlPoint {
         mode: ENTER,
         at: control::second(program, k),
         value: 0,
@@ -66,14 +66,14 @@ fn branch(program: &[u32], row: u32, k: u32, choice: u32) -> Focus
 
 // A `while` becomes an `if`; the `if` becomes its part with the same `while` behind it, or 0; a part that gave its value becomes the
 // `while`.
-fn around(program: &[u32], f: Focus, choice: u32) -> Focus
+fn around(program: &[u32], f: ControlPoint, choice: u32) -> ControlPoint
     ensures { λ r. ⌜ r ≡ looped (now (program .entry)) f choice ⌝ }
 {
     let k = f.at;
     let row = f.row;
     let mode = f.mode;
     if mode == STOPPED {
-        return Focus {
+        return ControlPoint {
             mode: UNROLLED,
             at: k,
             value: 0,
@@ -81,7 +81,7 @@ fn around(program: &[u32], f: Focus, choice: u32) -> Focus
         };
     }
     if mode == READY {
-        return Focus {
+        return ControlPoint {
             mode: STOPPED,
             at: k,
             value: 0,
@@ -89,7 +89,7 @@ fn around(program: &[u32], f: Focus, choice: u32) -> Focus
         };
     }
     if choice == 0 {
-        return Focus {
+        return ControlPoint {
             mode: ENTER,
             at: control::behind(k),
             value: 0,
@@ -100,7 +100,7 @@ fn around(program: &[u32], f: Focus, choice: u32) -> Focus
 }
 
 // A `let` binds its variable and becomes its e2.
-fn bind(program: &[u32], space: &mut [u32], f: Focus) -> Act
+fn bind(program: &[u32], space: &mut [u32], f: ControlPoint) -> Act
     ensures { λ r. ⌜ bound (now (program .entry)) (now (space .entry)) f ≡ (r, now (space .exit)) ⌝ }
 {
     let k = f.at;
@@ -111,7 +111,7 @@ fn bind(program: &[u32], space: &mut [u32], f: Focus) -> Act
         layout::ENVIRONMENTS + layout::ROW * index(row) + index(x),
         f.value,
     );
-    let next = Focus {
+    let next = ControlPoint {
         mode: ENTER,
         at: control::second(program, k),
         value: 0,
@@ -140,7 +140,7 @@ fn make(program: &[u32], space: &mut [u32], row: u32, k: u32, x: Slot) -> Act
 }
 
 // The value that names what the word is about: of a `write` its first part's, else its last part's.
-pub fn subject(program: &[u32], space: &[u32], f: Focus) -> u32
+pub fn subject(program: &[u32], space: &[u32], f: ControlPoint) -> u32
     ensures { λ r. ⌜ r ≡ subjectOf (now (program .entry)) (now (space .entry)) f ⌝ }
 {
     let k = f.at;
@@ -154,7 +154,7 @@ pub fn subject(program: &[u32], space: &[u32], f: Focus) -> u32
 }
 
 // The value that the word stores, or the number of a word without parts.
-fn operand(program: &[u32], f: Focus) -> u32
+fn operand(program: &[u32], f: ControlPoint) -> u32
     ensures { λ r. ⌜ r ≡ operandOf (now (program .entry)) f ⌝ }
 {
     if f.mode == STOPPED {
@@ -164,24 +164,24 @@ fn operand(program: &[u32], f: Focus) -> u32
 }
 
 // What is done about the value v by the word of step k.
-fn effect(program: &[u32], space: &mut [u32], row: u32, k: u32, v: u32, u: Used) -> Act
+fn effect(program: &[u32], space: &mut [u32], row: u32, k: u32, v: u32, u: StepEffect) -> Act
     ensures { λ r. ⌜ effected (now (program .entry)) (now (space .entry)) row k v u ≡ (r, now (space .exit)) ⌝ }
 {
     match u {
-        Used::Gives(w) => Act::Go(gives(program, row, k, w)),
-        Used::Leaves(x) => {
+        StepEffect::Returns(w) => Act::Go(gives(program, row, k, w)),
+        StepEffect::Updates(x) => {
             put_slot(space, v, x);
             Act::Go(gives(program, row, k, 0))
         }
-        Used::Makes(x) => make(program, space, row, k, x),
-        Used::Spawns => Act::Spawn(v),
-        Used::Joins => Act::Join(v),
-        Used::Stuck => Act::Stuck,
+        StepEffect::Makes(x) => make(program, space, row, k, x),
+        StepEffect::Spawns => Act::Spawn(v),
+        StepEffect::Joins => Act::Join(v),
+        StepEffect::Stuck => Act::Stuck,
     }
 }
 
 // A word that uses what a value names.
-fn use_word(program: &[u32], space: &mut [u32], f: Focus) -> Act
+fn use_word(program: &[u32], space: &mut [u32], f: ControlPoint) -> Act
     ensures { λ r. ⌜ wordUsed (now (program .entry)) (now (space .entry)) f ≡ (r, now (space .exit)) ⌝ }
 {
     let k = f.at;
@@ -189,11 +189,11 @@ fn use_word(program: &[u32], space: &mut [u32], f: Focus) -> Act
     let v = subject(program, space, f);
     let x = slot_at(space, v);
     let w = operand(program, f);
-    effect(program, space, f.row, k, v, used_by(r, x, w))
+    effect(program, space, f.row, k, v, effect_of(r, x, w))
 }
 
-// The step of the word at that focus, with that choice.
-pub fn reduce(program: &[u32], space: &mut [u32], f: Focus, choice: u32) -> Act
+// The step of the word at that control point, with that choice.
+pub fn reduce(program: &[u32], space: &mut [u32], f: ControlPoint, choice: u32) -> Act
     ensures { λ r. ⌜ acted (now (program .entry)) (now (space .entry)) f choice ≡ (r, now (space .exit)) ⌝ }
 {
     let k = f.at;

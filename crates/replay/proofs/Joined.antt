@@ -15,7 +15,7 @@ use Rattle.machine.specs.Replay.{playFrom}
 use Rattle.play.specs.declared.Progress.{Progress}
 use Rattle.play.specs.declared.Progress.the-variants.{Stops, Goes}
 use Rattle.play.specs.declared.Point.{Point}
-use Rattle.play.specs.Play.{PlaysTo, GoesTo, ComesTo}
+use Rattle.play.specs.Play.{LoopPre, GoesTo, LoopPost}
 use Rattle.replay.specs.Pieces.{endsLine, tellingBy, telling}
 
 -- ------------------------------------------------------------------ lines behind lines
@@ -68,10 +68,10 @@ none-behind (l ∷ ls) = ap (λ (x : List Line). l ∷ x) (none-behind ls)
 
 -- ------------------------------------------------------------------ a run goes on
 
-goes : (whole : List Line → Replayed) (p s : List ℕ) (q : Point) {pr : Progress} → pr ≡ Goes → ComesTo pr whole p s q → GoesTo whole p s q
-goes whole p s q h C = subst (λ (x : Progress). ComesTo x whole p s q) h C
+goes : (whole : List Line → Replayed) (p s : List ℕ) (q : Point) {pr : Progress} → pr ≡ Goes → LoopPost pr whole p s q → GoesTo whole p s q
+goes whole p s q h C = subst (λ (x : Progress). LoopPost x whole p s q) h C
 
-pub few-there : (whole : List Line → Replayed) (p s : List ℕ) (q : Point) {pr : Progress} → pr ≡ Goes → ComesTo pr whole p s q → q .threads .count ≤ 16
+pub few-there : (whole : List Line → Replayed) (p s : List ℕ) (q : Point) {pr : Progress} → pr ≡ Goes → LoopPost pr whole p s q → q .threads .count ≤ 16
 few-there whole p s q h C = let H = goes whole p s q h C .held .sized in let l = H .fits in let k = H .count in omega (arith, l, k)
 
 module _ (whole : List Line → Replayed) (p s piece : List ℕ) (q : Point) where
@@ -79,25 +79,25 @@ module _ (whole : List Line → Replayed) (p s piece : List ℕ) (q : Point) whe
   behind ls = whole (lines piece ++ ls)
 
   -- a run that has stopped is told by no line
-  pub stopped-stays : {pr : Progress} {e : Ending} → pr ≡ Stops e → ComesTo pr whole p s q → ComesTo pr behind p s q
-  stopped-stays {pr} {e} h C = subst (λ (x : Progress). ComesTo x behind p s q) (sym h) (λ ls. subst (λ (x : Progress). ComesTo x whole p s q) h C (lines piece ++ ls))
+  pub stopped-stays : {pr : Progress} {e : Ending} → pr ≡ Stops e → LoopPost pr whole p s q → LoopPost pr behind p s q
+  stopped-stays {pr} {e} h C = subst (λ (x : Progress). LoopPost x behind p s q) (sym h) (λ ls. subst (λ (x : Progress). LoopPost x whole p s q) h C (lines piece ++ ls))
 
   -- in a space that is too short every run has stopped
-  pub short-stays : (pr : Progress) → length s < spaceSize → ComesTo pr whole p s q → ComesTo pr behind p s q
+  pub short-stays : (pr : Progress) → length s < spaceSize → LoopPost pr whole p s q → LoopPost pr behind p s q
   short-stays (Stops e) short C = λ ls. C (lines piece ++ ls)
   short-stays Goes short C = absurd (let l = C .held .long in omega (arith, l, short))
 
-  pub goes-on : {pr : Progress} → pr ≡ Goes → ComesTo pr whole p s q →
-      PlaysTo behind p s piece (record { progress = Goes; threads = q .threads; at = 0; steps = q .steps; race = q .race })
+  pub goes-on : {pr : Progress} → pr ≡ Goes → LoopPost pr whole p s q →
+      LoopPre behind p s piece (record { progress = Goes; threads = q .threads; at = 0; steps = q .steps; race = q .race })
   goes-on h C = let G = goes whole p s q h C in record { going = refl; run = G .run; held = G .held; counts = G .counts; comes-to = λ ls. G .comes-to (lines piece ++ ls) }
 
 -- ------------------------------------------------------------------ what it tells
 
-telling-comes : (pr : Progress) (whole : List Line → Replayed) (p s : List ℕ) (q : Point) → ComesTo pr whole p s q → tellingBy pr q ≡ whole []
+telling-comes : (pr : Progress) (whole : List Line → Replayed) (p s : List ℕ) (q : Point) → LoopPost pr whole p s q → tellingBy pr q ≡ whole []
 unfolding tellingBy playFrom
 telling-comes (Stops e) whole p s q C = C []
 telling-comes Goes whole p s q C = C .comes-to []
 
-pub tells : (whole : List Line → Replayed) (p s : List ℕ) (q : Point) → ComesTo (q .progress) whole p s q → telling q ≡ whole []
+pub tells : (whole : List Line → Replayed) (p s : List ℕ) (q : Point) → LoopPost (q .progress) whole p s q → telling q ≡ whole []
 unfolding telling
 tells whole p s q C = telling-comes (q .progress) whole p s q C

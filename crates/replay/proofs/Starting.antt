@@ -5,7 +5,7 @@ use mathlib.Core.List.{List, [], _∷_, map}
 use native.Mathlib.Omega.{arith}
 use borrow.Author.Tests.{le-leb, lt-leb}
 use lib.ListN.{length, getD, length-map}
-use Rattle.spec.specs.Reading.{Out, stop, on, _>>=_, demand}
+use Rattle.spec.specs.Reading.{Result, refuse, ok, _>>=_, require}
 use Rattle.spec.specs.Expression.{Step, Expr, size, stepsAmong, Procedure}
 use Rattle.spec.specs.Program.{Program, program, programLimit}
 use Rattle.spec.specs.WellFormed.{prefix, listing, WellFormedProgram}
@@ -166,19 +166,19 @@ program-here-of w P h W =
 
 module _ (text : List ℕ) (fits : length text ≤ 16384) where
   judged-read : judged replaySpace text ≡ program text
-  unfolding judged _>>=_ demand replaySpace programLimit
+  unfolding judged _>>=_ require replaySpace programLimit
   judged-read = rw (le-leb (length text) 16384 fits) refl
 
-  pub sheet-refused : (w : List ℕ) (answer : ProgramRead) (r : Refusal) → Answered w answer (program text) → answer ≡ Refused r → judged replaySpace text ≡ stop r
+  pub sheet-refused : (w : List ℕ) (answer : ProgramRead) (r : Refusal) → Answered w answer (program text) → answer ≡ Refused r → judged replaySpace text ≡ refuse r
   sheet-refused w answer r a e = judged-read ∙ by-sheet (program text) a
     where
-      by-sheet : (o : Out Program) → Answered w answer o → o ≡ stop r
-      by-sheet (stop x) a = ap stop (let z : Refused x ≡ Refused r = sym a ∙ e in let y : x ≡ r = cc in y)
-      by-sheet (on P) a = absurd (let z : Read (length (P .steps)) (length (P .procedures)) ≡ Refused r = sym (a .0) ∙ e in let y : _≡_ {A = ℕ} 0 1 = cc in omega arith)
+      by-sheet : (o : Result Program) → Answered w answer o → o ≡ refuse r
+      by-sheet (refuse x) a = ap refuse (let z : Refused x ≡ Refused r = sym a ∙ e in let y : x ≡ r = cc in y)
+      by-sheet (ok P) a = absurd (let z : Read (length (P .steps)) (length (P .procedures)) ≡ Refused r = sym (a .0) ∙ e in let y : _≡_ {A = ℕ} 0 1 = cc in omega arith)
 
   pub record Sheet (w : List ℕ) (n m : ℕ) : Type 0 where
     pub P : Program
-    pub read : program text ≡ on P
+    pub read : program text ≡ ok P
     pub counted : length (P .steps) ≡ n
     pub listed : length (P .procedures) ≡ m
     pub few : n ≤ 256
@@ -188,9 +188,9 @@ module _ (text : List ℕ) (fits : length text ≤ 16384) where
   pub sheet-read : (w : List ℕ) (answer : ProgramRead) (n m : ℕ) → Answered w answer (program text) → answer ≡ Read n m → Sheet w n m
   sheet-read w answer n m a e = by-sheet (program text) refl a
     where
-      by-sheet : (o : Out Program) → program text ≡ o → Answered w answer o → Sheet w n m
-      by-sheet (stop x) q a = absurd (let z : Refused x ≡ Read n m = sym a ∙ e in let y : _≡_ {A = ℕ} 0 1 = cc in omega arith)
-      by-sheet (on P) q (r, h, l, k) =
+      by-sheet : (o : Result Program) → program text ≡ o → Answered w answer o → Sheet w n m
+      by-sheet (refuse x) q a = absurd (let z : Refused x ≡ Read n m = sym a ∙ e in let y : _≡_ {A = ℕ} 0 1 = cc in omega arith)
+      by-sheet (ok P) q (r, h, l, k) =
           let z : Read (length (P .steps)) (length (P .procedures)) ≡ Read n m = sym r ∙ e in
           let y : length (P .steps) ≡ n = cc in
           let x : length (P .procedures) ≡ m = cc in
@@ -221,20 +221,20 @@ module _ (text : List ℕ) (fits : length text ≤ 16384) where
     pub sheet-holds : (s : List ℕ) → length s ≡ spaceSize → ((i : ℕ) → i < continuationsAt → getD s i 0 ≡ getD w i 0) → Held s n m
     sheet-holds s long same = record { listed = F .P; held = sheet-held s long same; few = F .few; procs = F .procs; long = long }
 
-    pub sheet-judged : judged replaySpace text ≡ on (F .P)
+    pub sheet-judged : judged replaySpace text ≡ ok (F .P)
     sheet-judged = judged-read ∙ F .read
 
-pub long-program : (text : List ℕ) → 16384 < length text → judged replaySpace text ≡ stop LongProgram
-unfolding judged _>>=_ demand replaySpace programLimit
+pub long-program : (text : List ℕ) → 16384 < length text → judged replaySpace text ≡ refuse LongProgram
+unfolding judged _>>=_ require replaySpace programLimit
 long-program text h = rw (lt-leb (length text) 16384 h) refl
 
 -- ------------------------------------------------------------------ the room
 
 -- more room changes nothing
 pub room-enough : (room : ℕ) (text : List ℕ) → replaySpace ≤ room → judged replaySpace text ≡ judged room text
-unfolding judged _>>=_ demand replaySpace
+unfolding judged _>>=_ require replaySpace
 room-enough room text h = rw (le-leb spaceSize room h) refl
 
-pub short-room : (room : ℕ) (text : List ℕ) → room < spaceSize → judged room text ≡ stop ShortWorkspace
-unfolding judged _>>=_ demand replaySpace
+pub short-room : (room : ℕ) (text : List ℕ) → room < spaceSize → judged room text ≡ refuse ShortWorkspace
+unfolding judged _>>=_ require replaySpace
 short-room room text h = rw (lt-leb spaceSize room h) refl

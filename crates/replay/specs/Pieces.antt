@@ -8,11 +8,11 @@ use Rattle.spec.specs.Text.{lines}
 use Rattle.replay_theory.specs.Replay.{replaySpace, judged}
 use Rattle.replay_theory.specs.declared.Ending.the-variants.{Done}
 use Rattle.replay_theory.specs.declared.Replayed.{Replayed}
-use Rattle.machine.specs.Replay.{ended, played}
+use Rattle.machine.specs.Replay.{ended, replayed}
 use Rattle.play.specs.declared.Progress.{Progress}
 use Rattle.play.specs.declared.Progress.the-variants.{Stops, Goes}
 use Rattle.play.specs.declared.Point.{Point}
-use Rattle.play.specs.Play.{ComesTo}
+use Rattle.play.specs.Play.{LoopPost}
 
 -- the text is empty, or ends with a line: its last byte is 10
 unfoldable pub endsLine : List ℕ → Bool
@@ -36,4 +36,4 @@ telling q = tellingBy (q .progress) q
 -- them as the replay of the program does with all of them. A reader need not look into it: `begin` makes it, `more` keeps it, and `told` says
 -- what it is good for.
 pub record RunOf (program trace job space : List ℕ) (run : Point) : Type 0 where
-  pub comes : ComesTo (run .progress) (λ ls. played (judged (length space) program) (lines trace ++ ls)) job (take replaySpace space) run
+  pub comes : LoopPost (run .progress) (λ ls. replayed (judged (length space) program) (lines trace ++ ls)) job (take replaySpace space) run

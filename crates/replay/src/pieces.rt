@@ -15,12 +15,12 @@ ghost use lib.ListN.{length, drop};
 ghost use Rattle.spec.specs.Text.{Line, lines};
 ghost use Rattle.replay_theory.specs.Replay.{replaySpace, replay as replayed};
 ghost use Rattle.replay_theory.specs.declared.Replayed.{Replayed as Whole};
-ghost use Rattle.play.specs.Play.{ComesTo};
+ghost use Rattle.play.specs.Play.{LoopPost};
 ghost use Rattle.replay.specs.Pieces.{endsLine, telling, RunOf};
 
 // Goes on with the lines of a piece, in a space of just the size. A run whose counts have no room for them stays as it is.
 fn go_on(job: &[u32], space: &mut [u32], run: Point, piece: &[u8]) -> Point
-    ensures { λ r. ⌜ ((whole : List Line → Whole) → ComesTo (run .progress) whole (now (job .entry)) (now (space .entry)) run → run .steps + length (now (piece .entry)) < 18446744073709551616 → ComesTo (r .progress) (λ ls. whole (lines (now (piece .entry)) ++ ls)) (now (job .entry)) (now (space .exit)) r) ⌝ }
+    ensures { λ r. ⌜ ((whole : List Line → Whole) → LoopPost (run .progress) whole (now (job .entry)) (now (space .entry)) run → run .steps + length (now (piece .entry)) < 18446744073709551616 → LoopPost (r .progress) (λ ls. whole (lines (now (piece .entry)) ++ ls)) (now (job .entry)) (now (space .exit)) r) ⌝ }
 {
     let progress = run.progress;
     let threads = run.threads;

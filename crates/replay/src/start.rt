@@ -19,17 +19,17 @@ ghost use Prim.Native.Nat.{_<_, _≤_};
 ghost use Rattle.spec.specs.Program.{Program};
 ghost use Rattle.spec.specs.declared.Refusal.the-variants.{ShortWorkspace};
 ghost use Rattle.replay_theory.specs.Replay.{replaySpace, judged, refused as refusedBy};
-ghost use Rattle.machine.specs.Replay.{startReplay, play as played, played as playedOf};
+ghost use Rattle.machine.specs.Replay.{startReplay, play as played, replayed as playedOf};
 ghost use Rattle.control.specs.Layout.{programSize};
 ghost use Rattle.simulation.proofs.Bodies.{ProgramStands};
-ghost use Rattle.play.specs.Play.{ComesTo};
+ghost use Rattle.play.specs.Play.{LoopPost};
 ghost use Rattle.replay.specs.Start.{SheetIn, Copied, Runs, HeldAs, Held, refusedPoint};
 ghost use Rattle.replay.specs.Pieces.{jobSize, telling, RunOf};
 
 // The start of a linked program.
 fn first_point(job: &[u32], space: &mut [u32]) -> Point
     requires { ⌜ Runs (now job) (now space) ⌝ }
-    ensures { λ r. ⌜ ((P : Program) → ProgramStands (now (job .entry)) (P .procedures) (P .root) → ComesTo (r .progress) (played (startReplay P)) (now (job .entry)) (now (space .exit)) r) × (r .steps ≡ 0) ⌝ }
+    ensures { λ r. ⌜ ((P : Program) → ProgramStands (now (job .entry)) (P .procedures) (P .root) → LoopPost (r .progress) (played (startReplay P)) (now (job .entry)) (now (space .exit)) r) × (r .steps ≡ 0) ⌝ }
 {
     let threads = engine::start(job, space);
     let count = threads.count as u32;
@@ -67,7 +67,7 @@ fn read_program(program: &[u8], space: &mut [u32]) -> ProgramRead
 // The run of the program of so many steps and procedures that the space holds: its columns become the job, and the space the run's.
 fn begin_held(job: &mut [u32], space: &mut [u32], steps: usize, procedures: usize) -> Point
     requires { ⌜ (length (now job) ≡ programSize) × Held (now space) steps procedures ⌝ }
-    ensures { λ r. ⌜ ((P : Program) → HeldAs P (now (space .entry)) steps procedures → ComesTo (r .progress) (played (startReplay P)) (now (job .exit)) (now (space .exit)) r) × (r .steps ≡ 0) ⌝ }
+    ensures { λ r. ⌜ ((P : Program) → HeldAs P (now (space .entry)) steps procedures → LoopPost (r .progress) (played (startReplay P)) (now (job .exit)) (now (space .exit)) r) × (r .steps ≡ 0) ⌝ }
 {
     let n = steps as u32;
     let m = procedures as u32;
@@ -97,7 +97,7 @@ fn refused_point(r: Refusal) -> Point
 // Begins with a program in a job and a space of just the size.
 fn begin_in(program: &[u8], job: &mut [u32], space: &mut [u32]) -> Point
     requires { ⌜ (length (now job) ≡ programSize) × (length (now space) ≡ replaySpace) ⌝ }
-    ensures { λ r. ⌜ ComesTo (r .progress) (playedOf (judged replaySpace (now (program .entry)))) (now (job .exit)) (now (space .exit)) r × (r .steps ≡ 0) ⌝ }
+    ensures { λ r. ⌜ LoopPost (r .progress) (playedOf (judged replaySpace (now (program .entry)))) (now (job .exit)) (now (space .exit)) r × (r .steps ≡ 0) ⌝ }
 {
     if PROGRAM_LIMIT < program.len() {
         return refused_point(Refusal::LongProgram);

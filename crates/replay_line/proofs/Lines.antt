@@ -7,7 +7,7 @@ use native.Mathlib.Omega.{arith}
 use lib.ListN.{length, length-append}
 use Rattle.spec.specs.Text.{bytes, Field}
 use Rattle.written.specs.Text.{decimal, line}
-use Rattle.writer.specs.Buffer.{Written}
+use Rattle.writer.specs.Buffer.{WrittenAt}
 use Rattle.written.proofs.Decimal.{decimal-length}
 use Rattle.replay_theory.specs.Replay.{returnedFor}
 use Rattle.replay_theory.specs.declared.FirstRace.{FirstRace}
@@ -173,23 +173,23 @@ module _ (x : Numbers) (steps : ℕ) {race : FirstRace} (k : Small x) (h : steps
 -- ------------------------------------------------------------------ what is written is the line
 
 module _ {d d′ : List ℕ} {n : ℕ} where
-  pub written-short : {s : List ℕ} {most : ℕ} → length s ≤ most → Written d d′ 0 s n → n ≤ most
+  pub written-short : {s : List ℕ} {most : ℕ} → length s ≤ most → WrittenAt d d′ 0 s n → n ≤ most
   written-short h w = omega (arith, w .moved)
 
   -- a line, said in another way
-  reworded : {s t : List ℕ} → s ≡ t → Written d d′ 0 s n → Written d d′ 0 t n
-  reworded e w = subst (λ (s : List ℕ). Written d d′ 0 s n) e w
+  reworded : {s t : List ℕ} → s ≡ t → WrittenAt d d′ 0 s n → WrittenAt d d′ 0 t n
+  reworded e w = subst (λ (s : List ℕ). WrittenAt d d′ 0 s n) e w
 
   pub ran-written : {o : Outcome} {r : Replayed} → o ≡ Ran r → isDone (r .ending) ≡ true
-      → Written d d′ 0 (line (ranFields (r .report)) []) n → Written d d′ 0 (outputLine o) n
+      → WrittenAt d d′ 0 (line (ranFields (r .report)) []) n → WrittenAt d d′ 0 (outputLine o) n
   unfolding replayedFields outputLine
   ran-written e h w = reworded (sym (ap outputLine e ∙ rw h)) w
 
   pub refused-written : {o : Outcome} {r : Replayed} {x : Numbers} → o ≡ Ran r → isDone (r .ending) ≡ false → x ≡ returnedFor (r .ending)
-      → Written d d′ 0 (line (refusedFields x (r .report)) []) n → Written d d′ 0 (outputLine o) n
+      → WrittenAt d d′ 0 (line (refusedFields x (r .report)) []) n → WrittenAt d d′ 0 (outputLine o) n
   unfolding replayedFields outputLine
   refused-written {r = r} e h f w = reworded (ap (λ (y : Numbers). line (refusedFields y (r .report)) []) f ∙ sym (ap outputLine e ∙ rw h)) w
 
-  pub unread-written : {o : Outcome} → o ≡ Unread → Written d d′ 0 (bytes "UNREAD" ++ (10 ∷ [])) n → Written d d′ 0 (outputLine o) n × (n ≤ 130)
+  pub unread-written : {o : Outcome} → o ≡ Unread → WrittenAt d d′ 0 (bytes "UNREAD" ++ (10 ∷ [])) n → WrittenAt d d′ 0 (outputLine o) n × (n ≤ 130)
   unfolding bytes line outputLine
   unread-written e w = (reworded (sym (ap outputLine e)) w, omega (arith, w .moved))

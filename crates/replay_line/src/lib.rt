@@ -11,7 +11,7 @@ ghost use mathlib.Core.Path.{_≡_};
 ghost use mathlib.Core.List.{[]};
 ghost use Prim.Native.Nat.{_≤_};
 ghost use Rattle.written.specs.Text.{line};
-ghost use Rattle.writer.specs.Buffer.{Written};
+ghost use Rattle.writer.specs.Buffer.{WrittenAt};
 ghost use Rattle.replay_line.specs.Line.{raceFields, ranFields, numberFields, refusedFields, opened, isDone, outputLine};
 
 // What a run comes to: the replay of the program and the trace, or that they can't be read.
@@ -22,7 +22,7 @@ pub enum Outcome {
 
 // The state of a race and its two threads, which close a line.
 fn write_race(buffer: &mut [u8], at: usize, state: usize, lower: u32, other: u32) -> usize
-    ensures { λ n. ⌜ Written (now (buffer .entry)) (now (buffer .exit)) at (line (raceFields state lower other) []) n ⌝ }
+    ensures { λ n. ⌜ WrittenAt (now (buffer .entry)) (now (buffer .exit)) at (line (raceFields state lower other) []) n ⌝ }
 {
     let counted = write_field(buffer, at, state as u64, b',');
     let first = write_field(buffer, counted, lower as u64, b',');
@@ -31,7 +31,7 @@ fn write_race(buffer: &mut [u8], at: usize, state: usize, lower: u32, other: u32
 
 // The line of a trace that is done.
 fn write_ran(buffer: &mut [u8], report: Report) -> usize
-    ensures { λ n. ⌜ Written (now (buffer .entry)) (now (buffer .exit)) 0 (line (ranFields report) []) n ⌝ }
+    ensures { λ n. ⌜ WrittenAt (now (buffer .entry)) (now (buffer .exit)) 0 (line (ranFields report) []) n ⌝ }
     ensures { λ n. ⌜ n ≤ 69 ⌝ }
 {
     let steps = report.steps as u64;
@@ -55,7 +55,7 @@ fn write_ran(buffer: &mut [u8], report: Report) -> usize
 
 // Four numbers inside a line.
 fn write_four(buffer: &mut [u8], at: usize, x: Numbers) -> usize
-    ensures { λ n. ⌜ Written (now (buffer .entry)) (now (buffer .exit)) at (opened (numberFields x)) n ⌝ }
+    ensures { λ n. ⌜ WrittenAt (now (buffer .entry)) (now (buffer .exit)) at (opened (numberFields x)) n ⌝ }
 {
     let numbered = write_field(buffer, at, x.number as u64, b',');
     let placed = write_field(buffer, numbered, x.line as u64, b',');
@@ -65,7 +65,7 @@ fn write_four(buffer: &mut [u8], at: usize, x: Numbers) -> usize
 
 // The line of a refusal.
 fn write_refused(buffer: &mut [u8], x: Numbers, report: Report) -> usize
-    ensures { λ n. ⌜ Written (now (buffer .entry)) (now (buffer .exit)) 0 (line (refusedFields x report) []) n ⌝ }
+    ensures { λ n. ⌜ WrittenAt (now (buffer .entry)) (now (buffer .exit)) 0 (line (refusedFields x report) []) n ⌝ }
     ensures { λ n. ⌜ n ≤ 130 ⌝ }
 {
     let steps = report.steps as u64;
@@ -100,7 +100,7 @@ fn is_done(ending: Ending) -> bool
 
 // Writes the line in front of a buffer, and hands back its length.
 pub fn write_line(buffer: &mut [u8], outcome: Outcome) -> usize
-    ensures line { λ n. ⌜ Written (now (buffer .entry)) (now (buffer .exit)) 0 (outputLine outcome) n ⌝ }
+    ensures line { λ n. ⌜ WrittenAt (now (buffer .entry)) (now (buffer .exit)) 0 (outputLine outcome) n ⌝ }
     ensures short { λ n. ⌜ n ≤ 130 ⌝ }
 {
     match outcome {

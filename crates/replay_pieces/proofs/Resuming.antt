@@ -12,11 +12,11 @@ use Rattle.replay_theory.specs.declared.FirstRace.{FirstRace}
 use Rattle.replay_theory.specs.declared.Replayed.{Replayed}
 use Rattle.replay_theory.specs.Replay.{replay, judged, replaySpace, returnedFor}
 use Rattle.replay_numbers.specs.Numbers.{raceNumbers}
-use Rattle.machine.specs.Replay.{ended, played}
+use Rattle.machine.specs.Replay.{ended, replayed}
 use Rattle.play.specs.declared.Progress.{Progress}
 use Rattle.play.specs.declared.Progress.the-variants.{Stops, Goes}
 use Rattle.play.specs.declared.Point.{Point}
-use Rattle.play.specs.Play.{GoesTo, ComesTo}
+use Rattle.play.specs.Play.{GoesTo, LoopPost}
 use Rattle.replay.specs.Pieces.{endsLine, tellingBy, telling, RunOf}
 use Rattle.replay.proofs.Runs.{stopped-run, told-replays}
 use Rattle.replay_kept.specs.declared.numbers.Told.{Told}
@@ -88,10 +88,10 @@ stops-kept Goes z = absurd (omega (arith, z))
 
 module _ (program trace job space : List ℕ) (q : Point) (R : RunOf program trace job space q) where
   abbrev whole : List Line → Replayed
-  whole ls = played (judged (length space) program) (lines trace ++ ls)
+  whole ls = replayed (judged (length space) program) (lines trace ++ ls)
 
   resumes : q .progress ≡ Goes → GoesTo whole job (take replaySpace space) q
-  resumes g = subst (λ (pr : Progress). ComesTo pr whole job (take replaySpace space) q) g (R .comes)
+  resumes g = subst (λ (pr : Progress). LoopPost pr whole job (take replaySpace space) q) g (R .comes)
 
   pub records-long : q .progress ≡ Goes → length (q .threads .records) ≡ 16
   records-long g = resumes g .held .sized .records

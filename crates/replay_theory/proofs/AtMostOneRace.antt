@@ -9,7 +9,7 @@ use lib.ListN.{getElem?}
 use Rattle.calculus.specs.Claim.{Race, RaceFree}
 use Rattle.calculus.proofs.Laws.Maps.{some-injective}
 use Rattle.replay_theory.specs.Run.{Run}
-use Rattle.replay_theory.specs.Claim.{Racing, FirstRaceIs, RaceTold}
+use Rattle.replay_theory.specs.Claim.{Racing, FirstRaceIs, RaceReported}
 use Rattle.replay_theory.specs.Exact.{OneRace}
 use Rattle.replay_theory.specs.declared.FirstRace.the-variants.{None, Found}
 use Rattle.replay_theory.proofs.Lists.{every-at}
@@ -42,7 +42,7 @@ module _ {rs : List Run} {n i j m k l : ℕ} (A : FirstRaceIs rs n i j) (B : Fir
       by-order (inr (e, b)) (inl c) = absurd (omega (arith, e, c))
       by-order (inr (e, b)) (inr (q, c)) = (e, omega (arith, b, c))
 
-no-race-beside : {rs : List Run} {n i j : ℕ} → RaceTold rs None → FirstRaceIs rs n i j → ⊥
+no-race-beside : {rs : List Run} {n i j : ℕ} → RaceReported rs None → FirstRaceIs rs n i j → ⊥
 no-race-beside {rs} {n} free F = every-at (λ r. RaceFree (r .state)) rs n (F .run) free (F .there) (told-is-race F)
 
 pub one-race : OneRace

@@ -11,7 +11,7 @@ use Rattle.calculus.specs.State.{Slot, unused, Thread, State, Move}
 use Rattle.calculus.specs.Reduction.{_>>=_, _>>_, ifUnused, ifIdentifier, ifEqual, valueOf, wordOf, named, unaryReduct, reduct, reduce}
 use Rattle.calculus.specs.Claim.{ThreadAt}
 use Rattle.calculus.proofs.Laws.Maps.{some-injective, none-is-not-some, bind-is-some}
-use Rattle.calculus.proofs.Laws.Questions.{equal-tells, equal-is-told, word-tells}
+use Rattle.calculus.proofs.Laws.Questions.{equal-sound, equal-complete, word-tells}
 use Rattle.replay_theory.specs.Trace.{TraceLine}
 use Rattle.replay_theory.specs.Paths.{nextPath}
 use Rattle.replay_theory.specs.Run.{Run, placeOf, partChosen, lowestFinished, finishedFor, nameIn, moveOf, ofUnary, after, stepped}
@@ -20,7 +20,7 @@ use Rattle.replay_theory.proofs.Lists.{there-in-both}
 use Rattle.replay_theory.proofs.Proper.{Proper, Stepped, step-taken, state-after, procedures-after, step-reduces}
 use Rattle.replay_theory.proofs.Order.{not-below}
 use Rattle.replay_theory.proofs.Implied.{running-implied, body-implied}
-use Rattle.replay_theory.proofs.Joining.{FirstFinished, first-is-there, finished-has-value, value-has-finished, finished-tells, finished-is-told}
+use Rattle.replay_theory.proofs.Joining.{FirstFinished, first-is-there, finished-has-value, value-has-finished, finished-sound, finished-complete}
 
 -- ---- The move that a line lists goes wherever a move of that thread with that part goes
 
@@ -48,7 +48,7 @@ module _ (r : Run) (proper : Proper r) (m : Move) (t : Thread) where
         _,
         answered (ifIdentifier (r .state .names n)) _ e
             (answered (getElem? (r .state .threads) (lowestFinished n (r .state .threads))) _ (L .there)
-            (answered (ifEqual (L .thread .tid) n) _ (equal-is-told (L .thread .tid) n (L .same))
+            (answered (ifEqual (L .thread .tid) n) _ (equal-complete (L .thread .tid) n (L .same))
             (answered (valueOf (nextWord (L .thread .body))) _ value refl))),
       )
 
@@ -60,7 +60,7 @@ module _ (r : Run) (proper : Proper r) (m : Move) (t : Thread) where
       let (_, same, q₃) = bind-is-some (ifEqual (u .tid) n) q₂ in
       let (v, finished, _) = bind-is-some (valueOf (nextWord (u .body))) q₃ in
       joins-lowest n e
-      (first-is-there n (r .state .threads) (m .finished) u there (equal-tells (u .tid) n same) (value-has-finished (nextWord (u .body)) finished))
+      (first-is-there n (r .state .threads) (m .finished) u there (equal-sound (u .tid) n same) (value-has-finished (nextWord (u .body)) finished))
 
   unary-goes-too : (o : Unary) (v : Value) (s : State) → unaryReduct (r .procedures) (r .state) m t o v ≡ some s → Goes (unaryRedex o v)
   unfolding moveOf
@@ -113,7 +113,7 @@ module _ {r r′ : Run} {l : TraceLine} (S : Stepped r l r′) where
       let (u, there, q₂) = bind-is-some (getElem? (r .state .threads) (m .finished)) q₁ in
       let (_, same, q₃) = bind-is-some (ifEqual (u .tid) n) q₂ in
       let (v, finished, _) = bind-is-some (valueOf (nextWord (u .body))) q₃ in
-      first-is-there n (r .state .threads) (m .finished) u there (equal-tells (u .tid) n same) (value-has-finished (nextWord (u .body)) finished)
+      first-is-there n (r .state .threads) (m .finished) u there (equal-sound (u .tid) n same) (value-has-finished (nextWord (u .body)) finished)
 
   join-lists : (n : ℕ) → S .word ≡ unaryRedex join (name n) → moveOf r (S .place) (S .word) (S .part) .finished ≡ lowestFinished n (r .state .threads)
   unfolding moveOf finishedFor nameIn ofUnary
@@ -128,9 +128,9 @@ module _ {r r′ : Run} {l : TraceLine} (S : Stepped r l r′) where
         thread = L .thread;
         there = record { number = number; thread = L .there };
         same = L .same;
-        finished = finished-tells (L .thread) (L .has-finished);
+        finished = finished-sound (L .thread) (L .has-finished);
         least = λ j p t there same f. not-below r proper (lowestFinished n (r .state .threads)) p i j
-            (L .first p t (there .thread) same (finished-is-told t f)) number (there .number);
+            (L .first p t (there .thread) same (finished-complete t f)) number (there .number);
       })
 
   chosen-part : (t : Thread) (w : Redex) → ThreadAt (r .state) (S .place) t → wordOf (nextWord (t .body)) ≡ some w →

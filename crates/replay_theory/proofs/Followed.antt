@@ -10,13 +10,13 @@ use Rattle.spec.specs.Text.{Line}
 use Rattle.calculus.specs.Expression.{Program}
 use Rattle.replay_theory.specs.Trace.{TraceLine, traceLine}
 use Rattle.replay_theory.specs.Run.{Run, startRun, threadLimit, thingLimit, withinLimits, callLimit, callsWithin, within}
-use Rattle.replay_theory.specs.Replay.{way, returnedFor}
+use Rattle.replay_theory.specs.Replay.{execution, returnedFor}
 use Rattle.replay_theory.specs.Claim.{runsAlong, Reduced, Within, StepDone, Stops, allDone, notALine, cannotStep, tooMany, Follows}
 use Rattle.replay_theory.specs.declared.Ending.{Ending}
 use Rattle.replay_theory.proofs.Proper.{Proper, start-is-proper, Stepped, step-taken, step-keeps-proper}
 use Rattle.replay_theory.proofs.Complete.{reduced, step-is-the-languages, no-step-exactly}
-use Rattle.replay_theory.proofs.Way.{Goes, isNoLine, isNoStep, isPastLimit, isStep, line-goes}
-use Rattle.replay_theory.proofs.Limits.{Booked, start-booked, step-booked, within-is-told, past-is-told}
+use Rattle.replay_theory.proofs.Execution.{Goes, isNoLine, isNoStep, isPastLimit, isStep, line-goes}
+use Rattle.replay_theory.proofs.Limits.{Booked, start-booked, step-booked, within-complete, past-complete}
 
 -- What the lines from here on come to: the runs so far are rs, by the steps ds, the last of them is r, and the next line is line k.
 record Onward (rs : List Run) (ds : List Reduced) (k : ℕ) (r : Run) (ls : List Line) (w : List Run × Ending) : Type 0 where
@@ -106,26 +106,26 @@ module _ (rs : List Run) (ds : List Reduced) (k : ℕ) (r r′ : Run) (l : Line)
         (O .stops);
   }
 
-way-onward : (ls : List Line) (rs : List Run) (ds : List Reduced) (k : ℕ) (r : Run) → Proper r → Booked rs ds r → Within rs ds →
-    Onward rs ds k r ls (way k r ls)
-unfolding way returnedFor
-way-onward [] rs ds k r proper B W = here W allDone
-way-onward (l ∷ ls) rs ds k r proper B W = by-line _ (line-goes k r l (λ r′. way (k + 1) r′ ls)) (λ rs′ ds′ r′. way-onward ls rs′ ds′ (k + 1) r′)
+execution-onward : (ls : List Line) (rs : List Run) (ds : List Reduced) (k : ℕ) (r : Run) → Proper r → Booked rs ds r → Within rs ds →
+    Onward rs ds k r ls (execution k r ls)
+unfolding execution returnedFor
+execution-onward [] rs ds k r proper B W = here W allDone
+execution-onward (l ∷ ls) rs ds k r proper B W = by-line _ (line-goes k r l (λ r′. execution (k + 1) r′ ls)) (λ rs′ ds′ r′. execution-onward ls rs′ ds′ (k + 1) r′)
   where
-    by-line : (w : List Run × Ending) → Goes k r l (λ r′. way (k + 1) r′ ls) w →
-        ((rs′ : List Run) (ds′ : List Reduced) (r′ : Run) → Proper r′ → Booked rs′ ds′ r′ → Within rs′ ds′ → Onward rs′ ds′ (k + 1) r′ ls (way (k + 1) r′ ls)) →
+    by-line : (w : List Run × Ending) → Goes k r l (λ r′. execution (k + 1) r′ ls) w →
+        ((rs′ : List Run) (ds′ : List Reduced) (r′ : Run) → Proper r′ → Booked rs′ ds′ r′ → Within rs′ ds′ → Onward rs′ ds′ (k + 1) r′ ls (execution (k + 1) r′ ls)) →
         Onward rs ds k r (l ∷ ls) w
     by-line w (isNoLine q) later = here W (notALine l q)
     by-line w (isNoStep t q e) later = here W (cannotStep l t q (no-step-exactly r t proper .0 e))
     by-line w (isPastLimit t r′ q e b) later =
         let S = step-taken r r′ t e in
         here W (tooMany l t (reduced S) r′ q (step-is-the-languages S proper)
-        (past-is-told (rs ++ (r′ ∷ [])) (ds ++ (reduced S ∷ [])) r′ (step-booked rs ds S proper B) (step-keeps-proper r r′ t proper e) b))
+        (past-complete (rs ++ (r′ ∷ [])) (ds ++ (reduced S ∷ [])) r′ (step-booked rs ds S proper B) (step-keeps-proper r r′ t proper e) b))
     by-line w (isStep t r′ q e b) later =
         let S = step-taken r r′ t e in
         let B′ = step-booked rs ds S proper B in
-        let W′ = within-is-told (rs ++ (r′ ∷ [])) (ds ++ (reduced S ∷ [])) r′ B′ b in
-        onward rs ds k r r′ l ls t q proper S W (way (k + 1) r′ ls)
+        let W′ = within-complete (rs ++ (r′ ∷ [])) (ds ++ (reduced S ∷ [])) r′ B′ b in
+        onward rs ds k r r′ l ls t q proper S W (execution (k + 1) r′ ls)
         (later (rs ++ (r′ ∷ [])) (ds ++ (reduced S ∷ [])) r′ (step-keeps-proper r r′ t proper e) B′ W′)
 
 start-within : (p : Program) → within (startRun p) ≡ true
@@ -133,11 +133,11 @@ unfolding within withinLimits callsWithin startRun threadLimit thingLimit callLi
 start-within p = refl
 
 pub replay-follows : (p : Program) (ls : List Line) →
-    Follows (runsAlong (startRun p) ls) ls (length (way 1 (startRun p) ls .0)) (returnedFor (way 1 (startRun p) ls .1))
+    Follows (runsAlong (startRun p) ls) ls (length (execution 1 (startRun p) ls .0)) (returnedFor (execution 1 (startRun p) ls .1))
 replay-follows p ls =
     let start = startRun p in
     let B = start-booked p in
-    let O = way-onward ls (start ∷ []) [] 1 start (start-is-proper p) B (within-is-told (start ∷ []) [] start B (start-within p)) in
+    let O = execution-onward ls (start ∷ []) [] 1 start (start-is-proper p) B (within-complete (start ∷ []) [] start B (start-within p)) in
     let same = O .counted in
     record {
       reduced = O .steps;
@@ -147,6 +147,6 @@ replay-follows p ls =
       within = λ n b. O .within-each n (omega (arith, b, same));
       last = O .last;
       lastThere = subst (λ (n : ℕ). getElem? (runsAlong start ls) n ≡ some (O .last)) same (O .last-there);
-      stops = subst (λ (n : ℕ). Stops (runsAlong start ls) (O .steps) (O .last) (getElem? ls n) (suc n) (returnedFor (way 1 start ls .1))) same
-          (same-stops (O .last) ls (length (O .steps)) (way 1 start ls .1) refl refl (omega arith) (O .stops));
+      stops = subst (λ (n : ℕ). Stops (runsAlong start ls) (O .steps) (O .last) (getElem? ls n) (suc n) (returnedFor (execution 1 start ls .1))) same
+          (same-stops (O .last) ls (length (O .steps)) (execution 1 start ls .1) refl refl (omega arith) (O .stops));
     }

@@ -35,12 +35,12 @@ value-has-finished (atVariable x) h = none-is-not-some h
 value-has-finished (atWord w) h = none-is-not-some h
 
 -- The test is the calculus's "A thread has finished when its expression is a value".
-pub finished-tells : (t : Thread) → hasFinished (nextWord (t .body)) ≡ true → Finished t
-finished-tells t h =
+pub finished-sound : (t : Thread) → hasFinished (nextWord (t .body)) ≡ true → Finished t
+finished-sound t h =
     let (v, q) = finished-has-value (nextWord (t .body)) h in finished v (next-is-value (t .body) (value-tells (nextWord (t .body)) q))
 
-pub finished-is-told : (t : Thread) → Finished t → hasFinished (nextWord (t .body)) ≡ true
-finished-is-told t (finished v e) = value-has-finished (nextWord (t .body)) (ap (λ b. valueOf (nextWord b)) e)
+pub finished-complete : (t : Thread) → Finished t → hasFinished (nextWord (t .body)) ≡ true
+finished-complete t (finished v e) = value-has-finished (nextWord (t .body)) (ap (λ b. valueOf (nextWord b)) e)
 
 -- ---- The first place of a finished thread with an identifier
 

@@ -11,7 +11,7 @@ pub mod Complete
 pub mod Races
 pub mod Lowest
 pub mod Pairs
-pub mod Way
+pub mod Execution
 pub mod ThreadCalls
 pub mod OpenCalls
 pub mod Limits
@@ -24,5 +24,5 @@ pub mod AtMostOneStep
 pub mod Running
 pub mod AtMostOneEnd
 pub mod SameCalls
-pub mod AtMostOneWay
+pub mod AtMostOneExecution
 pub mod Examples

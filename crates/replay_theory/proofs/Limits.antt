@@ -98,43 +98,43 @@ step-booked {r} {r′} rs ds S proper B = record {
 abbrev Few : (ObjectKind → ℕ) → ObjectKind → Type 0
 Few things k = leb (things k) thingLimit ≡ true
 
-kinds-told : (things : ObjectKind → ℕ) → Few things cells → Few things locks → Few things rwlocks → Few things semaphores → Few things identifiers →
+kinds-sound : (things : ObjectKind → ℕ) → Few things cells → Few things locks → Few things rwlocks → Few things semaphores → Few things identifiers →
     (k : ObjectKind) → Few things k
-kinds-told things a b c d e cells = a
-kinds-told things a b c d e locks = b
-kinds-told things a b c d e rwlocks = c
-kinds-told things a b c d e semaphores = d
-kinds-told things a b c d e identifiers = e
+kinds-sound things a b c d e cells = a
+kinds-sound things a b c d e locks = b
+kinds-sound things a b c d e rwlocks = c
+kinds-sound things a b c d e semaphores = d
+kinds-sound things a b c d e identifiers = e
 
-limits-told : (threads : ℕ) (things : ObjectKind → ℕ) → withinLimits threads things ≡ true → (leb threads threadLimit ≡ true) × ((k : ObjectKind) → Few things k)
+limits-sound : (threads : ℕ) (things : ObjectKind → ℕ) → withinLimits threads things ≡ true → (leb threads threadLimit ≡ true) × ((k : ObjectKind) → Few things k)
 unfolding withinLimits
-limits-told threads things h =
+limits-sound threads things h =
     let (h₁, e) = both-true _ (leb (things identifiers) thingLimit) h in
     let (h₂, d) = both-true _ (leb (things semaphores) thingLimit) h₁ in
     let (h₃, c) = both-true _ (leb (things rwlocks) thingLimit) h₂ in
     let (h₄, b) = both-true _ (leb (things locks) thingLimit) h₃ in
     let (t, a) = both-true (leb threads threadLimit) (leb (things cells) thingLimit) h₄ in
-    (t, kinds-told things a b c d e)
+    (t, kinds-sound things a b c d e)
 
 limits-hold : (threads : ℕ) (things : ObjectKind → ℕ) → leb threads threadLimit ≡ true → ((k : ObjectKind) → Few things k) → withinLimits threads things ≡ true
 unfolding withinLimits
 limits-hold threads things t few = rw (t, few cells, few locks, few rwlocks, few semaphores, few identifiers) refl
 
 module _ (rs : List Run) (ds : List Reduced) (r : Run) (B : Booked rs ds r) where
-  pub within-is-told : within r ≡ true → Within rs ds
+  pub within-complete : within r ≡ true → Within rs ds
   unfolding within
-  within-is-told h =
+  within-complete h =
       let (limits, calls) = both-true (withinLimits (r .threads) (r .things)) (callsWithin (r .calls)) h in
-      let (t, few) = limits-told (r .threads) (r .things) limits in
+      let (t, few) = limits-sound (r .threads) (r .things) limits in
       record {
         threads = subst (λ n. n ≤ threadLimit) (B .threads) (leb-true _ _ t);
         things = λ k. subst (λ n. n ≤ thingLimit) (B .things k) (leb-true _ _ (few k));
         calls = λ i. subst (λ (ps : List Path). length ps ≤ callLimit) (B .calls i) (few-for-each (r .numbers) (r .calls) calls i);
       }
 
-  pub past-is-told : Proper r → within r ≡ false → ¬ Within rs ds
+  pub past-complete : Proper r → within r ≡ false → ¬ Within rs ds
   unfolding within
-  past-is-told proper h W =
+  past-complete proper h W =
       let limits = limits-hold (r .threads) (r .things) (le-leb _ _ (subst (λ n. n ≤ threadLimit) (sym (B .threads)) (W .threads)))
       (λ k. le-leb _ _ (subst (λ n. n ≤ thingLimit) (sym (B .things k)) (W .things k))) in
       let calls = few-in-all 0 (r .threads) (r .numbers) (r .calls) (proper .rising) (proper .counted ∙ sym (proper .all-called))

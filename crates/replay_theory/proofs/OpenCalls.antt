@@ -13,7 +13,7 @@ use Rattle.calculus.specs.State.{Thread}
 use Rattle.calculus.specs.Reduction.{_>>=_}
 use Rattle.replay_theory.specs.Trace.{TraceLine}
 use Rattle.replay_theory.specs.Paths.{Path, nextPath, partAt}
-use Rattle.replay_theory.specs.Run.{Run, placeOf, moveOf, isOpen, openIn, effect, numbersAfter, callsAfter, after}
+use Rattle.replay_theory.specs.Run.{Run, placeOf, moveOf, isOpen, stillOpen, effect, numbersAfter, callsAfter, after}
 use Rattle.replay_theory.specs.Claim.{Reduced, partIn, openThrough, takesCall, openCallsOf}
 use Rattle.replay_theory.proofs.Proper.{Proper, Stepped}
 use Rattle.replay_theory.proofs.Complete.{reduced}
@@ -22,7 +22,7 @@ use Rattle.replay_theory.proofs.ThreadCalls.{oneIf, lookUp, callsFor, o
 -- ---- One step more
 
 open-append : (o : Option Thread) (ps qs : List Path) → openFor o (ps ++ qs) ≡ openFor o ps ++ openFor o qs
-unfolding openFor openIn
+unfolding openFor stillOpen
 open-append none ps qs = refl
 open-append (some t) [] qs = refl
 open-append (some t) (p ∷ ps) qs = by-cases (isOpen (partAt p (t .body))) (open-append (some t) ps qs)
@@ -34,7 +34,7 @@ open-append (some t) (p ∷ ps) qs = by-cases (isOpen (partAt p (t .body))) (ope
     by-cases false later = later
 
 open-one : (o : Option Thread) (b : Bool) (q : Path) → openFor o (oneIf b q) ≡ oneIf (b && isOpen (o >>= λ t. partAt q (t .body))) q
-unfolding openFor openIn isOpen
+unfolding openFor stillOpen isOpen
 open-one none true q = refl
 open-one none false q = refl
 open-one (some t) true q = refl

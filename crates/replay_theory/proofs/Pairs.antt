@@ -19,7 +19,7 @@ use Rattle.replay_theory.specs.LowestPair.{Uses, usesOf, clash, usesIn, 
 use Rattle.replay_theory.specs.Claim.{Meet, writesIt, readsIt, Racing}
 use Rattle.replay_theory.proofs.Proper.{Proper}
 use Rattle.replay_theory.proofs.Order.{order, same-place, place-order, not-below}
-use Rattle.replay_theory.proofs.Races.{clash-tells, clash-is-told, meet-is-race}
+use Rattle.replay_theory.proofs.Races.{clash-sound, clash-complete, meet-is-race}
 use Rattle.replay_theory.proofs.Lowest.{LowestPlaces, lowest-found, no-pair-clashes}
 
 -- ---- Places and threads
@@ -70,7 +70,7 @@ module _ (r : Run) where
         u = B .thread;
         iThere = record { number = A .number-there; thread = A .thread-there };
         jThere = record { number = B .number-there; thread = B .thread-there };
-        meet = clash-tells (r .state) (A .thread) (B .thread) ((λ z. clash (sym (A .its-uses) z) (sym (B .its-uses) z)) ∙ c);
+        meet = clash-sound (r .state) (A .thread) (B .thread) ((λ z. clash (sym (A .its-uses) z) (sym (B .its-uses) z)) ∙ c);
       }
 
   -- No pair of a race-free state is found.
@@ -86,14 +86,14 @@ module _ (r : Run) where
           let B = at-place (r .state .names) (r .numbers) (r .state .threads) (L .q) (j, L .b) (L .q-there) in
           let before = L .before in
           absurd (free (meet-is-race (r .state) (L .p) (L .q) (A .thread) (B .thread) (λ z. omega (arith, before, z)) (A .thread-there) (B .thread-there)
-          (clash-tells (r .state) (A .thread) (B .thread) ((λ z. clash (sym (A .its-uses) z) (sym (B .its-uses) z)) ∙ L .clashes))))
+          (clash-sound (r .state) (A .thread) (B .thread) ((λ z. clash (sym (A .its-uses) z) (sym (B .its-uses) z)) ∙ L .clashes))))
 
   module _ (proper : Proper r) where
     clash-at : (p q : ℕ) (t u : Thread) → p < q → ThreadAt (r .state) p t → ThreadAt (r .state) q u → Meet (r .state) t u → lowestAmong us ≡ none → ⊥
     clash-at p q t u l a b m free =
         let (i, _, s) = placed (r .state .names) (r .numbers) (r .state .threads) p t (proper .counted) a in
         let (j, _, k) = placed (r .state .names) (r .numbers) (r .state .threads) q u (proper .counted) b in
-        true-is-not-false (sym (clash-is-told (r .state) t u m) ∙ no-pair-clashes us free p q _ _ l s k)
+        true-is-not-false (sym (clash-complete (r .state) t u m) ∙ no-pair-clashes us free p q _ _ l s k)
 
     -- Where no pair is found, the state has no race.
     pub no-pair-is-race-free : lowestPair r ≡ none → RaceFree (r .state)
@@ -115,7 +115,7 @@ module _ (r : Run) where
         let (k, _, s) = placed (r .state .names) (r .numbers) (r .state .threads) (R .p) (R .t) (proper .counted) (R .iThere .thread) in
         let (m, _, z) = placed (r .state .names) (r .numbers) (r .state .threads) (R .q) (R .u) (proper .counted) (R .jThere .thread) in
         by-places (L .least (R .p) (R .q) _ _ (place-order r proper (R .p) (R .q) i′ j′ l (R .iThere .number) (R .jThere .number)) s z
-        (clash-is-told (r .state) (R .t) (R .u) (R .meet)))
+        (clash-complete (r .state) (R .t) (R .u) (R .meet)))
       where
         by-places : (L .p < R .p) ⊎ ((L .p ≡ R .p) × (L .q ≤ R .q)) → (i < i′) ⊎ ((i ≡ i′) × (j ≤ j′))
         by-places (inl b) = inl (order r proper (L .p) (R .p) i i′ b i-there (R .iThere .number))

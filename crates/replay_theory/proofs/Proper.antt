@@ -12,7 +12,7 @@ use Rattle.calculus.specs.Reduction.{wordOf, reduct, reduce, startState}
 use Rattle.calculus.proofs.Laws.Maps.{some-injective, bind-is-some, bind-goes-on, update-other}
 use Rattle.replay_theory.specs.Trace.{TraceLine}
 use Rattle.replay_theory.specs.Paths.{Path, nextPath}
-use Rattle.replay_theory.specs.Run.{Run, startRun, placeOf, partChosen, moveOf, taken, openCalls, Effect, effect, numbersAfter, threadsAfter, callsAfter, nextAfter, after, stepped}
+use Rattle.replay_theory.specs.Run.{Run, startRun, placeOf, partChosen, moveOf, recordCall, openCalls, Effect, effect, numbersAfter, threadsAfter, callsAfter, nextAfter, after, stepped}
 use Rattle.replay_theory.proofs.Lists.{length-set, length-append, length-remove}
 use Rattle.replay_theory.proofs.Changes.{movedTo, Changed, goes, called, made, spawned, joined, reduct-changes}
 
@@ -118,8 +118,8 @@ open-counted [] calls h = refl
 open-counted (t ∷ ts) [] h = absurd (omega (arith, h))
 open-counted (t ∷ ts) (ps ∷ calls) h = ap suc (open-counted ts calls (omega (arith, h)))
 
-taken-counted : (p : ℕ) (q : Path) (calls : List (List Path)) → length (taken p q calls) ≡ length calls
-unfolding taken
+taken-counted : (p : ℕ) (q : Path) (calls : List (List Path)) → length (recordCall p q calls) ≡ length calls
+unfolding recordCall
 taken-counted p q [] = refl
 taken-counted zero q (ps ∷ calls) = refl
 taken-counted (suc p) q (ps ∷ calls) = ap suc (taken-counted p q calls)
@@ -142,7 +142,7 @@ module _ (r : Run) (proper : Proper r) (m : Move) (q : Path) (fresh : m .fresh �
   change-keeps-proper (called b) = let t = movedTo u b in record {
     unused-from = proper .unused-from;
     counted = set-counted t;
-    all-called = open-counted (set (r .state .threads) (m .thread) t) (taken (m .thread) q (r .calls)) (taken-counted (m .thread) q (r .calls) ∙ set-called t);
+    all-called = open-counted (set (r .state .threads) (m .thread) t) (recordCall (m .thread) q (r .calls)) (taken-counted (m .thread) q (r .calls) ∙ set-called t);
     rising = proper .rising;
   }
   change-keeps-proper (made k new b) = let t = movedTo u b in record {

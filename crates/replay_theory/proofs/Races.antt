@@ -77,66 +77,66 @@ module _ (s : State) (t : Thread) where
       let same : m ≡ n = some-injective h₂ in
       (w, v, word-tells (nextWord (t .body)) next, h₃ ∙ ap some same, ap (s .names) (sym same) ∙ content-tells (s .names m) held)
 
-  reading-tells : (n : ℕ) → uses .reading ≡ some n → AboutToRead s t n
+  reading-sound : (n : ℕ) → uses .reading ≡ some n → AboutToRead s t n
   unfolding usesOf
-  reading-tells n h = let (w, v, next, asked, held) = cell-found reads n h in aboutToRead v held (next ∙ ap atWord (reads-tells w n asked))
+  reading-sound n h = let (w, v, next, asked, held) = cell-found reads n h in aboutToRead v held (next ∙ ap atWord (reads-tells w n asked))
 
-  writing-tells : (n : ℕ) → uses .writing ≡ some n → AboutToWrite s t n
+  writing-sound : (n : ℕ) → uses .writing ≡ some n → AboutToWrite s t n
   unfolding usesOf
-  writing-tells n h =
+  writing-sound n h =
       let (w, v, next, asked, held) = cell-found writes n h in
       let (u, is) = writes-tells w n asked in
       aboutToWrite v u held (next ∙ ap atWord is)
 
-  reading-is-told : (n : ℕ) → AboutToRead s t n → uses .reading ≡ some n
+  reading-complete : (n : ℕ) → AboutToRead s t n → uses .reading ≡ some n
   unfolding usesOf ifCell reads ofUnary unaryReads
-  reading-is-told n (aboutToRead v held next) = rw (next, held) refl
+  reading-complete n (aboutToRead v held next) = rw (next, held) refl
 
-  writing-is-told : (n : ℕ) → AboutToWrite s t n → uses .writing ≡ some n
+  writing-complete : (n : ℕ) → AboutToWrite s t n → uses .writing ≡ some n
   unfolding usesOf ifCell writes
-  writing-is-told n (aboutToWrite v u held next) = rw (next, held) refl
+  writing-complete n (aboutToWrite v u held next) = rw (next, held) refl
 
 -- ---- Two threads that meet
 
-same-cell-tells : (a b : Option ℕ) → sameCell a b ≡ true → (n : ℕ) × (a ≡ some n) × (b ≡ some n)
+same-cell-sound : (a b : Option ℕ) → sameCell a b ≡ true → (n : ℕ) × (a ≡ some n) × (b ≡ some n)
 unfolding sameCell
-same-cell-tells none b h = true-is-not-false (sym h)
-same-cell-tells (some n) none h = true-is-not-false (sym h)
-same-cell-tells (some n) (some m) h = (n, refl, ap some (sym (eqb-true n m h)))
+same-cell-sound none b h = true-is-not-false (sym h)
+same-cell-sound (some n) none h = true-is-not-false (sym h)
+same-cell-sound (some n) (some m) h = (n, refl, ap some (sym (eqb-true n m h)))
 
-same-cell-is-told : (a b : Option ℕ) (n : ℕ) → a ≡ some n → b ≡ some n → sameCell a b ≡ true
+same-cell-complete : (a b : Option ℕ) (n : ℕ) → a ≡ some n → b ≡ some n → sameCell a b ≡ true
 unfolding sameCell
-same-cell-is-told a b n p q = rw (p, q) (eq-eqb n n refl)
+same-cell-complete a b n p q = rw (p, q) (eq-eqb n n refl)
 
-pub clash-tells : (s : State) (t u : Thread) → clash (uses s t) (uses s u) ≡ true → Meet s t u
+pub clash-sound : (s : State) (t u : Thread) → clash (uses s t) (uses s u) ≡ true → Meet s t u
 unfolding clash
-clash-tells s t u = by-cases (sameCell (uses s t .writing) (uses s u .reading)) (sameCell (uses s t .writing) (uses s u .writing)) refl refl
+clash-sound s t u = by-cases (sameCell (uses s t .writing) (uses s u .reading)) (sameCell (uses s t .writing) (uses s u .writing)) refl refl
   where
     by-cases : (a b : Bool) → sameCell (uses s t .writing) (uses s u .reading) ≡ a → sameCell (uses s t .writing) (uses s u .writing) ≡ b →
         (a || (b || sameCell (uses s t .reading) (uses s u .writing))) ≡ true → Meet s t u
     by-cases true b p q h =
-        let (n, x, y) = same-cell-tells (uses s t .writing) (uses s u .reading) p in
-        writesIt n (writing-tells s t n x) (inl (reading-tells s u n y))
+        let (n, x, y) = same-cell-sound (uses s t .writing) (uses s u .reading) p in
+        writesIt n (writing-sound s t n x) (inl (reading-sound s u n y))
     by-cases false true p q h =
-        let (n, x, y) = same-cell-tells (uses s t .writing) (uses s u .writing) q in
-        writesIt n (writing-tells s t n x) (inr (writing-tells s u n y))
+        let (n, x, y) = same-cell-sound (uses s t .writing) (uses s u .writing) q in
+        writesIt n (writing-sound s t n x) (inr (writing-sound s u n y))
     by-cases false false p q h =
-        let (n, x, y) = same-cell-tells (uses s t .reading) (uses s u .writing) h in
-        readsIt n (reading-tells s t n x) (writing-tells s u n y)
+        let (n, x, y) = same-cell-sound (uses s t .reading) (uses s u .writing) h in
+        readsIt n (reading-sound s t n x) (writing-sound s u n y)
 
-pub clash-is-told : (s : State) (t u : Thread) → Meet s t u → clash (uses s t) (uses s u) ≡ true
+pub clash-complete : (s : State) (t u : Thread) → Meet s t u → clash (uses s t) (uses s u) ≡ true
 unfolding clash
-clash-is-told s t u (writesIt n w (inl x)) = rw (same-cell-is-told _ _ n (writing-is-told s t n w) (reading-is-told s u n x)) refl
-clash-is-told s t u (writesIt n w (inr x)) =
-    second (sameCell (uses s t .writing) (uses s u .reading)) _ _ (same-cell-is-told _ _ n (writing-is-told s t n w) (writing-is-told s u n x))
+clash-complete s t u (writesIt n w (inl x)) = rw (same-cell-complete _ _ n (writing-complete s t n w) (reading-complete s u n x)) refl
+clash-complete s t u (writesIt n w (inr x)) =
+    second (sameCell (uses s t .writing) (uses s u .reading)) _ _ (same-cell-complete _ _ n (writing-complete s t n w) (writing-complete s u n x))
   where
     second : (a b c : Bool) → b ≡ true → (a || (b || c)) ≡ true
     second true b c h = refl
     second false true c h = refl
     second false false c h = true-is-not-false (sym h)
-clash-is-told s t u (readsIt n x w) =
+clash-complete s t u (readsIt n x w) =
     third (sameCell (uses s t .writing) (uses s u .reading)) (sameCell (uses s t .writing) (uses s u .writing)) _
-    (same-cell-is-told _ _ n (reading-is-told s t n x) (writing-is-told s u n w))
+    (same-cell-complete _ _ n (reading-complete s t n x) (writing-complete s u n w))
   where
     third : (a b c : Bool) → c ≡ true → (a || (b || c)) ≡ true
     third true b c h = refl

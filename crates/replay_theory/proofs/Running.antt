@@ -22,7 +22,7 @@ use Rattle.calculus.proofs.Laws.Maps.{some-injective, none-is-not-some}
 use Rattle.calculus.proofs.Laws.Places.{set-elsewhere}
 use Rattle.replay_theory.specs.Trace.{TraceLine}
 use Rattle.replay_theory.specs.Paths.{Path, nextPath, partAt}
-use Rattle.replay_theory.specs.Run.{Run, startRun, placeOf, hasFinished, isOpen, openIn, Effect, plain, spawns, joins, opens, makes, effect, numbersAfter}
+use Rattle.replay_theory.specs.Run.{Run, startRun, placeOf, hasFinished, isOpen, stillOpen, Effect, plain, spawns, joins, opens, makes, effect, numbersAfter}
 use Rattle.replay_theory.specs.Claim.{Reduced, LanguageStep, takesCall, openCallsOf, Follows}
 use Rattle.replay_theory.specs.Exact.{RunsAt, OpenCallsRun}
 use Rattle.replay_theory.specs.declared.Numbers.{Numbers}
@@ -56,12 +56,12 @@ begins-may : (e b : Exp) (w : Redex) → nextWord e ≡ atWord w → MayRun (plu
 begins-may e b w next opened =
     (b, body-begins b e w next (is-going (partAt (nextPath e) (plug e b)) b (body-is-there b e w next) opened))
 
-open-run : (e : Exp) (ps : List Path) → Every (MayRun e) ps → Every (RunsAt e) (openIn e ps)
-unfolding openIn
+open-run : (e : Exp) (ps : List Path) → Every (MayRun e) ps → Every (RunsAt e) (stillOpen e ps)
+unfolding stillOpen
 open-run e [] may = tt
 open-run e (q ∷ ps) may = by-cases (isOpen (partAt q e)) refl (open-run e ps (may .1))
   where
-    by-cases : (b : Bool) → isOpen (partAt q e) ≡ b → Every (RunsAt e) (openIn e ps) → Every (RunsAt e) (if b then (q ∷ openIn e ps) else openIn e ps)
+    by-cases : (b : Bool) → isOpen (partAt q e) ≡ b → Every (RunsAt e) (stillOpen e ps) → Every (RunsAt e) (if b then (q ∷ stillOpen e ps) else stillOpen e ps)
     by-cases true is later = (may .0 is, later)
     by-cases false is later = later
 

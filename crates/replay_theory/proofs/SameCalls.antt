@@ -12,7 +12,7 @@ use Rattle.calculus.specs.Expression.{choose}
 use Rattle.calculus.specs.State.{Thread}
 use Rattle.calculus.specs.Reduction.{_>>=_}
 use Rattle.replay_theory.specs.Paths.{Path, partAt}
-use Rattle.replay_theory.specs.Run.{ObjectKind, sameKind, Run, placeOf, isOpen, openIn, opens, makes, sameEffect, effect, callLimit}
+use Rattle.replay_theory.specs.Run.{ObjectKind, sameKind, Run, placeOf, isOpen, stillOpen, opens, makes, sameEffect, effect, callLimit}
 use Rattle.replay_theory.specs.Claim.{Reduced, partIn, openThrough, takesCall, openCallsOf, Within}
 use Rattle.replay_theory.specs.Exact.{Alike}
 use Rattle.replay_theory.proofs.Effects.{another}
@@ -73,7 +73,7 @@ within-alike rs ss ds es all same W =
 -- ---- A step that makes something opens no call
 
 fewer : (o : Option Thread) (ps : List Path) → length (openFor o ps) ≤ length ps
-unfolding openFor openIn
+unfolding openFor stillOpen
 fewer none ps = omega arith
 fewer (some t) [] = omega arith
 fewer (some t) (q ∷ ps) = by-cases (isOpen (partAt q (t .body))) (fewer (some t) ps)

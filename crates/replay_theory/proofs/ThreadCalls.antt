@@ -16,7 +16,7 @@ use Rattle.calculus.specs.State.{Thread, Move, remove}
 use Rattle.calculus.specs.Reduction.{_>>=_}
 use Rattle.calculus.proofs.Laws.Maps.{some-injective, none-is-not-some}
 use Rattle.replay_theory.specs.Paths.{Path}
-use Rattle.replay_theory.specs.Run.{sameKind, Run, placeOf, taken, openIn, openCalls, Effect, plain, spawns, joins, opens, makes, sameEffect, numbersAfter, callsAfter, callLimit, callsWithin}
+use Rattle.replay_theory.specs.Run.{sameKind, Run, placeOf, recordCall, stillOpen, openCalls, Effect, plain, spawns, joins, opens, makes, sameEffect, numbersAfter, callsAfter, callLimit, callsWithin}
 use Rattle.replay_theory.proofs.Proper.{Rising, Proper}
 use Rattle.replay_theory.proofs.Order.{rising-above}
 
@@ -53,7 +53,7 @@ calls-looked i (n ∷ ns) (ps ∷ calls) = by-cases (eqb i n) (calls-looked i ns
 -- of these calls, those that are open in a thread
 unfoldable pub openFor : Option Thread → List Path → List Path
 openFor none ps = []
-openFor (some t) ps = openIn (t .body) ps
+openFor (some t) ps = stillOpen (t .body) ps
 
 -- ---- Threads by their numbers
 
@@ -121,7 +121,7 @@ looked-at {x = x} low high i (suc p) (n ∷ ns) (y ∷ xs) r h k = by-cases (eqb
 
 pub open-looked : (i : ℕ) (ns : List ℕ) (ts : List Thread) (calls : List (List Path)) →
     callsFor i ns (openCalls ts calls) ≡ openFor (lookUp i ns ts) (callsFor i ns calls)
-unfolding callsFor openCalls lookUp openFor openIn
+unfolding callsFor openCalls lookUp openFor stillOpen
 open-looked i [] ts calls = refl
 open-looked i (n ∷ ns) [] calls = refl
 open-looked i (n ∷ ns) (t ∷ ts) [] = by-cases (lookUp i (n ∷ ns) (t ∷ ts))
@@ -132,7 +132,7 @@ open-looked i (n ∷ ns) (t ∷ ts) [] = by-cases (lookUp i (n ∷ ns) (t ∷ ts
 open-looked i (n ∷ ns) (t ∷ ts) (ps ∷ calls) = by-cases (eqb i n) (open-looked i ns ts calls)
   where
     by-cases : (b : Bool) → callsFor i ns (openCalls ts calls) ≡ openFor (lookUp i ns ts) (callsFor i ns calls) →
-        (if b then openIn (t .body) ps else callsFor i ns (openCalls ts calls))
+        (if b then stillOpen (t .body) ps else callsFor i ns (openCalls ts calls))
         ≡ openFor (if b then some t else lookUp i ns ts) (if b then ps else callsFor i ns calls)
     by-cases true later = refl
     by-cases false later = later
@@ -147,8 +147,8 @@ spawned-looked i k (n ∷ ns) (ps ∷ calls) h = ap (λ (qs : List Path). if eqb
 
 -- Thread j, at place p, takes a call.
 taken-looked : (i j p : ℕ) (q : Path) (ns : List ℕ) (calls : List (List Path)) → length ns ≡ length calls → placeOf j ns ≡ some p →
-    callsFor i ns (taken p q calls) ≡ oneIf (eqb i j) q ++ callsFor i ns calls
-unfolding placeOf callsFor taken
+    callsFor i ns (recordCall p q calls) ≡ oneIf (eqb i j) q ++ callsFor i ns calls
+unfolding placeOf callsFor recordCall
 taken-looked i j p q [] calls h at = none-is-not-some at
 taken-looked i j p q (n ∷ ns) [] h at = absurd (omega (arith, h))
 taken-looked i j p q (n ∷ ns) (ps ∷ calls) h at =
@@ -166,18 +166,18 @@ taken-looked i j p q (n ∷ ns) (ps ∷ calls) h at =
     other false b e f d X later = later
 
     later-place : (o : Option ℕ) → Option·map suc o ≡ some p → eqb j n ≡ false → placeOf j ns ≡ o →
-        ((k : ℕ) → placeOf j ns ≡ some k → callsFor i ns (taken k q calls) ≡ oneIf (eqb i j) q ++ callsFor i ns calls) →
-        callsFor i (n ∷ ns) (taken p q (ps ∷ calls)) ≡ oneIf (eqb i j) q ++ callsFor i (n ∷ ns) (ps ∷ calls)
+        ((k : ℕ) → placeOf j ns ≡ some k → callsFor i ns (recordCall k q calls) ≡ oneIf (eqb i j) q ++ callsFor i ns calls) →
+        callsFor i (n ∷ ns) (recordCall p q (ps ∷ calls)) ≡ oneIf (eqb i j) q ++ callsFor i (n ∷ ns) (ps ∷ calls)
     later-place none z d w later = none-is-not-some z
     later-place (some k) z d w later =
-        ap (λ (x : ℕ). callsFor i (n ∷ ns) (taken x q (ps ∷ calls))) (sym (some-injective z))
-        ∙ other (eqb i n) (eqb i j) refl refl d (callsFor i ns (taken k q calls)) (later k w)
+        ap (λ (x : ℕ). callsFor i (n ∷ ns) (recordCall x q (ps ∷ calls))) (sym (some-injective z))
+        ∙ other (eqb i n) (eqb i j) refl refl d (callsFor i ns (recordCall k q calls)) (later k w)
 
     by-cases : (b : Bool) → eqb j n ≡ b → (if b then some 0 else Option·map suc (placeOf j ns)) ≡ some p →
-        ((k : ℕ) → placeOf j ns ≡ some k → callsFor i ns (taken k q calls) ≡ oneIf (eqb i j) q ++ callsFor i ns calls) →
-        callsFor i (n ∷ ns) (taken p q (ps ∷ calls)) ≡ oneIf (eqb i j) q ++ callsFor i (n ∷ ns) (ps ∷ calls)
+        ((k : ℕ) → placeOf j ns ≡ some k → callsFor i ns (recordCall k q calls) ≡ oneIf (eqb i j) q ++ callsFor i ns calls) →
+        callsFor i (n ∷ ns) (recordCall p q (ps ∷ calls)) ≡ oneIf (eqb i j) q ++ callsFor i (n ∷ ns) (ps ∷ calls)
     by-cases true is z later =
-        ap (λ (x : ℕ). callsFor i (n ∷ ns) (taken x q (ps ∷ calls))) (sym (some-injective z))
+        ap (λ (x : ℕ). callsFor i (n ∷ ns) (recordCall x q (ps ∷ calls))) (sym (some-injective z))
         ∙ same-test (eqb i n)
         ∙ ap (λ (x : ℕ). oneIf (eqb i x) q ++ (if eqb i n then ps else callsFor i ns calls)) (sym (eqb-true j n is))
     by-cases false is z later = later-place (placeOf j ns) z is refl later

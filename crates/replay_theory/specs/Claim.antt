@@ -14,7 +14,7 @@ use lib.Dec.{eqb}
 use lib.ListN.{getElem?, length, take}
 use Rattle.spec.specs.Choice.{if_then_else_}
 use Rattle.spec.specs.Text.{Line, lines}
-use Rattle.spec.specs.Reading.{on}
+use Rattle.spec.specs.Reading.{ok}
 use Rattle.spec.specs.Program.{Program}
 use Rattle.spec.specs.Verdict.{verdict}
 use Rattle.spec.specs.declared.Answer.the-variants.{Accept}
@@ -26,7 +26,7 @@ use Rattle.soundness.specs.Erasure.{eraseProgram}
 use Rattle.replay_theory.specs.Trace.{TraceLine, traceLine}
 use Rattle.replay_theory.specs.Paths.{Path, nextPath, partAt}
 use Rattle.replay_theory.specs.Run.{ObjectKind, sameKind, Run, startRun, placeOf, recordOf, hasFinished, partChosen, isOpen, Effect, spawns, opens, makes, sameEffect, effect, numbersAfter, threadsAfter, threadLimit, thingLimit, callLimit}
-use Rattle.replay_theory.specs.Replay.{way, judged, lineNumbers}
+use Rattle.replay_theory.specs.Replay.{execution, judged, lineNumbers}
 use Rattle.replay_theory.specs.declared.Status.the-variants.{Running}
 use Rattle.replay_theory.specs.declared.FirstRace.{FirstRace}
 use Rattle.replay_theory.specs.declared.FirstRace.the-variants.{None, Found}
@@ -34,7 +34,7 @@ use Rattle.replay_theory.specs.declared.Numbers.{Numbers}
 
 -- The runs of a replay, the start first: state n is that of run n.
 abbrev pub runsAlong : Run → List Line → List Run
-runsAlong r ls = r ∷ way 1 r ls .0
+runsAlong r ls = r ∷ execution 1 r ls .0
 
 abbrev pub runsOf : Program → (traceText : List ℕ) → List Run
 runsOf P traceText = runsAlong (startRun (eraseProgram P)) (lines traceText)
@@ -204,20 +204,20 @@ pub record FirstRaceIs (rs : List Run) (n i j : ℕ) : Type 0 where
   pub before : (m : ℕ) (r : Run) → m < n → getElem? rs m ≡ some r → RaceFree (r .state)
 
 -- What a report says of the states of these runs: no race in any, or the first.
-abbrev pub RaceTold : List Run → FirstRace → Type 0
-RaceTold rs None = Every (λ r. RaceFree (r .state)) rs
-RaceTold rs (Found n i j) = FirstRaceIs rs n i j
+abbrev pub RaceReported : List Run → FirstRace → Type 0
+RaceReported rs None = Every (λ r. RaceFree (r .state)) rs
+RaceReported rs (Found n i j) = FirstRaceIs rs n i j
 
 -- ------------------------------------------------------------------ of two texts
 
 -- For the program that the sheet lists, once it is judged in a space of so many numbers: what the steps and the four numbers tell,
 abbrev pub TraceFollowed : (room : ℕ) (programText traceText : List ℕ) → (steps : ℕ) → Numbers → Type 0
-TraceFollowed room programText traceText steps answer = (P : Program) → judged room programText ≡ on P →
+TraceFollowed room programText traceText steps answer = (P : Program) → judged room programText ≡ ok P →
     Follows (runsOf P traceText) (lines traceText) steps answer
 
 -- what the race tells,
 abbrev pub RaceFound : (room : ℕ) (programText traceText : List ℕ) → FirstRace → Type 0
-RaceFound room programText traceText race = (P : Program) → judged room programText ≡ on P → RaceTold (runsOf P traceText) race
+RaceFound room programText traceText race = (P : Program) → judged room programText ≡ ok P → RaceReported (runsOf P traceText) race
 
 -- and "For an accepted job it never reports a race", with whatever split sheet it is accepted.
 abbrev pub NoneIfAccepted : (programText : List ℕ) → FirstRace → Type 0

@@ -12,13 +12,13 @@ use Rattle.calculus.specs.State.{Thread}
 use Rattle.calculus.specs.Claim.{Every}
 use Rattle.replay_theory.specs.Paths.{Path}
 use Rattle.replay_theory.specs.Run.{ObjectKind, Run, startRun, makes, effect}
-use Rattle.replay_theory.specs.Claim.{Numbered, LowestFinished, openCallsOf, Runs, Follows, RaceTold}
+use Rattle.replay_theory.specs.Claim.{Numbered, LowestFinished, openCallsOf, Runs, Follows, RaceReported}
 use Rattle.replay_theory.specs.declared.FirstRace.{FirstRace}
 use Rattle.replay_theory.specs.declared.Numbers.{Numbers}
 
 -- One report of given runs.
 abbrev pub OneRace : Type 0
-OneRace = (rs : List Run) (x y : FirstRace) → RaceTold rs x → RaceTold rs y → x ≡ y
+OneRace = (rs : List Run) (x y : FirstRace) → RaceReported rs x → RaceReported rs y → x ≡ y
 
 -- One count of steps and one answer of given runs.
 abbrev pub OneEnd : Type 0
@@ -48,7 +48,7 @@ module _ {rs ss : List Run} {ls : List Line} {m n : ℕ} {a b : Numbers} (F : Fo
       F .each k i .step .move .fresh ≡ G .each k j .step .move .fresh
 
   -- The one is the other, run by run and step by step.
-  pub record SameWay : Type 0 where
+  pub record SameExecution : Type 0 where
     pub steps : m ≡ n
     pub answer : a ≡ b
     pub reduced : F .reduced ≡ G .reduced
@@ -56,9 +56,9 @@ module _ {rs ss : List Run} {ls : List Line} {m n : ℕ} {a b : Numbers} (F : Fo
     pub runs : (k : ℕ) (r s : Run) → getElem? rs k ≡ some r → getElem? ss k ≡ some s → Alike r s
 
 -- From the start of a program one list of runs follows a trace, and with it one count of steps and one answer.
-abbrev pub OneWay : Type 0
-OneWay = (p : Program) (rs ss : List Run) (ls : List Line) (m n : ℕ) (a b : Numbers) → getElem? rs 0 ≡ some (startRun p) → getElem? ss 0 ≡ some (startRun p) →
-    (F : Follows rs ls m a) (G : Follows ss ls n b) → SameNames F G → SameWay F G
+abbrev pub OneExecution : Type 0
+OneExecution = (p : Program) (rs ss : List Run) (ls : List Line) (m n : ℕ) (a b : Numbers) → getElem? rs 0 ≡ some (startRun p) → getElem? ss 0 ≡ some (startRun p) →
+    (F : Follows rs ls m a) (G : Follows ss ls n b) → SameNames F G → SameExecution F G
 
 -- ------------------------------------------------------------------ its open calls
 

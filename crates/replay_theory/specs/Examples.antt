@@ -6,14 +6,14 @@ use mathlib.Core.List.{List, [], _∷_, map}
 use mathlib.Core.Option.{Option}
 use native.Mathlib.Decide.{ℕ-discrete, decLt}
 use Rattle.spec.specs.Text.{Line, lines}
-use Rattle.spec.specs.Reading.{Out, stop, on}
+use Rattle.spec.specs.Reading.{Result, refuse, ok}
 use Rattle.spec.specs.Program.{Program}
 use Rattle.spec.specs.Pairs.KnownPairs.{barred, found, P}
 use Rattle.spec.specs.Pairs.EdgeSheets.{times}
 use Rattle.calculus.specs.Reduction.{reduce, startState}
 use Rattle.soundness.specs.Erasure.{eraseProgram, erase}
-use Rattle.replay_theory.specs.Run.{Run, startRun, recordOf, placeOf, hasFinished, recordFor, partOfIf, noChoice, partChosen, lowestFinished, finishedFor, ofUnary, nameIn, moveOf, taken, isOpen, openIn, openCalls, unaryEffect, kindMade, effect, numbersAfter, threadsAfter, callsAfter, oneMore, thingsAfter, nextAfter, after, stepped, threadLimit, thingLimit, withinLimits, callLimit, callsWithin, within}
-use Rattle.replay_theory.specs.Replay.{lineOutcome, way, replaySpace, judged, replay, lineNumbers, returnedFor, limited, goesOn, raceOr, firstRace, reported, refused, played, sheetNumbers}
+use Rattle.replay_theory.specs.Run.{Run, startRun, recordOf, placeOf, hasFinished, recordFor, partOfIf, noChoice, partChosen, lowestFinished, finishedFor, ofUnary, nameIn, moveOf, recordCall, isOpen, stillOpen, openCalls, unaryEffect, kindMade, effect, numbersAfter, threadsAfter, callsAfter, oneMore, thingsAfter, nextAfter, after, stepped, threadLimit, thingLimit, withinLimits, callLimit, callsWithin, within}
+use Rattle.replay_theory.specs.Replay.{lineOutcome, execution, replaySpace, judged, replay, lineNumbers, returnedFor, checkLimits, continue, raceOr, firstRace, reported, refused, replayed, sheetNumbers}
 use Rattle.replay_theory.specs.Trace.{twoNumbers, spelled, traceLine}
 use Rattle.replay_theory.specs.Paths.{pathOnce, nextPath, onlyPart, partOf, partAt}
 use Rattle.replay_theory.specs.LowestPair.{unaryReads, reads, writes, ifCell, usesOf, sameCell, clash, usesIn, clashing, pairOr, lowestAmong, lowestPair}
@@ -40,7 +40,7 @@ numbersAndReport a = (returnedFor (a .ending), a .report)
 
 -- they give each row of a table its answer and its report
 unfoldable pub Replays : List Recorded → Type 0
-unfolding found ℕ-discrete decLt reduce startState erase twoNumbers spelled traceLine pathOnce nextPath onlyPart partOf partAt startRun placeOf hasFinished partOfIf noChoice partChosen lowestFinished finishedFor ofUnary nameIn moveOf taken isOpen openIn openCalls unaryEffect kindMade effect numbersAfter threadsAfter callsAfter oneMore thingsAfter nextAfter after stepped threadLimit thingLimit withinLimits callLimit callsWithin within unaryReads reads writes ifCell usesOf sameCell clash usesIn clashing pairOr lowestAmong lowestPair limited lineOutcome goesOn way raceOr firstRace reported refused replaySpace judged played replay sheetNumbers lineNumbers returnedFor recordFor recordOf numbersAndReport
+unfolding found ℕ-discrete decLt reduce startState erase twoNumbers spelled traceLine pathOnce nextPath onlyPart partOf partAt startRun placeOf hasFinished partOfIf noChoice partChosen lowestFinished finishedFor ofUnary nameIn moveOf recordCall isOpen stillOpen openCalls unaryEffect kindMade effect numbersAfter threadsAfter callsAfter oneMore thingsAfter nextAfter after stepped threadLimit thingLimit withinLimits callLimit callsWithin within unaryReads reads writes ifCell usesOf sameCell clash usesIn clashing pairOr lowestAmong lowestPair checkLimits lineOutcome continue execution raceOr firstRace reported refused replaySpace judged replayed replay sheetNumbers lineNumbers returnedFor recordFor recordOf numbersAndReport
 Replays rows =
     map (λ (r : Recorded). numbersAndReport (replay replaySpace (barred (r .program)) (barred (r .trace)))) rows
     ≡ map (λ (r : Recorded). r .expected) rows
@@ -251,9 +251,9 @@ calledRows =
 unfoldable pub twoFinished : String
 twoFinished = "P,12|let,0|newtid,0|let,1|spawn,0|var,0|int,0|let,2|spawn,0|var,0|int,0|join,0|var,0|"
 
-unfoldable pub stepsFrom : Out Program → List Line → List Run
-stepsFrom (stop r) ls = []
-stepsFrom (on P) ls = way 1 (startRun (eraseProgram P)) ls .0
+unfoldable pub stepsFrom : Result Program → List Line → List Run
+stepsFrom (refuse r) ls = []
+stepsFrom (ok P) ls = execution 1 (startRun (eraseProgram P)) ls .0
 
 -- the records of threads 0 to 3 in the last state of a replay
 unfoldable pub lastRecords : List Run → List (Option Status)

@@ -7,7 +7,7 @@ use lib.Dec.{leb}
 use lib.ListN.{length}
 use Rattle.spec.specs.Choice.{if_then_else_}
 use Rattle.spec.specs.Text.{Line, lines}
-use Rattle.spec.specs.Reading.{Out, stop, on, _>>=_, demand}
+use Rattle.spec.specs.Reading.{Result, refuse, ok, _>>=_, require}
 use Rattle.spec.specs.Program.{Program, program, programLimit}
 use Rattle.spec.specs.Verdict.{returned}
 use Rattle.spec.specs.declared.Refusal.{Refusal}
@@ -33,24 +33,24 @@ pub data Outcome (A : Type 0) : Type 0 where
   step : A → Outcome A
 
 -- 48 is for a step that the language could take
-unfoldable pub limited : {A : Type 0} → (within : A → Bool) → Option A → Outcome A
-limited within none = noStep
-limited within (some a) = if within a then step a else pastLimit
+unfoldable pub checkLimits : {A : Type 0} → (within : A → Bool) → Option A → Outcome A
+checkLimits within none = noStep
+checkLimits within (some a) = if within a then step a else pastLimit
 
 unfoldable pub lineOutcome : {A : Type 0} → (stepped : TraceLine → Option A) → (within : A → Bool) → Option TraceLine → Outcome A
 lineOutcome stepped within none = badForm
-lineOutcome stepped within (some l) = limited within (stepped l)
+lineOutcome stepped within (some l) = checkLimits within (stepped l)
 
 -- the runs after each step, and how the trace ends; `line` is the number of the first line
-unfoldable pub goesOn : (line : ℕ) → Outcome Run → (Run → List Run × Ending) → List Run × Ending
-goesOn k badForm rest = ([], TraceForm k)
-goesOn k noStep rest = ([], NoStep k)
-goesOn k pastLimit rest = ([], PastLimit k)
-goesOn k (step r) rest = let (rs, ending) = rest r in (r ∷ rs, ending)
+unfoldable pub continue : (line : ℕ) → Outcome Run → (Run → List Run × Ending) → List Run × Ending
+continue k badForm rest = ([], TraceForm k)
+continue k noStep rest = ([], NoStep k)
+continue k pastLimit rest = ([], PastLimit k)
+continue k (step r) rest = let (rs, ending) = rest r in (r ∷ rs, ending)
 
-unfoldable pub way : (line : ℕ) → Run → List Line → List Run × Ending
-way k r [] = ([], Done)
-way k r (l ∷ ls) = goesOn k (lineOutcome (stepped r) within (traceLine l)) (λ r′. way (k + 1) r′ ls)
+unfoldable pub execution : (line : ℕ) → Run → List Line → List Run × Ending
+execution k r [] = ([], Done)
+execution k r (l ∷ ls) = continue k (lineOutcome (stepped r) within (traceLine l)) (λ r′. execution (k + 1) r′ ls)
 
 -- ------------------------------------------------------------------ the report
 
@@ -78,19 +78,19 @@ unfoldable pub replaySpace : ℕ
 replaySpace = 542960
 
 -- "less is 1, before all else"; "The replay first judges the program sheet"
-unfoldable pub judged : (room : ℕ) → (programText : List ℕ) → Out Program
+unfoldable pub judged : (room : ℕ) → (programText : List ℕ) → Result Program
 judged room programText = do
-  enough ← demand (leb replaySpace room) ShortWorkspace
-  fits ← demand (leb (length programText) programLimit) LongProgram
+  enough ← require (leb replaySpace room) ShortWorkspace
+  fits ← require (leb (length programText) programLimit) LongProgram
   program programText
 
-unfoldable pub played : Out Program → List Line → Replayed
-played (stop r) ls = refused r
-played (on P) ls = let start = startRun (eraseProgram P) in reported start (way 1 start ls)
+unfoldable pub replayed : Result Program → List Line → Replayed
+replayed (refuse r) ls = refused r
+replayed (ok P) ls = let start = startRun (eraseProgram P) in reported start (execution 1 start ls)
 
 -- the replay of a program and a trace, with a space of `room` numbers
 unfoldable pub replay : (room : ℕ) → (programText traceText : List ℕ) → Replayed
-replay room programText traceText = played (judged room programText) (lines traceText)
+replay room programText traceText = replayed (judged room programText) (lines traceText)
 
 -- ------------------------------------------------------------------ the returned numbers
 

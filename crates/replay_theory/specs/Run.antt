@@ -111,24 +111,24 @@ moveOf r p w c = record { thread = p; part = c; finished = finishedFor (nameIn w
 -- ------------------------------------------------------------------ open calls
 
 -- the thread at that place takes a call at the path q
-unfoldable pub taken : (place : ℕ) → Path → List (List Path) → List (List Path)
-taken p q [] = []
-taken zero q (ps ∷ calls) = (q ∷ ps) ∷ calls
-taken (suc p) q (ps ∷ calls) = ps ∷ taken p q calls
+unfoldable pub recordCall : (place : ℕ) → Path → List (List Path) → List (List Path)
+recordCall p q [] = []
+recordCall zero q (ps ∷ calls) = (q ∷ ps) ∷ calls
+recordCall (suc p) q (ps ∷ calls) = ps ∷ recordCall p q calls
 
 -- "a call taken is open in each state where its body is no value yet": the body stands where the call stood
 unfoldable pub isOpen : Option Exp → Bool
 isOpen none = false
 isOpen (some body) = not (hasFinished (nextWord body))
 
-unfoldable pub openIn : Exp → List Path → List Path
-openIn e [] = []
-openIn e (q ∷ ps) = if isOpen (partAt q e) then (q ∷ openIn e ps) else openIn e ps
+unfoldable pub stillOpen : Exp → List Path → List Path
+stillOpen e [] = []
+stillOpen e (q ∷ ps) = if isOpen (partAt q e) then (q ∷ stillOpen e ps) else stillOpen e ps
 
 unfoldable pub openCalls : List Thread → List (List Path) → List (List Path)
 openCalls [] calls = []
 openCalls (t ∷ ts) [] = []
-openCalls (t ∷ ts) (ps ∷ calls) = openIn (t .body) ps ∷ openCalls ts calls
+openCalls (t ∷ ts) (ps ∷ calls) = stillOpen (t .body) ps ∷ openCalls ts calls
 
 -- ------------------------------------------------------------------ the run after a step
 
@@ -188,7 +188,7 @@ unfoldable pub callsAfter : Move → (q : Path) → Effect → List (List Path) 
 callsAfter m q plain calls = calls
 callsAfter m q spawns calls = calls ++ ([] ∷ [])
 callsAfter m q joins calls = remove calls (m .finished)
-callsAfter m q opens calls = taken (m .thread) q calls
+callsAfter m q opens calls = recordCall (m .thread) q calls
 callsAfter m q (makes k) calls = calls
 
 unfoldable pub thingsAfter : Effect → (things : ObjectKind → ℕ) → ObjectKind → ℕ

@@ -4,8 +4,8 @@ use spec::Answer;
 use writer::write_bytes;
 use writer::write_numbers;
 ghost use Prim.Native.Nat.{_≤_};
-ghost use Rattle.spec.specs.Verdict.{four};
-ghost use Rattle.writer.specs.Buffer.{Written};
+ghost use Rattle.spec.specs.Verdict.{numbers4};
+ghost use Rattle.writer.specs.Buffer.{WrittenAt};
 ghost use Rattle.report.specs.Line.{refusalLine, answerLine, outputLine};
 
 // What a run comes to: the answer to the pair of sheets, or that they can't be read.
@@ -15,7 +15,7 @@ pub enum Outcome {
 }
 
 fn write_refusal(buffer: &mut [u8], number: u32, line: u32, condition: u32, location: u32) -> usize
-    ensures { λ n. ⌜ Written (now (buffer .entry)) (now (buffer .exit)) 0 (refusalLine (four number line condition location)) n ⌝ }
+    ensures { λ n. ⌜ WrittenAt (now (buffer .entry)) (now (buffer .exit)) 0 (refusalLine (numbers4 number line condition location)) n ⌝ }
     ensures { λ n. ⌜ n ≤ 51 ⌝ }
 {
     let headed = write_bytes(buffer, 0, b"REFUSE,");
@@ -23,7 +23,7 @@ fn write_refusal(buffer: &mut [u8], number: u32, line: u32, condition: u32, loca
 }
 
 fn write_answer(buffer: &mut [u8], answer: Answer) -> usize
-    ensures { λ n. ⌜ Written (now (buffer .entry)) (now (buffer .exit)) 0 (answerLine answer) n ⌝ }
+    ensures { λ n. ⌜ WrittenAt (now (buffer .entry)) (now (buffer .exit)) 0 (answerLine answer) n ⌝ }
     ensures { λ n. ⌜ n ≤ 51 ⌝ }
 {
     match answer {
@@ -37,7 +37,7 @@ fn write_answer(buffer: &mut [u8], answer: Answer) -> usize
 
 // Writes the line in front of a buffer, and hands back its length.
 pub fn write_line(buffer: &mut [u8], outcome: Outcome) -> usize
-    ensures line { λ n. ⌜ Written (now (buffer .entry)) (now (buffer .exit)) 0 (outputLine outcome) n ⌝ }
+    ensures line { λ n. ⌜ WrittenAt (now (buffer .entry)) (now (buffer .exit)) 0 (outputLine outcome) n ⌝ }
     ensures short { λ n. ⌜ n ≤ 51 ⌝ }
 {
     match outcome {

@@ -31,7 +31,7 @@ use Rattle.workspace.specs.Layout.{mapCell, printed, ruleOf, leafCode, unaryCod
 use Rattle.workspace.specs.Holds.{HoldsSplit}
 use Rattle.workspace.proofs.Shown.{Stands, type-shown, first-stands, second-stands, has-shown}
 use Rattle.conditions.specs.Agreement.{agreeIn, mayShowIn}
-use Rattle.views.specs.declared.View.{View}
+use Rattle.views.specs.declared.StepView.{StepView}
 use Rattle.views.proofs.Views.{Part, Signed, Bound}
 use Rattle.rules.specs.Table.{ruleRow, procedureRow}
 use Rattle.conditions.proofs.Agreement.{agree-shown, may-show-shown, contains-shown}
@@ -43,7 +43,7 @@ some-is-one zero = refl
 some-is-one (suc x) = le-leb 1 (suc x) (omega arith) ∙ sym (lt-ltb 0 (suc x) (omega arith))
 
 module _ (w : List ℕ) (S : Split) (P : Program) (H : HoldsSplit w S) (R : InRange P S)
-    (s : View) (located : s .locations ≡ S .header .locations) (divided : s .denominator ≡ S .header .denominator)
+    (s : StepView) (located : s .locations ≡ S .header .locations) (divided : s .denominator ≡ S .header .denominator)
     (Γ : Env) (pre : Map) (pre-stands : Stands w S (s .pre) pre) (l : Position) (v : ℕ) where
   -- ---------------------------------------------------------------- types and maps that the view shows
 

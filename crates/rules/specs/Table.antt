@@ -18,24 +18,24 @@ use Rattle.conditions.specs.Agreement.{agreeIn, mayShowIn}
 use Rattle.conditions.specs.declared.Relation.{Relation}
 use Rattle.conditions.specs.declared.Relation.the-variants.{Equal, AtLeast, Covers, Sum}
 use Rattle.spec.specs.declared.Signature.{Signature}
-use Rattle.views.specs.declared.View.{View}
+use Rattle.views.specs.declared.StepView.{StepView}
 
 -- a relation at every location of the sheet
-abbrev pub flows : (w : List ℕ) → View → Relation → Condition
+abbrev pub flows : (w : List ℕ) → StepView → Relation → Condition
 flows w s r = F (fails w (s .locations) r)
 
 -- ------------------------------------------------------------------ spec's table over a view
 
 -- what a node of the table is over a view: its type by number, that type's line, its post
-abbrev pub typeIn : View → Node → TypeNumber
+abbrev pub typeIn : StepView → Node → TypeNumber
 typeIn s step = s .typed
 typeIn s e1 = s .type1
 typeIn s e2 = s .type2
 
-abbrev pub kindIn : (w : List ℕ) → View → Node → TypeLine
+abbrev pub kindIn : (w : List ℕ) → StepView → Node → TypeLine
 kindIn w s n = typeAt w (typeIn s n)
 
-abbrev pub postIn : View → Node → MapNumber
+abbrev pub postIn : StepView → Node → MapNumber
 postIn s step = s .post
 postIn s e1 = s .post1
 postIn s e2 = s .post2
@@ -46,13 +46,13 @@ holder (Leaf x) = step
 holder (Unary x) = e1
 holder (Binary x) = e1
 
-abbrev pub typeTermIn : View → TypeTerm → TypeNumber
+abbrev pub typeTermIn : StepView → TypeTerm → TypeNumber
 typeTermIn s (type-of n) = typeIn s n
 typeTermIn s type-of-its-let = s .bound
 typeTermIn s result = s .signature .result
 typeTermIn s argument = s .signature .argument
 
-abbrev pub mapTermIn : View → (x : TypeLine) → MapTerm → MapNumber
+abbrev pub mapTermIn : StepView → (x : TypeLine) → MapTerm → MapNumber
 mapTermIn s x pre = s .pre
 mapTermIn s x entry.s = s .start
 mapTermIn s x (post-of n) = postIn s n
@@ -65,7 +65,7 @@ mapTermIn s x before = s .signature .before
 mapTermIn s x after = s .signature .after
 
 -- what an entry says, where x is the holder's type line
-abbrev pub saysIn : (w : List ℕ) → View → (x : TypeLine) → Entry → Condition
+abbrev pub saysIn : (w : List ℕ) → StepView → (x : TypeLine) → Entry → Condition
 saysIn w s x (entry._a_ n k) = T (is k (kindIn w s n))
 saysIn w s x (entry._is_ n t) = T (agreeIn w (s .locations) (typeIn s n) (typeTermIn s t))
 saysIn w s x (entry._shows_ n t) = T (mayShowIn w (s .locations) (typeIn s n) (typeTermIn s t))
@@ -78,10 +78,10 @@ saysIn w s x (entry._＝_⊕_ l m n) = flows w s (Sum (mapTermIn s x m) (mapTerm
 saysIn w s x entry.post-at-p＞0 = hasAtLeast w (s .post) (refLocation x) 1
 saysIn w s x entry.post-at-p≧D = hasAtLeast w (s .post) (refLocation x) (s .denominator)
 
-abbrev pub rowIn : Word → (w : List ℕ) → View → List Condition
+abbrev pub rowIn : Word → (w : List ℕ) → StepView → List Condition
 rowIn x w s = map (saysIn w s (kindIn w s (holder x))) (table x)
 
-unfoldable pub ruleRow : Rule → (w : List ℕ) → View → List Condition
+unfoldable pub ruleRow : Rule → (w : List ℕ) → StepView → List Condition
 ruleRow rule = rowIn (wordBy rule)
 
 -- ------------------------------------------------------------------ a `proc` line

@@ -4,22 +4,22 @@ use conditions::Relation;
 use conditions::flow;
 use spec::MapNumber;
 use spec::Ruling;
-use views::View;
+use views::StepView;
 ghost use mathlib.Core.Path.{_≡_};
-ghost use Rattle.spec.specs.Sites.{judge};
+ghost use Rattle.spec.specs.StepContexts.{judge};
 ghost use Rattle.conditions.specs.declared.Relation.the-variants.{Equal, AtLeast, Sum};
 ghost use Rattle.conditions.specs.Outcome.{outcome};
 ghost use Rattle.rules.specs.Table.{flows};
 
 // a = b.
-pub fn equal(work: &[u32], s: View, condition: u32, a: MapNumber, b: MapNumber) -> Ruling
+pub fn equal(work: &[u32], s: StepView, condition: u32, a: MapNumber, b: MapNumber) -> Ruling
     ensures { λ r. ⌜ outcome r ≡ judge (s .line) condition (flows (now (work .entry)) s (Equal a b)) ⌝ }
 {
     flow(s.line, condition, work, s.locations, Relation::Equal(a, b))
 }
 
 // a ≥ b.
-pub fn at_least(work: &[u32], s: View, condition: u32, a: MapNumber, b: MapNumber) -> Ruling
+pub fn at_least(work: &[u32], s: StepView, condition: u32, a: MapNumber, b: MapNumber) -> Ruling
     ensures { λ r. ⌜ outcome r ≡ judge (s .line) condition (flows (now (work .entry)) s (AtLeast a b)) ⌝ }
 {
     flow(
@@ -34,7 +34,7 @@ pub fn at_least(work: &[u32], s: View, condition: u32, a: MapNumber, b: MapNumbe
 // a + b = c.
 pub fn sum(
     work: &[u32],
-    s: View,
+    s: StepView,
     condition: u32,
     a: MapNumber,
     b: MapNumber,

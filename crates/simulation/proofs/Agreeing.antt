@@ -7,14 +7,14 @@ use native.Mathlib.Omega.{arith}
 use native.Mathlib.Decide.{decLt}
 use lib.ListN.{length, getD, set, length-set}
 use lib.Seq.{getD-set-same, getD-set-other}
-use Rattle.control.specs.Layout.{keptValuesAt, openCallsAt, focusModesAt, focusPlacesAt, focusValuesAt, focusRowsAt, thingCountsAt, spaceSize}
-use Rattle.control.specs.declared.Focus.{Focus}
-use Rattle.control.specs.Control.{variable, kept, calledFrom, continuation, focus}
-use Rattle.engine.specs.Focuses.{focusAt, focusPut}
+use Rattle.control.specs.Layout.{keptValuesAt, openCallsAt, controlPointModesAt, controlPointPlacesAt, controlPointValuesAt, controlPointRowsAt, thingCountsAt, spaceSize}
+use Rattle.control.specs.declared.ControlPoint.{ControlPoint}
+use Rattle.control.specs.Control.{variable, kept, calledFrom, continuation, controlPoint}
+use Rattle.engine.specs.ControlPoints.{controlPointAt, controlPointPut}
 use Rattle.machine.specs.Control as machine
 use Rattle.machine.specs.Control.{Control, done, at, openCalls}
 use Rattle.simulation.proofs.Held.{WordAt, placeOf, ControlAt}
-use Rattle.simulation.proofs.Turning.{SameBut, RowIn}
+use Rattle.simulation.proofs.Advancing.{SameBut, RowIn}
 use Rattle.simulation.proofs.Finding.{RowsSame, frames-same, frames-inside}
 
 -- in each row of thread i the variables are the same, the values kept for its writes and the calls
@@ -26,14 +26,14 @@ pub record RowsAgree (i : ℕ) (s s′ : List ℕ) : Type 0 where
 -- and it stands at the same place
 pub record Agree (i : ℕ) (s s′ : List ℕ) : Type 0 where
   pub rows : RowsAgree i s s′
-  pub focused : focusAt s′ i ≡ focusAt s i
+  pub focused : controlPointAt s′ i ≡ controlPointAt s i
 
 -- the numbers that all threads share are the same
 abbrev pub SharedSame : (s s′ : List ℕ) → Type 0
 SharedSame s s′ = (j : ℕ) → thingCountsAt ≤ j → getD s′ j 0 ≡ getD s j 0
 
 module _ (p : List ℕ) (i : ℕ) (s s′ : List ℕ) (a : RowsAgree i s s′) where
-  word-same : (r : ℕ) → RowIn i r → (f : Focus) (w : machine.Word) → WordAt p s r f w → WordAt p s′ r f w
+  word-same : (r : ℕ) → RowIn i r → (f : ControlPoint) (w : machine.Word) → WordAt p s r f w → WordAt p s′ r f w
   word-same r in-row f (machine.letWord q x v e) W = W
   word-same r in-row f (machine.ifWord q e₁ e₂) W = W
   word-same r in-row f (machine.whileWord q e) W = W
@@ -44,7 +44,7 @@ module _ (p : List ℕ) (i : ℕ) (s s′ : List ℕ) (a : RowsAgree i s s′) w
   word-same r in-row f (machine.unrolledWord q e) W = W
   word-same r in-row f (machine.againWord q v e) W = W
 
-  word-below : (r : ℕ) (f : Focus) (w : machine.Word) → WordAt p s r f w → placeOf p s w < 256
+  word-below : (r : ℕ) (f : ControlPoint) (w : machine.Word) → WordAt p s r f w → placeOf p s w < 256
   word-below r f (machine.letWord q x v e) (z, d, S) = d .below
   word-below r f (machine.ifWord q e₁ e₂) (z, n, d, S₁, S₂) = d .below
   word-below r f (machine.whileWord q e) (z, n, d, S) = d .below
@@ -63,7 +63,7 @@ module _ (p : List ℕ) (i : ℕ) (s s′ : List ℕ) (a : RowsAgree i s s′) w
     called = λ k m l. a .calls k (omega (arith, m), omega (arith, l, hi));
   }
 
-  pub control-same : (f : Focus) (d : Control) → openCalls d ≤ 65 → ControlAt p s i f d → ControlAt p s′ i f d
+  pub control-same : (f : ControlPoint) (d : Control) → openCalls d ≤ 65 → ControlAt p s i f d → ControlAt p s′ i f d
   unfolding openCalls
   control-same f (done v) few C = C
   control-same f (at σ w K) few (values, W, F) =
@@ -104,15 +104,15 @@ rows-set i k x s o = record {
   calls = λ r a. getD-set-other s k (openCallsAt + r) x 0 (o .of-calls r a);
 }
 
-pub agree-set : (i k x : ℕ) (s : List ℕ) → Outside i k → focusModesAt + i ≢ k → focusPlacesAt + i ≢ k → focusValuesAt + i ≢ k → focusRowsAt + i ≢ k → Agree i s (set s k x)
-unfolding focusAt
+pub agree-set : (i k x : ℕ) (s : List ℕ) → Outside i k → controlPointModesAt + i ≢ k → controlPointPlacesAt + i ≢ k → controlPointValuesAt + i ≢ k → controlPointRowsAt + i ≢ k → Agree i s (set s k x)
+unfolding controlPointAt
 agree-set i k x s o a b c d = record {
   rows = rows-set i k x s o;
-  focused = λ n. focus (getD-set-other s k (focusModesAt + i) x 0 a n) (getD-set-other s k (focusPlacesAt + i) x 0 b n) (getD-set-other s k (focusValuesAt + i) x 0 c n) (getD-set-other s k (focusRowsAt + i) x 0 d n);
+  focused = λ n. controlPoint (getD-set-other s k (controlPointModesAt + i) x 0 a n) (getD-set-other s k (controlPointPlacesAt + i) x 0 b n) (getD-set-other s k (controlPointValuesAt + i) x 0 c n) (getD-set-other s k (controlPointRowsAt + i) x 0 d n);
 }
 
 -- all rows stand before these numbers
-pub outside-behind : (i k : ℕ) → i < 16 → focusModesAt ≤ k → Outside i k
+pub outside-behind : (i k : ℕ) → i < 16 → controlPointModesAt ≤ k → Outside i k
 outside-behind i k l h = record {
   of-variables = λ r y (lo, hi) m z. omega (arith, z, m, l, h, hi);
   of-kepts = λ r j (lo, hi) m z. omega (arith, z, m, l, h, hi);
@@ -163,7 +163,7 @@ outside-call i t r l (lo, hi) n = either (less-or-more i t n)
     }
 
 -- a store before the focuses
-pub agree-before : (i k x : ℕ) (s : List ℕ) → k < focusModesAt → Outside i k → Agree i s (set s k x)
+pub agree-before : (i k x : ℕ) (s : List ℕ) → k < controlPointModesAt → Outside i k → Agree i s (set s k x)
 agree-before i k x s h o = agree-set i k x s o (λ e. omega (arith, e, h)) (λ e. omega (arith, e, h)) (λ e. omega (arith, e, h)) (λ e. omega (arith, e, h))
 
 -- a store of a variable of thread t
@@ -172,14 +172,14 @@ agree-variable i t r y x s l m a h n = agree-before i (0 + 256 * r + y) x s (ome
 
 -- what the loop changes in thread t's own numbers
 pub agree-found : (i t : ℕ) (s s′ : List ℕ) → i < 16 → t < 16 → i ≢ t → SameBut t s s′ → Agree i s s′
-unfolding variable kept calledFrom focusAt
+unfolding variable kept calledFrom controlPointAt
 agree-found i t s s′ l m n c = record {
   rows = record {
     variables = λ r y (lo, hi) h. c .kept (0 + 256 * r + y) (inl (omega (arith, l, h, hi)));
     kepts = λ r j a h. c .kept (keptValuesAt + 256 * r + j) (apart r j a h (less-or-more i t n));
     calls = λ r (lo, hi). c .kept (openCallsAt + r) (inr (omega (arith, m)));
   };
-  focused = λ z. focus (c .kept (focusModesAt + i) (inr (omega (arith, m))) z) (c .kept (focusPlacesAt + i) (inr (omega (arith, m))) z) (c .kept (focusValuesAt + i) (inr (omega (arith, m))) z) (c .kept (focusRowsAt + i) (inr (omega (arith, m))) z);
+  focused = λ z. controlPoint (c .kept (controlPointModesAt + i) (inr (omega (arith, m))) z) (c .kept (controlPointPlacesAt + i) (inr (omega (arith, m))) z) (c .kept (controlPointValuesAt + i) (inr (omega (arith, m))) z) (c .kept (controlPointRowsAt + i) (inr (omega (arith, m))) z);
 }
   where
     apart : (r j : ℕ) → RowIn i r → j < 256 → (i < t) ⊎ (t < i) → (keptValuesAt + 256 * r + j < keptValuesAt + 16896 * t) ⊎ (keptValuesAt + 16896 * t + 16896 ≤ keptValuesAt + 256 * r + j)
@@ -190,84 +190,84 @@ pub shared-found : (t : ℕ) (s s′ : List ℕ) → t < 16 → SameBut t s s′
 shared-found t s s′ m c j h = c .kept j (inr (omega (arith, m, h)))
 
 -- the focus of thread t
-pub focus-here : (s : List ℕ) (t : ℕ) (f : Focus) → length s ≡ spaceSize → t < 16 → focusAt (focusPut s t f) t ≡ f
-unfolding focusAt focusPut
-focus-here s t f long m = λ z. focus (modes z) (places z) (givens z) (rows z)
+pub control-point-here : (s : List ℕ) (t : ℕ) (f : ControlPoint) → length s ≡ spaceSize → t < 16 → controlPointAt (controlPointPut s t f) t ≡ f
+unfolding controlPointAt controlPointPut
+control-point-here s t f long m = λ z. controlPoint (modes z) (places z) (givens z) (rows z)
   where
     s₁ : List ℕ
-    s₁ = set s (focusModesAt + t) (f .mode)
+    s₁ = set s (controlPointModesAt + t) (f .mode)
 
     s₂ : List ℕ
-    s₂ = set s₁ (focusPlacesAt + t) (f .at)
+    s₂ = set s₁ (controlPointPlacesAt + t) (f .at)
 
     s₃ : List ℕ
-    s₃ = set s₂ (focusValuesAt + t) (f .value)
+    s₃ = set s₂ (controlPointValuesAt + t) (f .value)
 
     long₁ : length s₁ ≡ spaceSize
-    long₁ = length-set s (focusModesAt + t) (f .mode) ∙ long
+    long₁ = length-set s (controlPointModesAt + t) (f .mode) ∙ long
 
     long₂ : length s₂ ≡ spaceSize
-    long₂ = length-set s₁ (focusPlacesAt + t) (f .at) ∙ long₁
+    long₂ = length-set s₁ (controlPointPlacesAt + t) (f .at) ∙ long₁
 
     long₃ : length s₃ ≡ spaceSize
-    long₃ = length-set s₂ (focusValuesAt + t) (f .value) ∙ long₂
+    long₃ = length-set s₂ (controlPointValuesAt + t) (f .value) ∙ long₂
 
-    modes : getD (set s₃ (focusRowsAt + t) (f .row)) (focusModesAt + t) 0 ≡ f .mode
+    modes : getD (set s₃ (controlPointRowsAt + t) (f .row)) (controlPointModesAt + t) 0 ≡ f .mode
     modes =
-        getD-set-other s₃ (focusRowsAt + t) (focusModesAt + t) (f .row) 0 (λ e. omega (arith, e)) ∙ getD-set-other s₂ (focusValuesAt + t) (focusModesAt + t) (f .value) 0 (λ e. omega (arith, e))
-        ∙ getD-set-other s₁ (focusPlacesAt + t) (focusModesAt + t) (f .at) 0 (λ e. omega (arith, e)) ∙ getD-set-same s (focusModesAt + t) (f .mode) 0 (omega (arith, long, m))
+        getD-set-other s₃ (controlPointRowsAt + t) (controlPointModesAt + t) (f .row) 0 (λ e. omega (arith, e)) ∙ getD-set-other s₂ (controlPointValuesAt + t) (controlPointModesAt + t) (f .value) 0 (λ e. omega (arith, e))
+        ∙ getD-set-other s₁ (controlPointPlacesAt + t) (controlPointModesAt + t) (f .at) 0 (λ e. omega (arith, e)) ∙ getD-set-same s (controlPointModesAt + t) (f .mode) 0 (omega (arith, long, m))
 
-    places : getD (set s₃ (focusRowsAt + t) (f .row)) (focusPlacesAt + t) 0 ≡ f .at
+    places : getD (set s₃ (controlPointRowsAt + t) (f .row)) (controlPointPlacesAt + t) 0 ≡ f .at
     places =
-        getD-set-other s₃ (focusRowsAt + t) (focusPlacesAt + t) (f .row) 0 (λ e. omega (arith, e)) ∙ getD-set-other s₂ (focusValuesAt + t) (focusPlacesAt + t) (f .value) 0 (λ e. omega (arith, e))
-        ∙ getD-set-same s₁ (focusPlacesAt + t) (f .at) 0 (omega (arith, long₁, m))
+        getD-set-other s₃ (controlPointRowsAt + t) (controlPointPlacesAt + t) (f .row) 0 (λ e. omega (arith, e)) ∙ getD-set-other s₂ (controlPointValuesAt + t) (controlPointPlacesAt + t) (f .value) 0 (λ e. omega (arith, e))
+        ∙ getD-set-same s₁ (controlPointPlacesAt + t) (f .at) 0 (omega (arith, long₁, m))
 
-    givens : getD (set s₃ (focusRowsAt + t) (f .row)) (focusValuesAt + t) 0 ≡ f .value
-    givens = getD-set-other s₃ (focusRowsAt + t) (focusValuesAt + t) (f .row) 0 (λ e. omega (arith, e)) ∙ getD-set-same s₂ (focusValuesAt + t) (f .value) 0 (omega (arith, long₂, m))
+    givens : getD (set s₃ (controlPointRowsAt + t) (f .row)) (controlPointValuesAt + t) 0 ≡ f .value
+    givens = getD-set-other s₃ (controlPointRowsAt + t) (controlPointValuesAt + t) (f .row) 0 (λ e. omega (arith, e)) ∙ getD-set-same s₂ (controlPointValuesAt + t) (f .value) 0 (omega (arith, long₂, m))
 
-    rows : getD (set s₃ (focusRowsAt + t) (f .row)) (focusRowsAt + t) 0 ≡ f .row
-    rows = getD-set-same s₃ (focusRowsAt + t) (f .row) 0 (omega (arith, long₃, m))
+    rows : getD (set s₃ (controlPointRowsAt + t) (f .row)) (controlPointRowsAt + t) 0 ≡ f .row
+    rows = getD-set-same s₃ (controlPointRowsAt + t) (f .row) 0 (omega (arith, long₃, m))
 
 -- the four stores of a focus: what holds of a store of each holds of all
-module _ (t : ℕ) (f : Focus) (P : List ℕ → List ℕ → Type 0) (then : (s s′ s″ : List ℕ) → P s s′ → P s′ s″ → P s s″)
-    (one : (k x : ℕ) (s : List ℕ) → (k ≡ focusModesAt + t) ⊎ ((k ≡ focusPlacesAt + t) ⊎ ((k ≡ focusValuesAt + t) ⊎ (k ≡ focusRowsAt + t))) → P s (set s k x)) where
-  focus-stores : (s : List ℕ) → P s (focusPut s t f)
-  unfolding focusPut
-  focus-stores s =
-      let s₁ = set s (focusModesAt + t) (f .mode) in
-      let s₂ = set s₁ (focusPlacesAt + t) (f .at) in
-      let s₃ = set s₂ (focusValuesAt + t) (f .value) in
-      let s₄ = set s₃ (focusRowsAt + t) (f .row) in
-      then s s₁ s₄ (one (focusModesAt + t) (f .mode) s (inl refl))
-      (then s₁ s₂ s₄ (one (focusPlacesAt + t) (f .at) s₁ (inr (inl refl)))
-      (then s₂ s₃ s₄ (one (focusValuesAt + t) (f .value) s₂ (inr (inr (inl refl)))) (one (focusRowsAt + t) (f .row) s₃ (inr (inr (inr refl))))))
+module _ (t : ℕ) (f : ControlPoint) (P : List ℕ → List ℕ → Type 0) (then : (s s′ s″ : List ℕ) → P s s′ → P s′ s″ → P s s″)
+    (one : (k x : ℕ) (s : List ℕ) → (k ≡ controlPointModesAt + t) ⊎ ((k ≡ controlPointPlacesAt + t) ⊎ ((k ≡ controlPointValuesAt + t) ⊎ (k ≡ controlPointRowsAt + t))) → P s (set s k x)) where
+  control-point-stores : (s : List ℕ) → P s (controlPointPut s t f)
+  unfolding controlPointPut
+  control-point-stores s =
+      let s₁ = set s (controlPointModesAt + t) (f .mode) in
+      let s₂ = set s₁ (controlPointPlacesAt + t) (f .at) in
+      let s₃ = set s₂ (controlPointValuesAt + t) (f .value) in
+      let s₄ = set s₃ (controlPointRowsAt + t) (f .row) in
+      then s s₁ s₄ (one (controlPointModesAt + t) (f .mode) s (inl refl))
+      (then s₁ s₂ s₄ (one (controlPointPlacesAt + t) (f .at) s₁ (inr (inl refl)))
+      (then s₂ s₃ s₄ (one (controlPointValuesAt + t) (f .value) s₂ (inr (inr (inl refl)))) (one (controlPointRowsAt + t) (f .row) s₃ (inr (inr (inr refl))))))
 
-pub focus-length : (s : List ℕ) (t : ℕ) (f : Focus) → length (focusPut s t f) ≡ length s
-focus-length s t f = focus-stores t f (λ s s′. length s′ ≡ length s) (λ s s′ s″ a b. b ∙ a) (λ k x s o. length-set s k x) s
+pub control-point-length : (s : List ℕ) (t : ℕ) (f : ControlPoint) → length (controlPointPut s t f) ≡ length s
+control-point-length s t f = control-point-stores t f (λ s s′. length s′ ≡ length s) (λ s s′ s″ a b. b ∙ a) (λ k x s o. length-set s k x) s
 
-pub focus-other : (i t : ℕ) (s : List ℕ) (f : Focus) → i < 16 → t < 16 → i ≢ t → Agree i s (focusPut s t f)
-focus-other i t s f l m n = focus-stores t f (Agree i) (λ s s′ s″ a b. agree-then a b) one s
+pub control-point-other : (i t : ℕ) (s : List ℕ) (f : ControlPoint) → i < 16 → t < 16 → i ≢ t → Agree i s (controlPointPut s t f)
+control-point-other i t s f l m n = control-point-stores t f (Agree i) (λ s s′ s″ a b. agree-then a b) one s
   where
-    one : (k x : ℕ) (s : List ℕ) → (k ≡ focusModesAt + t) ⊎ ((k ≡ focusPlacesAt + t) ⊎ ((k ≡ focusValuesAt + t) ⊎ (k ≡ focusRowsAt + t))) → Agree i s (set s k x)
+    one : (k x : ℕ) (s : List ℕ) → (k ≡ controlPointModesAt + t) ⊎ ((k ≡ controlPointPlacesAt + t) ⊎ ((k ≡ controlPointValuesAt + t) ⊎ (k ≡ controlPointRowsAt + t))) → Agree i s (set s k x)
     one k x s (inl q) = agree-set i k x s (outside-behind i k l (omega (arith, q))) (λ z. n (omega (arith, z, q))) (λ z. omega (arith, z, q, l, m)) (λ z. omega (arith, z, q, l, m)) (λ z. omega (arith, z, q, l, m))
     one k x s (inr (inl q)) = agree-set i k x s (outside-behind i k l (omega (arith, q))) (λ z. omega (arith, z, q, l, m)) (λ z. n (omega (arith, z, q))) (λ z. omega (arith, z, q, l, m)) (λ z. omega (arith, z, q, l, m))
     one k x s (inr (inr (inl q))) = agree-set i k x s (outside-behind i k l (omega (arith, q))) (λ z. omega (arith, z, q, l, m)) (λ z. omega (arith, z, q, l, m)) (λ z. n (omega (arith, z, q))) (λ z. omega (arith, z, q, l, m))
     one k x s (inr (inr (inr q))) = agree-set i k x s (outside-behind i k l (omega (arith, q))) (λ z. omega (arith, z, q, l, m)) (λ z. omega (arith, z, q, l, m)) (λ z. omega (arith, z, q, l, m)) (λ z. n (omega (arith, z, q)))
 
-pub focus-shared : (t : ℕ) (s : List ℕ) (f : Focus) → t < 16 → SharedSame s (focusPut s t f)
-focus-shared t s f m = focus-stores t f SharedSame (λ s s′ s″ a b j h. b j h ∙ a j h) one s
+pub control-point-shared : (t : ℕ) (s : List ℕ) (f : ControlPoint) → t < 16 → SharedSame s (controlPointPut s t f)
+control-point-shared t s f m = control-point-stores t f SharedSame (λ s s′ s″ a b j h. b j h ∙ a j h) one s
   where
-    one : (k x : ℕ) (s : List ℕ) → (k ≡ focusModesAt + t) ⊎ ((k ≡ focusPlacesAt + t) ⊎ ((k ≡ focusValuesAt + t) ⊎ (k ≡ focusRowsAt + t))) → SharedSame s (set s k x)
+    one : (k x : ℕ) (s : List ℕ) → (k ≡ controlPointModesAt + t) ⊎ ((k ≡ controlPointPlacesAt + t) ⊎ ((k ≡ controlPointValuesAt + t) ⊎ (k ≡ controlPointRowsAt + t))) → SharedSame s (set s k x)
     one k x s (inl q) j h = getD-set-other s k j x 0 (λ e. omega (arith, e, q, h, m))
     one k x s (inr (inl q)) j h = getD-set-other s k j x 0 (λ e. omega (arith, e, q, h, m))
     one k x s (inr (inr (inl q))) j h = getD-set-other s k j x 0 (λ e. omega (arith, e, q, h, m))
     one k x s (inr (inr (inr q))) j h = getD-set-other s k j x 0 (λ e. omega (arith, e, q, h, m))
 
 -- the thread's own rows
-pub focus-rows : (i t : ℕ) (s : List ℕ) (f : Focus) → i < 16 → t < 16 → RowsAgree i s (focusPut s t f)
-focus-rows i t s f l m = focus-stores t f (RowsAgree i) (λ s s′ s″ a b. rows-then a b) one s
+pub control-point-rows : (i t : ℕ) (s : List ℕ) (f : ControlPoint) → i < 16 → t < 16 → RowsAgree i s (controlPointPut s t f)
+control-point-rows i t s f l m = control-point-stores t f (RowsAgree i) (λ s s′ s″ a b. rows-then a b) one s
   where
-    one : (k x : ℕ) (s : List ℕ) → (k ≡ focusModesAt + t) ⊎ ((k ≡ focusPlacesAt + t) ⊎ ((k ≡ focusValuesAt + t) ⊎ (k ≡ focusRowsAt + t))) → RowsAgree i s (set s k x)
+    one : (k x : ℕ) (s : List ℕ) → (k ≡ controlPointModesAt + t) ⊎ ((k ≡ controlPointPlacesAt + t) ⊎ ((k ≡ controlPointValuesAt + t) ⊎ (k ≡ controlPointRowsAt + t))) → RowsAgree i s (set s k x)
     one k x s (inl q) = rows-set i k x s (outside-behind i k l (omega (arith, q)))
     one k x s (inr (inl q)) = rows-set i k x s (outside-behind i k l (omega (arith, q)))
     one k x s (inr (inr (inl q))) = rows-set i k x s (outside-behind i k l (omega (arith, q)))

@@ -17,22 +17,22 @@ use Rattle.calculus.specs.State.{first, second as secondOfTwo, update}
 use Rattle.workspace.specs.Layout.{ruleOf, printed}
 use Rattle.threads.specs.declared.Threads.{Threads}
 use Rattle.control.specs.Layout.{keptValuesAt, openCallsAt, spaceSize}
-use Rattle.control.specs.declared.Focus.{Focus}
+use Rattle.control.specs.declared.ControlPoint.{ControlPoint}
 use Rattle.control.specs.Shapes.{shapeAt}
 use Rattle.control.specs.Control.{variable, kept, calledFrom, continuation, second, entering, returning, stoppedAt, readyAt, unrolledAt, found}
-use Rattle.control.proofs.Turns.{found-stop}
+use Rattle.control.proofs.Advances.{found-stop}
 use Rattle.reduction.specs.declared.words.Act.{Act}
 use Rattle.reduction.specs.declared.words.Act.the-variants.{Go}
 use Rattle.reduction.specs.Words.{given, branched, looped, bound, actedBy, acted}
 use Rattle.engine.specs.Steps.{afterAct}
-use Rattle.replay_theory.specs.Replay.{limited}
+use Rattle.replay_theory.specs.Replay.{checkLimits}
 use Rattle.machine.specs.Environment.{Env}
 use Rattle.machine.specs.Control.{Frame, letWord, ifWord, whileWord, unrolledWord, againWord, Control, at, enter}
 use Rattle.machine.specs.State.{Machine, running}
 use Rattle.machine.specs.Step.{zeroValue, goesTo, unrolledPart}
 use Rattle.machine.specs.Replay.{Replay, within}
 use Rattle.simulation.proofs.Held.{codeValue, RowOf, Stands, Values, Frames, ControlAt}
-use Rattle.simulation.proofs.Turning.{behind-is, SameBut, same-all, RowIn}
+use Rattle.simulation.proofs.Advancing.{behind-is, SameBut, same-all, RowIn}
 use Rattle.simulation.proofs.Finding.{frames-up, RowsSame, frames-same, Ready, enters-word, returns-word, runs-part}
 use Rattle.simulation.proofs.Agreeing.{agree-all, agree-variable}
 use Rattle.simulation.proofs.Holds.{Holds}
@@ -50,7 +50,7 @@ module _ (p s : List ℕ) (row c : ℕ) {q : Position} where
   unfolding acted actedBy shapeAt ruleOf printed
   if-acts r = rw (r .code)
 
-  while-acts : {n : ℕ} (f : Focus) → f .at ≡ q .index → RowOf p q (Unary While) n → acted p s f c ≡ (Go (looped p f c), s)
+  while-acts : {n : ℕ} (f : ControlPoint) → f .at ≡ q .index → RowOf p q (Unary While) n → acted p s f c ≡ (Go (looped p f c), s)
   unfolding acted actedBy shapeAt ruleOf printed
   while-acts f e r = rw (e, r .code)
 
@@ -64,18 +64,18 @@ module _ (p s : List ℕ) (T : Threads) (R : Replay) (t tid : ℕ) (σ : Env) (K
   abbrev pub Went : Control → Replay
   Went d = record { machine = goesTo M t tid (M .names) d; things = R .things }
 
-  abbrev pub Goes : Focus → Control → Act × List ℕ → Type 0
-  Goes f d r = Answered p (limited within (some (Went d))) (afterAct p T t f r)
+  abbrev pub Goes : ControlPoint → Control → Act × List ℕ → Type 0
+  Goes f d r = Answered p (checkLimits within (some (Went d))) (afterAct p T t f r)
 
   -- nothing of the space has changed
-  pub goes : (w : _) (f : Focus) → getElem? (M .threads) t ≡ some (running tid (at σ w K)) → (g : Focus) (d : Control) →
+  pub goes : (w : _) (f : ControlPoint) → getElem? (M .threads) t ≡ some (running tid (at σ w K)) → (g : ControlPoint) (d : Control) →
       ControlAt p (found 2048 p s g .1) t (found 2048 p s g .0) d × SameBut t s (found 2048 p s g .1) → Goes f d (Go g, s)
   goes w f there g d F =
       moves p s T (M .threads) t tid f (pausing p s T R t tid (at σ w K) H there refl s (H .long) (λ i l n. agree-all i s)) (M .procedures) (H .bodies) (M .names) (M .next) (R .things) (H .names) g d F
 
   -- the thread stands there at once
-  stays : (g : Focus) (d : Control) → 2 ≤ g .mode → ControlAt p s t g d → ControlAt p (found 2048 p s g .1) t (found 2048 p s g .0) d × SameBut t s (found 2048 p s g .1)
-  stays g d h C = subst (λ (r : Focus × List ℕ). ControlAt p (r .1) t (r .0) d × SameBut t s (r .1)) (sym (found-stop p s g 2048 h)) (C, same-all t s)
+  stays : (g : ControlPoint) (d : Control) → 2 ≤ g .mode → ControlAt p s t g d → ControlAt p (found 2048 p s g .1) t (found 2048 p s g .0) d × SameBut t s (found 2048 p s g .1)
+  stays g d h C = subst (λ (r : ControlPoint × List ℕ). ControlAt p (r .1) t (r .0) d × SameBut t s (r .1)) (sym (found-stop p s g 2048 h)) (C, same-all t s)
 
   module _ (low : t < 16) (row : ℕ) (inside : RowIn t row) (values : Values p s row σ) where
     pub ready : (b b′ c : ℕ) → b ≤ b′ → Frames p s t row b c K → Ready p t low σ row s s b′ c K

@@ -19,24 +19,24 @@ use Rattle.calculus.specs.State.{update}
 use Rattle.calculus.specs.Reduction.{_>>=_}
 use Rattle.workspace.specs.Layout.{ruleOf, printed}
 use Rattle.threads.specs.declared.Threads.{Threads}
-use Rattle.control.specs.Layout.{leave, proceduresAt, keptValuesAt, openCallsAt, focusModesAt, focusPlacesAt, focusValuesAt, focusRowsAt, spaceSize}
-use Rattle.control.specs.declared.Focus.{Focus}
+use Rattle.control.specs.Layout.{leave, proceduresAt, keptValuesAt, openCallsAt, controlPointModesAt, controlPointPlacesAt, controlPointValuesAt, controlPointRowsAt, spaceSize}
+use Rattle.control.specs.declared.ControlPoint.{ControlPoint}
 use Rattle.control.specs.Shapes.{shapeAt}
-use Rattle.control.specs.Control.{variable, kept, calledFrom, continuation, firstOf, focus, entering, readyAt}
+use Rattle.control.specs.Control.{variable, kept, calledFrom, continuation, firstOf, controlPoint, entering, readyAt}
 use Rattle.reduction.specs.declared.words.Act.{Act}
 use Rattle.reduction.specs.declared.words.Act.the-variants.{Go}
 use Rattle.call_step.specs.Calls.{above, rowClearedFrom, rowCleared, calleeOf, callEntered, argumentPut, calledSpace}
 use Rattle.reduction.specs.Words.{actedBy, acted}
-use Rattle.engine.specs.Focuses.{focusAt}
+use Rattle.engine.specs.ControlPoints.{controlPointAt}
 use Rattle.engine.specs.Steps.{afterAct}
-use Rattle.replay_theory.specs.Replay.{limited}
+use Rattle.replay_theory.specs.Replay.{checkLimits}
 use Rattle.machine.specs.Environment.{Env, zeros}
 use Rattle.machine.specs.Control.{Frame, markFrame, unaryWord, Control, at, enter, marks}
 use Rattle.machine.specs.State.{Machine, running}
 use Rattle.machine.specs.Step.{goesTo, stepUnary}
 use Rattle.machine.specs.Replay.{Replay, within}
 use Rattle.simulation.proofs.Held.{codeValue, RowOf, BodyStands, Values, Frames}
-use Rattle.simulation.proofs.Turning.{same-all, RowIn}
+use Rattle.simulation.proofs.Advancing.{same-all, RowIn}
 use Rattle.simulation.proofs.Finding.{RowsSame, frames-same, frames-row, enters-word}
 use Rattle.simulation.proofs.Agreeing.{Agree, SharedSame, less-or-more}
 use Rattle.simulation.proofs.Holds.{Holds}
@@ -131,18 +131,18 @@ module _ (s : List ℕ) (long : length s ≡ spaceSize) (b x v k : ℕ) (low : b
 
   -- the other threads
   agree-called : (t i : ℕ) → RowIn t b → i < 16 → i ≢ t → Agree i s s₂
-  unfolding variable kept calledFrom focusAt
+  unfolding variable kept calledFrom controlPointAt
   agree-called t i (lo, hi) h n = record {
     rows = record {
       variables = λ r y in-row m. elsewhere (0 + 256 * r + y) (beside r y in-row m (less-or-more i t n)) (λ e. omega (arith, e, m, h, in-row .1));
       kepts = λ r j in-row m. elsewhere (keptValuesAt + 256 * r + j) (inr (omega (arith, low))) (λ e. omega (arith, e, m, h, in-row .1));
       calls = λ r in-row. elsewhere (openCallsAt + r) (inr (omega (arith, low))) (λ e. other r in-row (less-or-more i t n) (omega (arith, e)));
     };
-    focused = λ z. focus
-        (elsewhere (focusModesAt + i) (inr (omega (arith, low))) (λ e. omega (arith, e, low)) z)
-        (elsewhere (focusPlacesAt + i) (inr (omega (arith, low))) (λ e. omega (arith, e, low)) z)
-        (elsewhere (focusValuesAt + i) (inr (omega (arith, low))) (λ e. omega (arith, e, low)) z)
-        (elsewhere (focusRowsAt + i) (inr (omega (arith, low))) (λ e. omega (arith, e, low)) z);
+    focused = λ z. controlPoint
+        (elsewhere (controlPointModesAt + i) (inr (omega (arith, low))) (λ e. omega (arith, e, low)) z)
+        (elsewhere (controlPointPlacesAt + i) (inr (omega (arith, low))) (λ e. omega (arith, e, low)) z)
+        (elsewhere (controlPointValuesAt + i) (inr (omega (arith, low))) (λ e. omega (arith, e, low)) z)
+        (elsewhere (controlPointRowsAt + i) (inr (omega (arith, low))) (λ e. omega (arith, e, low)) z);
   }
     where
       beside : (r y : ℕ) → RowIn i r → y < 256 → (i < t) ⊎ (t < i) → (0 + 256 * r + y < 256 * b) ⊎ (256 * b + 256 ≤ 0 + 256 * r + y)
@@ -169,7 +169,7 @@ module _ (p s : List ℕ) (T : Threads) (R : Replay) (t tid : ℕ) (σ : Env) (K
   abbrev M : Machine
   M = R .machine
 
-  abbrev word : Focus
+  abbrev word : ControlPoint
   word = readyAt row (q .index) (codeValue v)
 
   row-low : row ≤ 66 * t + 64
@@ -215,9 +215,9 @@ module _ (p s : List ℕ) (T : Threads) (R : Replay) (t tid : ℕ) (σ : Env) (K
     in-row : RowIn t (row + 1)
     in-row = (omega (arith, inside .0), let l = row-low in omega arith)
 
-    body-goes : Answered p (limited within (some (record { machine = goesTo M t tid (M .names) entered; things = R .things }))) (afterAct p T t word (acted p s word 0))
+    body-goes : Answered p (checkLimits within (some (record { machine = goesTo M t tid (M .names) entered; things = R .things }))) (afterAct p T t word (acted p s word 0))
     body-goes =
-        subst (λ (a : Act × List ℕ). Answered p (limited within (some (record { machine = goesTo M t tid (M .names) entered; things = R .things }))) (afterAct p T t word a)) (sym acts)
+        subst (λ (a : Act × List ℕ). Answered p (checkLimits within (some (record { machine = goesTo M t tid (M .names) entered; things = R .things }))) (afterAct p T t word a)) (sym acts)
         (moves p after T (M .threads) t tid word
         (pausing p s T R t tid (at σ (unaryWord q (call g) v) K) H there refl after (long₂ s (H .long) (row + 1) (body .parameter) (codeValue v) (q .index) new-low (B .low))
         (λ i h m. agree-called s (H .long) (row + 1) (body .parameter) (codeValue v) (q .index) new-low (B .low) t i in-row h m))
@@ -233,7 +233,7 @@ module _ (p s : List ℕ) (T : Threads) (R : Replay) (t tid : ℕ) (σ : Env) (K
           frames = frames-after;
         })))
 
-  pub call-goes : Answered p (limited within (stepUnary M t tid σ K (call g) v >>= λ N. some (record { machine = N; things = R .things }))) (afterAct p T t word (acted p s word 0))
+  pub call-goes : Answered p (checkLimits within (stepUnary M t tid σ K (call g) v >>= λ N. some (record { machine = N; things = R .things }))) (afterAct p T t word (acted p s word 0))
   call-goes =
       let (body, listed) = place-found (M .procedures) g called in
       rw listed (body-goes body listed)

@@ -19,14 +19,14 @@ use Rattle.calculus.specs.Expression as calculus
 use Rattle.calculus.specs.Expression.{Value, int, join, ref, read, lock, unlock, post, wait, hold, rdlock, rdunlock, wrlock, wrunlock, call}
 use Rattle.workspace.specs.Layout.{ruleOf, codeOf, printed, shapeOf}
 use Rattle.control.specs.Layout.{secondPart, finish, leave, keptValuesAt, openCallsAt, spaceSize}
-use Rattle.control.specs.declared.Focus.{Focus}
+use Rattle.control.specs.declared.ControlPoint.{ControlPoint}
 use Rattle.control.specs.Shapes.{isWrite}
 use Rattle.control.specs.Control.{variable, kept, calledFrom, continuation, second, entering, returning, stoppedAt, readyAt, doneWith, enteredBy}
-use Rattle.control.proofs.Turns.{found-stop}
+use Rattle.control.proofs.Advances.{found-stop}
 use Rattle.machine.specs.Environment.{Env}
 use Rattle.machine.specs.Control.{Frame, letFrame, spawnFrame, writeFirst, writeSecond, unaryFrame, againFrame, markFrame, letWord, ifWord, whileWord, spawnWord, writeWord, unaryWord, nullaryWord, againWord, Control, done, at, seekPart, seek, return, enter, runPart, marks}
 use Rattle.simulation.proofs.Held.{codeValue, partWord, PartNumber, Row, RowOf, Stands, Values, FrameAt, stepOf, rowBehind, Frames, ControlAt}
-use Rattle.simulation.proofs.Turning.{row-of, by-position, behind-is, go, enters, to-first, to-second, to-other, to-end, to-caller, SameBut, RowIn, same-but-one}
+use Rattle.simulation.proofs.Advancing.{row-of, by-position, behind-is, go, enters, to-first, to-second, to-other, to-end, to-caller, SameBut, RowIn, same-but-one}
 
 -- ------------------------------------------------------------------ frames
 
@@ -119,11 +119,11 @@ module _ (p : List ℕ) (t : ℕ) (small : t < 16) (σ : Env) (row : ℕ) (s₀ 
     pub values : Values p s row σ
     pub frames : Frames p s t row b c K
 
-  abbrev pub Finds : Control → Focus × List ℕ → Type 0
+  abbrev pub Finds : Control → ControlPoint × List ℕ → Type 0
   Finds d r = ControlAt p (r .1) t (r .0) d × SameBut t s₀ (r .1)
 
-  takes-turn : (d : Control) (m : ℕ) (s : List ℕ) (f : Focus) (r : Focus × List ℕ) → 1 ≤ m → go p row (suc (m - 1)) s f ≡ r → Finds d r → Finds d (go p row m s f)
-  takes-turn d m s f r h e F = subst (λ (z : ℕ). Finds d (go p row z s f)) back (subst (Finds d) (sym e) F)
+  takes-advance : (d : Control) (m : ℕ) (s : List ℕ) (f : ControlPoint) (r : ControlPoint × List ℕ) → 1 ≤ m → go p row (suc (m - 1)) s f ≡ r → Finds d r → Finds d (go p row m s f)
+  takes-advance d m s f r h e F = subst (λ (z : ℕ). Finds d (go p row z s f)) back (subst (Finds d) (sym e) F)
     where
       back : suc (m - 1) ≡ m
       back = omega (arith, h)
@@ -157,7 +157,7 @@ module _ (p : List ℕ) (t : ℕ) (small : t < 16) (σ : Env) (row : ℕ) (s₀ 
       Finds d (readyAt row (q .index) x, s) → Finds d (go p row m s (returning row c x))
   lands d {q = q} c x m s e r h le F =
       subst (λ (j : ℕ). Finds d (go p row m s (returning row j x))) (sym e)
-      (takes-turn d m s (returning row (q .index) x) (readyAt row (q .index) x, s) le (to-first p row (m - 1) (q .index) x s r h) F)
+      (takes-advance d m s (returning row (q .index) x) (readyAt row (q .index) x, s) le (to-first p row (m - 1) (q .index) x s r h) F)
 
   let-lands : (q : Position) (x : ℕ) (e : Expr) (c : ℕ) (K : List Frame) → Follows c (letFrame q x e ∷ K) 1 (λ v. at σ (letWord q x v e) K)
   unfolding isWrite ruleOf printed
@@ -186,7 +186,7 @@ module _ (p : List ℕ) (t : ℕ) (small : t < 16) (σ : Env) (row : ℕ) (s₀ 
   write-lands q w c K u b m s le R =
       let ((l, is, n, r, held), F) = R .frames in
       subst (λ (j : ℕ). Finds (at σ (writeWord q w u) K) (go p row m s (returning row j (codeValue u)))) (sym is)
-      (takes-turn (at σ (writeWord q w u) K) m s (returning row (secondPart + q .index) (codeValue u)) (readyAt row (q .index) (codeValue u), s) le
+      (takes-advance (at σ (writeWord q w u) K) m s (returning row (secondPart + q .index) (codeValue u)) (readyAt row (q .index) (codeValue u), s) le
       (to-second p row (m - 1) (q .index) (codeValue u) s (r .below)) ((R .values, (refl, n, r, held), F), R .same))
 
   -- ---------------------------------------------------------------- the second part of a `write`
@@ -217,7 +217,7 @@ module _ (p : List ℕ) (t : ℕ) (small : t < 16) (σ : Env) (row : ℕ) (s₀ 
   other-sought q e c K rec w b m s le R =
       let ((l, is, n, r, S), F) = R .frames in
       subst (λ (j : ℕ). Finds (seek σ e (writeSecond q w ∷ K) (λ u. at σ (writeWord q w u) K)) (go p row m s (returning row j (codeValue w)))) (sym is)
-      (takes-turn (seek σ e (writeSecond q w ∷ K) (λ u. at σ (writeWord q w u) K)) m s (returning row (q .index) (codeValue w))
+      (takes-advance (seek σ e (writeSecond q w ∷ K) (λ u. at σ (writeWord q w u) K)) m s (returning row (q .index) (codeValue w))
       (go p row (m - 1) (set s (keptValuesAt + 256 * row + q .index) (codeValue w)) (entering row (second p (q .index)))) (omega (arith, le))
       (to-other p row (m - 1) (q .index) (codeValue w) s r)
       (rec (secondPart + q .index) (second p (q .index)) S (writeSecond q w ∷ K) (λ u. at σ (writeWord q w u) K) 1 (m - 1) (set s (keptValuesAt + 256 * row + q .index) (codeValue w)) (omega (arith, le))
@@ -232,7 +232,7 @@ module _ (p : List ℕ) (t : ℕ) (small : t < 16) (σ : Env) (row : ℕ) (s₀ 
       (K : List Frame) (n m : ℕ) (s : List ℕ) → n + 3 * size e + 1 ≤ m → Ready s k c K → FrameAt p s t row (k + 1) k f → stepOf p s row f ≡ k → rowBehind p s row f ≡ row → Follows k (f ∷ K) n κ →
       Finds (seek σ e (f ∷ K) κ) (go p row m s (entering row k))
   first-sought k {v = v} {c = c} e f κ r waits rec K n m s fuel R F is stays next =
-      takes-turn (seek σ e (f ∷ K) κ) m s (entering row k) (go p row (m - 1) s (entering row (k + 1))) (omega (arith, fuel)) (enters p row (m - 1) k s r ∙ ap (go p row (m - 1) s) (waits (variable s row v)))
+      takes-advance (seek σ e (f ∷ K) κ) m s (entering row k) (go p row (m - 1) s (entering row (k + 1))) (omega (arith, fuel)) (enters p row (m - 1) k s r ∙ ap (go p row (m - 1) s) (waits (variable s row v)))
       (rec (f ∷ K) κ n (m - 1) s (omega (arith, fuel)) ready next)
     where
       ready : Ready s (k + 1) k (f ∷ K)
@@ -252,7 +252,7 @@ module _ (p : List ℕ) (t : ℕ) (small : t < 16) (σ : Env) (row : ℕ) (s₀ 
   stops : (d : Control) (k : ℕ) {q : Position} {w : Word} {v c : ℕ} → Row p k q w v c → ((x : ℕ) → enteredBy (shapeOf (ruleOf (codeOf w))) row k c x ≡ stoppedAt row k) →
       (m : ℕ) (s : List ℕ) → 1 ≤ m → Finds d (stoppedAt row k, s) → Finds d (go p row m s (entering row k))
   stops d k {v = v} r here m s le F =
-      takes-turn d m s (entering row k) (stoppedAt row k, s) le (enters p row (m - 1) k s r ∙ ap (go p row (m - 1) s) (here (variable s row v)) ∙ found-stop p s (stoppedAt row k) (m - 1) (omega arith)) F
+      takes-advance d m s (entering row k) (stoppedAt row k, s) le (enters p row (m - 1) k s r ∙ ap (go p row (m - 1) s) (here (variable s row v)) ∙ found-stop p s (stoppedAt row k) (m - 1) (omega arith)) F
 
   -- a word with one part that must be a value
   part-sought : (o : calculus.Unary) (k : ℕ) {q : Position} {v c : ℕ} (e : Expr) → Row p k q (Unary (partWord o)) v c → PartNumber o v →
@@ -265,10 +265,10 @@ module _ (p : List ℕ) (t : ℕ) (small : t < 16) (σ : Env) (row : ℕ) (s₀ 
   pub seek-simulated : (e : Expr) (c k : ℕ) → Stands p c k e → Sought c k e
   unfolding size enteredBy ruleOf printed largestValue
   seek-simulated (leaf Var q x) c k r K κ n m s fuel R next =
-      takes-turn (κ (σ x)) m s (entering row k) (go p row (m - 1) s (returning row c (codeValue (σ x)))) (omega (arith, fuel))
+      takes-advance (κ (σ x)) m s (entering row k) (go p row (m - 1) s (returning row c (codeValue (σ x)))) (omega (arith, fuel))
       (enters p row (m - 1) k s r ∙ ap (λ (z : ℕ). go p row (m - 1) s (returning row c z)) (R .values x (omega (arith, r .small .0)))) (next (σ x) k (m - 1) s (omega (arith, fuel)) R)
   seek-simulated (leaf Int q v) c k r K κ n m s fuel R next =
-      takes-turn (κ (int v)) m s (entering row k) (go p row (m - 1) s (returning row c 0)) (omega (arith, fuel)) (enters p row (m - 1) k s r) (next (int v) k (m - 1) s (omega (arith, fuel)) R)
+      takes-advance (κ (int v)) m s (entering row k) (go p row (m - 1) s (returning row c 0)) (omega (arith, fuel)) (enters p row (m - 1) k s r) (next (int v) k (m - 1) s (omega (arith, fuel)) R)
   seek-simulated (leaf Newtid q v) c k r K κ n m s fuel R next = stops (at σ (nullaryWord q calculus.newtid) K) k r (λ x. refl) m s (omega (arith, fuel))
       ((R .values, (ap (stoppedAt row) (sym (r .index)), v, row-of r, tt), by-position r (λ c k. Frames p s t row k c K) (R .frames)), R .same)
   seek-simulated (leaf Newlock q v) c k r K κ n m s fuel R next = stops (at σ (nullaryWord q calculus.newlock) K) k r (λ x. refl) m s (omega (arith, fuel))
@@ -322,7 +322,7 @@ module _ (p : List ℕ) (t : ℕ) (small : t < 16) where
   pub return-simulated : (K : List Frame) (σ : Env) (row : ℕ) (s₀ : List ℕ) (c : ℕ) → Follows p t small σ row s₀ c K (cost K) (λ v. return σ v K)
   return-simulated [] σ row s₀ c = λ v b m s le R.
       subst (λ (j : ℕ). Finds p t small σ row s₀ (done v) (go p row m s (returning row j (codeValue v)))) (sym (R .frames .1))
-      (takes-turn p t small σ row s₀ (done v) m s (returning row finish (codeValue v)) (doneWith row (codeValue v), s) le (to-end p row (m - 1) (codeValue v) s)
+      (takes-advance p t small σ row s₀ (done v) m s (returning row finish (codeValue v)) (doneWith row (codeValue v), s) le (to-end p row (m - 1) (codeValue v) s)
       (ap (λ (i : ℕ). doneWith i (codeValue v)) (R .frames .0), R .same))
   return-simulated (letFrame q x e ∷ K) σ row s₀ c = let-lands p t small σ row s₀ q x e c K
   return-simulated (spawnFrame q e ∷ K) σ row s₀ c = spawn-lands p t small σ row s₀ q e c K
@@ -333,7 +333,7 @@ module _ (p : List ℕ) (t : ℕ) (small : t < 16) where
   return-simulated (markFrame σ′ ∷ K) σ row s₀ c = λ v b m s le R.
       let ((l, is, low, values), F) = R .frames in
       subst (λ (j : ℕ). Finds p t small σ row s₀ (return σ′ v K) (go p row m s (returning row j (codeValue v)))) (sym is)
-      (takes-turn p t small σ row s₀ (return σ′ v K) m s (returning row leave (codeValue v)) (go p row (m - 1) s (returning (row - 1) (continuation p (calledFrom s row)) (codeValue v))) (omega (arith, le))
+      (takes-advance p t small σ row s₀ (return σ′ v K) m s (returning row leave (codeValue v)) (go p row (m - 1) s (returning (row - 1) (continuation p (calledFrom s row)) (codeValue v))) (omega (arith, le))
       (to-caller p row (m - 1) (codeValue v) s)
       (return-simulated K σ′ (row - 1) s₀ (continuation p (calledFrom s row)) v (calledFrom s row) (m - 1) s (omega (arith, le))
       (record { same = R .same; long = R .long; inside = (omega (arith, l), omega (arith, R .inside .1)); values = values; frames = F })))

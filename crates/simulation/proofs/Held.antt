@@ -20,7 +20,7 @@ use Rattle.calculus.specs.Expression as calculus
 use Rattle.calculus.specs.Expression.{Value, int, name}
 use Rattle.workspace.specs.Layout.{wordsAt, valuesAt, procVarsAt, codeOf}
 use Rattle.control.specs.Layout.{secondPart, finish, leave, proceduresAt}
-use Rattle.control.specs.declared.Focus.{Focus}
+use Rattle.control.specs.declared.ControlPoint.{ControlPoint}
 use Rattle.control.specs.Control.{variable, kept, calledFrom, continuation, second, firstOf, stoppedAt, readyAt, unrolledAt, doneWith}
 use Rattle.machine.specs.Environment.{Env}
 use Rattle.machine.specs.Control as machine
@@ -182,7 +182,7 @@ module _ (p : List ℕ) where
     Frames t r b c (f ∷ K) = FrameAt t r b c f × Frames t (rowBehind r f) (stepOf r f) (continuation p (stepOf r f)) K
 
     -- the word that the thread is at, in row r
-    abbrev pub WordAt : (r : ℕ) → Focus → machine.Word → Type 0
+    abbrev pub WordAt : (r : ℕ) → ControlPoint → machine.Word → Type 0
     WordAt r f (machine.letWord q x v e) =
         (f ≡ readyAt r (q .index) (codeValue v)) × RowOf q (Binary Let) x × Stands (continuation p (q .index)) (second p (q .index)) e
     WordAt r f (machine.ifWord q e₁ e₂) =
@@ -211,6 +211,6 @@ module _ (p : List ℕ) where
     placeOf (machine.againWord q v e) = q .index
 
     -- thread t stands at f
-    abbrev pub ControlAt : (t : ℕ) → Focus → Control → Type 0
+    abbrev pub ControlAt : (t : ℕ) → ControlPoint → Control → Type 0
     ControlAt t f (done v) = f ≡ doneWith (66 * t) (codeValue v)
     ControlAt t f (at σ w K) = Values (f .row) σ × WordAt (f .row) f w × Frames t (f .row) (placeOf w) (continuation p (placeOf w)) K

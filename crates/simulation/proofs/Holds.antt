@@ -14,7 +14,7 @@ use Rattle.threads.specs.Records.{noRecord}
 use Rattle.control.specs.Layout.{thingCountsAt, nextValueAt, spaceSize}
 use Rattle.things.specs.declared.Slot.{Slot}
 use Rattle.reduction.specs.Slots.{slotAt}
-use Rattle.engine.specs.Focuses.{focusAt}
+use Rattle.engine.specs.ControlPoints.{controlPointAt}
 use Rattle.replay_theory.specs.Run.{ObjectKind, cells, locks, rwlocks, semaphores, identifiers}
 use Rattle.machine.specs.Control.{openCalls}
 use Rattle.machine.specs.State.{MachineThread}
@@ -72,7 +72,7 @@ recordOf th = record { state = statusOf (th .joined) (th .control); tid = suc (t
 
 pub record ThreadHeld (p s : List ℕ) (T : Threads) (i : ℕ) (th : MachineThread) : Type 0 where
   pub recorded : getD (T .records) i noRecord ≡ recordOf th
-  pub control : ControlAt p s i (focusAt s i) (th .control)
+  pub control : ControlAt p s i (controlPointAt s i) (th .control)
   pub settled : th .joined ≡ true → isDone (th .control) ≡ true
   pub calls : openCalls (th .control) ≤ 64
 

@@ -29,7 +29,7 @@ use Rattle.control.specs.Control.{continuation, returning, readyAt}
 use Rattle.reduction.specs.Words.{given}
 use Rattle.engine.specs.declared.Outcome.the-variants.{Stuck}
 use Rattle.engine.specs.Steps.{ending, actStep, afterAct, givesZero, joinedBy, joinedStep}
-use Rattle.replay_theory.specs.Replay.{limited}
+use Rattle.replay_theory.specs.Replay.{checkLimits}
 use Rattle.machine.specs.Environment.{Env}
 use Rattle.machine.specs.Control.{Frame, unaryWord, Control, done, at, return}
 use Rattle.machine.specs.State.{MachineThread, Machine, running}
@@ -37,7 +37,7 @@ use Rattle.machine.specs.Step.{isDone, joinable, firstOr, lowest, zeroValue, as
 use Rattle.machine.specs.Replay.{Replay, statusOf, within}
 use Rattle.machine.proofs.Joining.{JoinableAt, lowest-found, joiner-is-another}
 use Rattle.simulation.proofs.Held.{Values, Frames}
-use Rattle.simulation.proofs.Turning.{same-all, RowIn}
+use Rattle.simulation.proofs.Advancing.{same-all, RowIn}
 use Rattle.simulation.proofs.Finding.{returns-word}
 use Rattle.simulation.proofs.Holds.{recordOf, ThreadHeld, Sized, Holds}
 use Rattle.simulation.proofs.Proceeding.{place-below, set-here, Paused}
@@ -148,10 +148,10 @@ module _ (p s : List ℕ) (T : Threads) (R : Replay) (t tid : ℕ) (σ : Env) (K
   Joins o = o >>= λ j. getElem? (M .threads) j >>= λ u. some (markJoined j u (gives M t tid σ K (M .names) zeroValue))
 
   joins-one : (j : ℕ) (L : JoinableAt n (M .threads) j) →
-      Answered p (limited within (some (record { machine = markJoined j (L .thread) (gives M t tid σ K (M .names) zeroValue); things = R .things }))) (givesZero p t (readyAt row (q .index) (suc n)) (joined T j, s))
+      Answered p (checkLimits within (some (record { machine = markJoined j (L .thread) (gives M t tid σ K (M .names) zeroValue); things = R .things }))) (givesZero p t (readyAt row (q .index) (suc n)) (joined T j, s))
   unfolding givesZero given afterAct actStep
   joins-one j L =
-      subst (λ (ts : List MachineThread). Answered p (limited within (some (record { machine = record { procedures = M .procedures; threads = ts; names = M .names; next = M .next }; things = R .things }))) (givesZero p t (readyAt row (q .index) (suc n)) (joined T j, s)))
+      subst (λ (ts : List MachineThread). Answered p (checkLimits within (some (record { machine = record { procedures = M .procedures; threads = ts; names = M .names; next = M .next }; things = R .things }))) (givesZero p t (readyAt row (q .index) (suc n)) (joined T j, s)))
       (sym (sets-swap (M .threads) t j (running tid (return σ zeroValue K)) (asJoined u) apart))
       (moves p s (joined T j) (set (M .threads) j (asJoined u)) t tid (readyAt row (q .index) (suc n)) paused (M .procedures) (H .bodies) (M .names) (M .next) (R .things) (H .names) (returning row (continuation p (q .index)) 0) (return σ zeroValue K)
       (returns-word p t low σ row s zeroValue (q .index) (continuation p (q .index)) K s
@@ -186,15 +186,15 @@ module _ (p s : List ℕ) (T : Threads) (R : Replay) (t tid : ℕ) (σ : Env) (K
               let held = H .threads i th (sym (set-elsewhere (M .threads) j i (asJoined u) (λ e. f (sym e))) ∙ h) in
               record { recorded = joined-there T (M .threads) j u (H .sized) (L .there) (H .threads j u (L .there) .recorded) i f ∙ held .recorded; control = held .control; settled = held .settled; calls = held .calls }
 
-  stuck : Answered p (limited within none) (ending Stuck T, s)
-  unfolding limited
+  stuck : Answered p (checkLimits within none) (ending Stuck T, s)
+  unfolding checkLimits
   stuck = refl
 
-  pub joining-goes : Answered p (limited within (Joins (lowest n (M .threads)) >>= λ N. some (record { machine = N; things = R .things }))) (joinedStep p s T t (readyAt row (q .index) (suc n)) (suc n))
+  pub joining-goes : Answered p (checkLimits within (Joins (lowest n (M .threads)) >>= λ N. some (record { machine = N; things = R .things }))) (joinedStep p s T t (readyAt row (q .index) (suc n)) (suc n))
   unfolding joinedStep joinedBy lowestOf
   joining-goes = by-found (lowest n (M .threads)) refl
     where
-      by-found : (o : Option ℕ) → lowest n (M .threads) ≡ o → Answered p (limited within (Joins o >>= λ N. some (record { machine = N; things = R .things }))) (joinedStep p s T t (readyAt row (q .index) (suc n)) (suc n))
+      by-found : (o : Option ℕ) → lowest n (M .threads) ≡ o → Answered p (checkLimits within (Joins o >>= λ N. some (record { machine = N; things = R .things }))) (joinedStep p s T t (readyAt row (q .index) (suc n)) (suc n))
       by-found none e = rw (lowest-alike n (T .records) (M .threads) 0 records-alike, e) stuck
       by-found (some j) e =
           let L = lowest-found n (M .threads) j e in

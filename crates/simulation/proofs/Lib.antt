@@ -1,5 +1,5 @@
 pub mod Held
-pub mod Turning
+pub mod Advancing
 pub mod Finding
 pub mod Agreeing
 pub mod Holds

@@ -6,7 +6,7 @@ use mathlib.Core.Option.{Option, none, some}
 use native.Mathlib.Omega.{arith}
 use lib.ListN.{length}
 use Rattle.spec.specs.Text.{Line, closed, unclosed, lines, Field}
-use Rattle.spec.specs.Reading.{programSheet, Out, stop, on, right, Place, passed, nextLine, numerals}
+use Rattle.spec.specs.Reading.{programSheet, Result, refuse, ok, good, Place, passed, nextLine, numerals}
 use Rattle.lexer.specs.Views.{lineAt}
 use Rattle.lexer.specs.Numbers.{stored}
 use Rattle.lexer.proofs.Lines.{next-open, next-closed}
@@ -20,48 +20,48 @@ abbrev pub lineIs : Option TraceLine → (next : ℕ) → LineRead
 lineIs none next = line.Malformed
 lineIs (some l) next = line.Move (stored (l .thread)) (stored (l .choice)) next
 
-numbers-told : (o : Option (List ℕ)) (next : ℕ) → moveOf o next ≡ lineIs (spelled o) next
+numbers-decodes : (o : Option (List ℕ)) (next : ℕ) → moveOf o next ≡ lineIs (spelled o) next
 unfolding moveOf spelled twoNumbers
-numbers-told none next = refl
-numbers-told (some []) next = refl
-numbers-told (some (a ∷ [])) next = refl
-numbers-told (some (a ∷ b ∷ [])) next = refl
-numbers-told (some (a ∷ b ∷ c ∷ ns)) next = refl
+numbers-decodes none next = refl
+numbers-decodes (some []) next = refl
+numbers-decodes (some (a ∷ [])) next = refl
+numbers-decodes (some (a ∷ b ∷ [])) next = refl
+numbers-decodes (some (a ∷ b ∷ c ∷ ns)) next = refl
 
 -- the line as its fields, by the reader of counted lines
 abbrev Shown : Type 0
-Shown = Out (List Field × Place)
+Shown = Result (List Field × Place)
 
 abbrev fieldsOf : Shown → List Field
-fieldsOf (stop r) = []
-fieldsOf (on x) = x .0
+fieldsOf (refuse r) = []
+fieldsOf (ok x) = x .0
 
 abbrev restOf : Shown → List Line
-restOf (stop r) = []
-restOf (on x) = x .1 .rest
+restOf (refuse r) = []
+restOf (ok x) = x .1 .rest
 
 abbrev stopped : Shown → ℕ
-stopped (stop r) = 1
-stopped (on x) = 0
+stopped (refuse r) = 1
+stopped (ok x) = 0
 
 -- the first of the lines of t, and those behind it, in a text of n bytes
-pub data LineTold (t : List ℕ) (l : Line) (ls : List Line) (n : ℕ) : Type 0 where
-  open-line : moveIn n (lineAt t) ≡ line.Malformed → traceLine l ≡ none → LineTold t l ls n
-  shut-line : (fs : List Field) (r : List ℕ) → lineAt t ≡ some (fs, r) → moveIn n (lineAt t) ≡ lineIs (traceLine l) (n - length r) → lines r ≡ ls → LineTold t l ls n
+pub data LineDecoded (t : List ℕ) (l : Line) (ls : List Line) (n : ℕ) : Type 0 where
+  open-line : moveIn n (lineAt t) ≡ line.Malformed → traceLine l ≡ none → LineDecoded t l ls n
+  shut-line : (fs : List Field) (r : List ℕ) → lineAt t ≡ some (fs, r) → moveIn n (lineAt t) ≡ lineIs (traceLine l) (n - length r) → lines r ≡ ls → LineDecoded t l ls n
 
-pub line-told : (t : List ℕ) (l : Line) (ls : List Line) (n : ℕ) → lines t ≡ l ∷ ls → LineTold t l ls n
+pub line-decodes : (t : List ℕ) (l : Line) (ls : List Line) (n : ℕ) → lines t ≡ l ∷ ls → LineDecoded t l ls n
 unfolding nextLine passed moveIn traceLine lines
-line-told [] l ls n e = absurd (let z : _≡_ {A = ℕ} 0 1 = cc in omega arith)
-line-told (b ∷ t) l ls n e = by-line (lineAt (b ∷ t)) refl l e
+line-decodes [] l ls n e = absurd (let z : _≡_ {A = ℕ} 0 1 = cc in omega arith)
+line-decodes (b ∷ t) l ls n e = by-line (lineAt (b ∷ t)) refl l e
   where
-    by-line : (o : Option (List Field × List ℕ)) → lineAt (b ∷ t) ≡ o → (l : Line) → lines (b ∷ t) ≡ l ∷ ls → LineTold (b ∷ t) l ls n
+    by-line : (o : Option (List Field × List ℕ)) → lineAt (b ∷ t) ≡ o → (l : Line) → lines (b ∷ t) ≡ l ∷ ls → LineDecoded (b ∷ t) l ls n
     by-line none h (unclosed c) e = open-line (ap (moveIn n) h) refl
     by-line none h (closed c) e =
-        let k = ap stopped (sym (ap (nextLine programSheet right 0) e) ∙ next-open programSheet right 0 (b ∷ t) (omega arith) h) in absurd (omega (arith, k))
+        let k = ap stopped (sym (ap (nextLine programSheet good 0) e) ∙ next-open programSheet good 0 (b ∷ t) (omega arith) h) in absurd (omega (arith, k))
     by-line (some (fs, r)) h (unclosed c) e =
-        let k = ap stopped (sym (ap (nextLine programSheet right 0) e) ∙ next-closed programSheet right 0 (b ∷ t) fs r h) in absurd (omega (arith, k))
+        let k = ap stopped (sym (ap (nextLine programSheet good 0) e) ∙ next-closed programSheet good 0 (b ∷ t) fs r h) in absurd (omega (arith, k))
     by-line (some (fs, r)) h (closed c) e =
-        let k = sym (ap (nextLine programSheet right 0) e) ∙ next-closed programSheet right 0 (b ∷ t) fs r h in
+        let k = sym (ap (nextLine programSheet good 0) e) ∙ next-closed programSheet good 0 (b ∷ t) fs r h in
         shut-line fs r h
-        (ap (moveIn n) h ∙ numbers-told (numerals fs) (n - length r) ∙ ap (λ (gs : List Field). lineIs (spelled (numerals gs)) (n - length r)) (sym (ap fieldsOf k)))
+        (ap (moveIn n) h ∙ numbers-decodes (numerals fs) (n - length r) ∙ ap (λ (gs : List Field). lineIs (spelled (numerals gs)) (n - length r)) (sym (ap fieldsOf k)))
         (sym (ap restOf k))

@@ -27,15 +27,15 @@ use Rattle.control.specs.Layout.{thingCountsAt, nextValueAt, thingKindsAt, thin
 use Rattle.control.specs.Shapes.{shapeAt, isWrite}
 use Rattle.control.specs.Control.{continuation, returning, stoppedAt, readyAt}
 use Rattle.things.specs.declared.Slot.{Slot}
-use Rattle.control.specs.declared.Focus.{Focus}
+use Rattle.control.specs.declared.ControlPoint.{ControlPoint}
 use Rattle.reduction.specs.declared.words.Act.{Act}
 use Rattle.reduction.specs.declared.words.Act.the-variants as act
-use Rattle.things.specs.Uses.{slot, madeOf, usedBy}
+use Rattle.things.specs.Uses.{slot, madeOf, effectOf}
 use Rattle.reduction.specs.Slots.{slotAt, slotPut}
 use Rattle.reduction.specs.Words.{given, withThing, newThing, subject, operand, effected, wordUsed, actedBy, acted}
 use Rattle.engine.specs.Steps.{actStep, afterAct}
 use Rattle.replay_theory.specs.Run.{ObjectKind, cells, locks, rwlocks, semaphores, identifiers, sameKind, oneMore, threadLimit, thingLimit, withinLimits, kindMade}
-use Rattle.replay_theory.specs.Replay.{limited}
+use Rattle.replay_theory.specs.Replay.{checkLimits}
 use Rattle.machine.specs.Environment.{Env}
 use Rattle.machine.specs.Control as machine
 use Rattle.machine.specs.Control.{Frame, at, return}
@@ -43,7 +43,7 @@ use Rattle.machine.specs.State.{Machine, running}
 use Rattle.machine.specs.Step.{creates}
 use Rattle.machine.specs.Replay.{Replay, within}
 use Rattle.simulation.proofs.Held.{noPartWord, NoPartNumber, RowOf, Values, Frames}
-use Rattle.simulation.proofs.Turning.{same-all, RowIn}
+use Rattle.simulation.proofs.Advancing.{same-all, RowIn}
 use Rattle.simulation.proofs.Finding.{frames-same, returns-word}
 use Rattle.simulation.proofs.Agreeing.{Agree, rows-same, agree-then, agree-shared}
 use Rattle.simulation.proofs.Holds.{SlotIs, kindCode, kind-low, allThings, NamesHeld, Holds}
@@ -185,7 +185,7 @@ module _ {s : List ℕ} {names : ℕ → state.Slot} {next : ℕ} {things : Obje
 -- ------------------------------------------------------------------ the machine's word
 
 module _ (p s : List ℕ) (T : Threads) (R : Replay) (t tid : ℕ) (σ : Env) (K : List Frame) (H : Holds p s T R) (low : t < 16) (row : ℕ) (inside : RowIn t row) (values : Values p s row σ)
-    (w : machine.Word) (f : Focus) (j : ℕ) (j-low : j < 256) (F : Frames p s t row j (continuation p j) K) (there : getElem? (R .machine .threads) t ≡ some (running tid (at σ w K)))
+    (w : machine.Word) (f : ControlPoint) (j : ℕ) (j-low : j < 256) (F : Frames p s t row j (continuation p j) K) (there : getElem? (R .machine .threads) t ≡ some (running tid (at σ w K)))
     (k : ObjectKind) (x : Slot) (new : state.Slot) (is-kind : x .kind ≡ kindCode k) (is : SlotIs x new) where
   abbrev M : Machine
   M = R .machine
@@ -196,10 +196,10 @@ module _ (p s : List ℕ) (T : Threads) (R : Replay) (t tid : ℕ) (σ : Env) (K
   counted-here : getD s (thingCountsAt + x .kind) 0 ≡ R .things k
   counted-here = ap (λ (i : ℕ). getD s (thingCountsAt + i) 0) is-kind ∙ H .names .counted k
 
-  makes-room : R .things k < 64 → Answered p (limited within (some Created)) (afterAct p T t f (newThing p s row j x))
+  makes-room : R .things k < 64 → Answered p (checkLimits within (some Created)) (afterAct p T t f (newThing p s row j x))
   unfolding newThing given
   makes-room room =
-      subst (λ (a : Act × List ℕ). Answered p (limited within (some Created)) (afterAct p T t f a)) (sym made-here)
+      subst (λ (a : Act × List ℕ). Answered p (checkLimits within (some Created)) (afterAct p T t f a)) (sym made-here)
       (moves p after T (M .threads) t tid f
       (pausing p s T R t tid (at σ w K) H there refl after (long₃ (H .names) (H .long) k x new is-kind is room) (λ i h m. agree-made (H .names) (H .long) k x new is-kind is room i h))
       (M .procedures) (H .bodies) (update (M .names) (M .next) new) (suc (M .next)) (oneMore k (R .things)) (names-made (H .names) (H .long) k x new is-kind is room)
@@ -224,8 +224,8 @@ module _ (p s : List ℕ) (T : Threads) (R : Replay) (t tid : ℕ) (σ : Env) (K
           rw (counted-here, H .names .nextStored, lt-leb 64 (R .things k) room, lt-leb 322 (suc (M .next)) (next-low (H .names) (H .long) k x new is-kind is room))
           (ap (λ (z : List ℕ). (act.Go (returning row (continuation p j) (suc (M .next))), z)) (thing-added (H .names) (H .long) k x new is-kind is room))
 
-  makes-none : 64 ≤ R .things k → Answered p (limited within (some Created)) (afterAct p T t f (newThing p s row j x))
-  unfolding limited within newThing afterAct actStep
+  makes-none : 64 ≤ R .things k → Answered p (checkLimits within (some Created)) (afterAct p T t f (newThing p s row j x))
+  unfolding checkLimits within newThing afterAct actStep
   makes-none full =
       rw (
         ap (λ (n : ℕ). withinLimits n (oneMore k (R .things))) (length-set (M .threads) t (running tid (return σ (name (M .next)) K))) ∙ past-limits (length (M .threads)) k (R .things) (H .sized .fits) (H .names .few) full,
@@ -234,10 +234,10 @@ module _ (p s : List ℕ) (T : Threads) (R : Replay) (t tid : ℕ) (σ : Env) (K
       )
       refl
 
-  pub making-goes : Answered p (limited within (some Created)) (afterAct p T t f (newThing p s row j x))
+  pub making-goes : Answered p (checkLimits within (some Created)) (afterAct p T t f (newThing p s row j x))
   making-goes = go (decLt (R .things k) 64)
     where
-      go : Dec (R .things k < 64) → Answered p (limited within (some Created)) (afterAct p T t f (newThing p s row j x))
+      go : Dec (R .things k < 64) → Answered p (checkLimits within (some Created)) (afterAct p T t f (newThing p s row j x))
       go (yes room) = makes-room room
       go (no f) = makes-none (omega (arith, f))
 
@@ -251,14 +251,14 @@ makerSlot (newrwlock N) = slot 5 N 0
 
 module _ (p s : List ℕ) (row c : ℕ) {q : Position} {v : ℕ} where
   pub maker-acts : (o : calculus.Nullary) → NoPartNumber o v → RowOf p q (Leaf (noPartWord o)) v → acted p s (stoppedAt row (q .index)) c ≡ newThing p s row (q .index) (makerSlot o)
-  unfolding acted actedBy wordUsed effected subject operand usedBy madeOf shapeAt isWrite ruleOf printed
+  unfolding acted actedBy wordUsed effected subject operand effectOf madeOf shapeAt isWrite ruleOf printed
   maker-acts newtid n r = rw (r .code) (rw (r .code))
   maker-acts newlock n r = rw (r .code) (rw (r .code))
   maker-acts newsem n r = rw (r .code) (rw (r .code))
   maker-acts (newrwlock N) n r = rw (r .code) (rw (r .code, r .number, n))
 
   pub ref-acts : (w : ℕ) → RowOf p q (Unary Ref) v → acted p s (readyAt row (q .index) w) c ≡ newThing p s row (q .index) (slot 2 w 0)
-  unfolding acted actedBy wordUsed effected subject operand usedBy madeOf shapeAt isWrite ruleOf printed
+  unfolding acted actedBy wordUsed effected subject operand effectOf madeOf shapeAt isWrite ruleOf printed
   ref-acts w r = rw (r .code) (rw (r .code))
 
 pub maker-kind : (o : calculus.Nullary) → makerSlot o .kind ≡ kindCode (kindMade o)

@@ -16,23 +16,23 @@ use Rattle.replay_theory.specs.declared.Status.the-variants.{Running}
 use Rattle.threads.specs.declared.Threads.{Threads}
 use Rattle.engine.specs.declared.Outcome.the-variants.{Moved, Stuck, Past}
 use Rattle.engine.specs.declared.Stepped.{Stepped}
-use Rattle.control.specs.Layout.{focusRowsAt, spaceSize}
-use Rattle.control.specs.declared.Focus.{Focus}
+use Rattle.control.specs.Layout.{controlPointRowsAt, spaceSize}
+use Rattle.control.specs.declared.ControlPoint.{ControlPoint}
 use Rattle.control.specs.Control.{found}
 use Rattle.reduction.specs.declared.words.Act.the-variants as act
-use Rattle.engine.specs.Focuses.{focusAt, settled, wentOn}
+use Rattle.engine.specs.ControlPoints.{controlPointAt, settled, wentOn}
 use Rattle.engine.specs.Steps.{recorded, proceeded, outcomeOf, movedTo, actStep, afterAct}
 use Rattle.replay_theory.specs.Run.{ObjectKind, cells, locks, rwlocks, semaphores, identifiers, threadLimit, thingLimit, withinLimits, callLimit}
-use Rattle.replay_theory.specs.Replay.{Outcome, badForm, noStep, pastLimit, step, limited}
+use Rattle.replay_theory.specs.Replay.{Outcome, badForm, noStep, pastLimit, step, checkLimits}
 use Rattle.spec.specs.Expression.{Procedure}
 use Rattle.machine.specs.Control.{Control, done, at, openCalls}
 use Rattle.machine.specs.Step.{isDone}
 use Rattle.machine.specs.State.{MachineThread, unless, ofLive, running}
 use Rattle.machine.specs.Replay.{Replay, within, callsIn, countsWithin}
 use Rattle.simulation.proofs.Held.{BodiesStand, placeOf, ControlAt}
-use Rattle.simulation.proofs.Turning.{SameBut}
+use Rattle.simulation.proofs.Advancing.{SameBut}
 use Rattle.simulation.proofs.Finding.{frames-row}
-use Rattle.simulation.proofs.Agreeing.{Agree, control-same, focus-here}
+use Rattle.simulation.proofs.Agreeing.{Agree, control-same, control-point-here}
 use Rattle.simulation.proofs.Holds.{NamesHeld, recordOf, Holds}
 use Rattle.simulation.proofs.Proceeding.{place-below, Paused, low, proceeds}
 
@@ -96,9 +96,9 @@ module _ (p : List ℕ) (R : Replay) where
 -- ------------------------------------------------------------------ a thread goes on
 
 -- the row in which a thread stands tells its open calls
-pub row-tells : (p s : List ℕ) (t : ℕ) (f : Focus) (d : Control) → ControlAt p s t f d → f .row ≡ 66 * t + openCalls d
+pub row-tells : (p s : List ℕ) (t : ℕ) (f : ControlPoint) (d : Control) → ControlAt p s t f d → f .row ≡ 66 * t + openCalls d
 unfolding openCalls
-row-tells p s t f (done v) C = let e = ap (λ (g : Focus). g .row) C in omega (arith, e)
+row-tells p s t f (done v) C = let e = ap (λ (g : ControlPoint). g .row) C in omega (arith, e)
 row-tells p s t f (at σ w K) (values, W, F) = frames-row p t s K (f .row) (placeOf p s w) _ F
 
 set-there : {A : Type 0} (xs : List A) (i : ℕ) (a : A) → i < length xs → getElem? (set xs i a) i ≡ some a
@@ -106,42 +106,42 @@ set-there [] i a h = absurd (omega (arith, h))
 set-there (x ∷ xs) zero a h = refl
 set-there (x ∷ xs) (suc i) a h = set-there xs i a (omega (arith, h))
 
-module _ (p s : List ℕ) (T : Threads) (ts : List MachineThread) (t tid : ℕ) (f : Focus) (P : Paused p s T ts t tid) (Q : List Procedure) (B : BodiesStand p Q)
-    (names : ℕ → state.Slot) (next : ℕ) (things : ObjectKind → ℕ) (N : NamesHeld s names next things) (g : Focus) (d : Control)
+module _ (p s : List ℕ) (T : Threads) (ts : List MachineThread) (t tid : ℕ) (f : ControlPoint) (P : Paused p s T ts t tid) (Q : List Procedure) (B : BodiesStand p Q)
+    (names : ℕ → state.Slot) (next : ℕ) (things : ObjectKind → ℕ) (N : NamesHeld s names next things) (g : ControlPoint) (d : Control)
     (F : ControlAt p (found 2048 p s g .1) t (found 2048 p s g .0) d × SameBut t s (found 2048 p s g .1)) where
   abbrev Next : Replay
   Next = record { machine = record { procedures = Q; threads = set ts t (running tid d); names = names; next = next }; things = things }
 
   -- what is stored of its row, once it has gone on
-  row-after : getD (proceeded p s T t g .1) (focusRowsAt + t) 0 ≡ 66 * t + openCalls d
-  unfolding proceeded recorded wentOn settled focusAt
+  row-after : getD (proceeded p s T t g .1) (controlPointRowsAt + t) 0 ≡ 66 * t + openCalls d
+  unfolding proceeded recorded wentOn settled controlPointAt
   row-after =
       let found-at = found 2048 p s g .0 in
       let after = found 2048 p s g .1 in
-      ap (λ (h : Focus). h .row) (focus-here after t found-at (F .1 .long ∙ P .long) (low p s T ts t tid P)) ∙ row-tells p after t found-at d (F .0)
+      ap (λ (h : ControlPoint). h .row) (control-point-here after t found-at (F .1 .long ∙ P .long) (low p s T ts t tid P)) ∙ row-tells p after t found-at d (F .0)
 
-  go-holds : openCalls d ≤ 64 → Answered p (limited within (some Next)) (afterAct p T t f (act.Go g, s))
-  unfolding limited afterAct actStep movedTo outcomeOf
+  go-holds : openCalls d ≤ 64 → Answered p (checkLimits within (some Next)) (afterAct p T t f (act.Go g, s))
+  unfolding checkLimits afterAct actStep movedTo outcomeOf
   go-holds few =
       let H = proceeds p s T ts t tid P Q B names next things N g d few F in
       let e = row-after in
-      rw (within-held p Next H, le-ltb (66 * t + 64) (getD (proceeded p s T t g .1) (focusRowsAt + t) 0) (omega (arith, e, few))) (refl, H)
+      rw (within-held p Next H, le-ltb (66 * t + 64) (getD (proceeded p s T t g .1) (controlPointRowsAt + t) 0) (omega (arith, e, few))) (refl, H)
 
-  go-fails : 64 < openCalls d → Answered p (limited within (some Next)) (afterAct p T t f (act.Go g, s))
-  unfolding limited afterAct actStep movedTo outcomeOf
+  go-fails : 64 < openCalls d → Answered p (checkLimits within (some Next)) (afterAct p T t f (act.Go g, s))
+  unfolding checkLimits afterAct actStep movedTo outcomeOf
   go-fails over =
       let e = row-after in
       rw (
         within-fails p Next t (running tid d) (set-there ts t (running tid d) (P .there)) refl over,
-        lt-ltb (66 * t + 64) (getD (proceeded p s T t g .1) (focusRowsAt + t) 0) (omega (arith, e, over)),
+        lt-ltb (66 * t + 64) (getD (proceeded p s T t g .1) (controlPointRowsAt + t) 0) (omega (arith, e, over)),
       )
       refl
 
   -- the thread has gone on to d; if it has too many open calls now, the step is past the limit
-  pub moves : Answered p (limited within (some Next)) (afterAct p T t f (act.Go g, s))
+  pub moves : Answered p (checkLimits within (some Next)) (afterAct p T t f (act.Go g, s))
   moves = by-calls (decLe (openCalls d) 64)
     where
-      by-calls : Dec (openCalls d ≤ 64) → Answered p (limited within (some Next)) (afterAct p T t f (act.Go g, s))
+      by-calls : Dec (openCalls d ≤ 64) → Answered p (checkLimits within (some Next)) (afterAct p T t f (act.Go g, s))
       by-calls (yes few) = go-holds few
       by-calls (no n) = go-fails (omega (arith, n))
 
@@ -162,7 +162,7 @@ pausing p s T R t tid d H there not-done s₁ long agree = record {
       let a = agree i (omega arith) n in
       record {
         recorded = held .recorded;
-        control = subst (λ (f : Focus). ControlAt p s₁ i f (th .control)) (sym (a .focused)) (control-same p i s s₁ (a .rows) (focusAt s i) (th .control) (let c = held .calls in omega arith) (held .control));
+        control = subst (λ (f : ControlPoint). ControlAt p s₁ i f (th .control)) (sym (a .focused)) (control-same p i s s₁ (a .rows) (controlPointAt s i) (th .control) (let c = held .calls in omega arith) (held .control));
         settled = held .settled;
         calls = held .calls;
       };

@@ -101,10 +101,10 @@ module _ {s : List ℕ} {names : ℕ → state.Slot} {next : ℕ} {things : Obje
   slotOf (int k) = unused
   slotOf (name n) = names n
 
-  pub slot-told : (v : Value) → SlotIs (slotAt s (codeValue v)) (slotOf v)
+  pub slot-decodes : (v : Value) → SlotIs (slotAt s (codeValue v)) (slotOf v)
   unfolding slotAt
-  slot-told (int k) = N .constant
-  slot-told (name n) = go (decLt (suc n) 322)
+  slot-decodes (int k) = N .constant
+  slot-decodes (name n) = go (decLt (suc n) 322)
     where
       go : Dec (suc n < 322) → SlotIs (slotAt s (suc n)) (names n)
       go (yes l) = N .slots n l

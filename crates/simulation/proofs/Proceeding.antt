@@ -21,11 +21,11 @@ use Rattle.threads.specs.declared.Threads.{Threads}
 use Rattle.threads.specs.Records.{noRecord}
 use Rattle.threads.specs.Threads.{turned, finished}
 use Rattle.control.specs.Layout.{thingCountsAt, nextValueAt, thingKindsAt, thingFirstsAt, thingSecondsAt, spaceSize}
-use Rattle.control.specs.declared.Focus.{Focus}
+use Rattle.control.specs.declared.ControlPoint.{ControlPoint}
 use Rattle.control.specs.Control.{found}
 use Rattle.things.specs.Uses.{slot}
 use Rattle.reduction.specs.Slots.{slotAt}
-use Rattle.engine.specs.Focuses.{focusAt, focusPut, settled, wentOn}
+use Rattle.engine.specs.ControlPoints.{controlPointAt, controlPointPut, settled, wentOn}
 use Rattle.engine.specs.Steps.{recorded, proceeded}
 use Rattle.replay_theory.specs.Run.{ObjectKind}
 use Rattle.machine.specs.Control as machine
@@ -34,8 +34,8 @@ use Rattle.machine.specs.State.{MachineThread, running}
 use Rattle.machine.specs.Step.{isDone}
 use Rattle.spec.specs.Expression.{Procedure}
 use Rattle.simulation.proofs.Held.{BodiesStand, ControlAt, WordAt}
-use Rattle.simulation.proofs.Turning.{SameBut}
-use Rattle.simulation.proofs.Agreeing.{SharedSame, control-same, agree-then, agree-found, shared-found, focus-here, focus-length, focus-other, focus-shared, focus-rows}
+use Rattle.simulation.proofs.Advancing.{SameBut}
+use Rattle.simulation.proofs.Agreeing.{SharedSame, control-same, agree-then, agree-found, shared-found, control-point-here, control-point-length, control-point-other, control-point-shared, control-point-rows}
 use Rattle.simulation.proofs.Holds.{NamesHeld, SlotIs, kindCode, recordOf, ThreadHeld, Sized, ThreadsHeld, Holds}
 
 -- ------------------------------------------------------------------ names
@@ -58,20 +58,20 @@ names-same s s′ {names = names} h N = record {
 -- ------------------------------------------------------------------ the record
 
 -- whether the loop found no word
-mode-tells : (p s : List ℕ) (t : ℕ) (f : Focus) (d : Control) → ControlAt p s t f d → eqb (f .mode) 5 ≡ isDone d
-mode-tells p s t f (done v) C = ap (λ (g : Focus). eqb (g .mode) 5) C
+mode-tells : (p s : List ℕ) (t : ℕ) (f : ControlPoint) (d : Control) → ControlAt p s t f d → eqb (f .mode) 5 ≡ isDone d
+mode-tells p s t f (done v) C = ap (λ (g : ControlPoint). eqb (g .mode) 5) C
 mode-tells p s t f (at σ w K) (values, W, F) = word-tells w W
   where
     word-tells : (w : machine.Word) → WordAt p s (f .row) f w → eqb (f .mode) 5 ≡ false
-    word-tells (machine.letWord q x v e) W = ap (λ (g : Focus). eqb (g .mode) 5) (W .0)
-    word-tells (machine.ifWord q e₁ e₂) W = ap (λ (g : Focus). eqb (g .mode) 5) (W .0)
-    word-tells (machine.whileWord q e) W = ap (λ (g : Focus). eqb (g .mode) 5) (W .0)
-    word-tells (machine.spawnWord q v e) W = ap (λ (g : Focus). eqb (g .mode) 5) (W .0)
-    word-tells (machine.writeWord q v w) W = ap (λ (g : Focus). eqb (g .mode) 5) (W .0)
-    word-tells (machine.unaryWord q o v) W = ap (λ (g : Focus). eqb (g .mode) 5) (W .0)
-    word-tells (machine.nullaryWord q o) W = ap (λ (g : Focus). eqb (g .mode) 5) (W .0)
-    word-tells (machine.unrolledWord q e) W = ap (λ (g : Focus). eqb (g .mode) 5) (W .0)
-    word-tells (machine.againWord q v e) W = ap (λ (g : Focus). eqb (g .mode) 5) (W .0)
+    word-tells (machine.letWord q x v e) W = ap (λ (g : ControlPoint). eqb (g .mode) 5) (W .0)
+    word-tells (machine.ifWord q e₁ e₂) W = ap (λ (g : ControlPoint). eqb (g .mode) 5) (W .0)
+    word-tells (machine.whileWord q e) W = ap (λ (g : ControlPoint). eqb (g .mode) 5) (W .0)
+    word-tells (machine.spawnWord q v e) W = ap (λ (g : ControlPoint). eqb (g .mode) 5) (W .0)
+    word-tells (machine.writeWord q v w) W = ap (λ (g : ControlPoint). eqb (g .mode) 5) (W .0)
+    word-tells (machine.unaryWord q o v) W = ap (λ (g : ControlPoint). eqb (g .mode) 5) (W .0)
+    word-tells (machine.nullaryWord q o) W = ap (λ (g : ControlPoint). eqb (g .mode) 5) (W .0)
+    word-tells (machine.unrolledWord q e) W = ap (λ (g : ControlPoint). eqb (g .mode) 5) (W .0)
+    word-tells (machine.againWord q v e) W = ap (λ (g : ControlPoint). eqb (g .mode) 5) (W .0)
 
 abbrev runningRecord : (tid : ℕ) → Record
 runningRecord tid = record { state = Running; tid = suc tid }
@@ -130,9 +130,9 @@ module _ (p s : List ℕ) (T : Threads) (ts : List MachineThread) (t tid : ℕ) 
   abbrev goneTo : Control → List MachineThread
   goneTo d = set ts t (running tid d)
 
-  module _ (g : Focus) (s₂ : List ℕ) (d : Control) (few : openCalls d ≤ 64) (C : ControlAt p s₂ t g d) (S : SameBut t s s₂) where
+  module _ (g : ControlPoint) (s₂ : List ℕ) (d : Control) (few : openCalls d ≤ 64) (C : ControlAt p s₂ t g d) (S : SameBut t s s₂) where
     abbrev s′ : List ℕ
-    s′ = focusPut s₂ t g
+    s′ = controlPointPut s₂ t g
 
     abbrev T′ : Threads
     T′ = after T t tid low (P .sized .records) (P .was) d
@@ -141,7 +141,7 @@ module _ (p s : List ℕ) (T : Threads) (ts : List MachineThread) (t tid : ℕ) 
     long₂ = S .long ∙ P .long
 
     shared : SharedSame s s′
-    shared j h = focus-shared t s₂ g low j h ∙ shared-found t s s₂ low S j h
+    shared j h = control-point-shared t s₂ g low j h ∙ shared-found t s s₂ low S j h
 
     sized-after : Sized T′ (goneTo d)
     sized-after = record {
@@ -157,7 +157,7 @@ module _ (p s : List ℕ) (T : Threads) (ts : List MachineThread) (t tid : ℕ) 
     thread-here : ThreadHeld p s′ T′ t (running tid d)
     thread-here = record {
       recorded = record-here T t tid low (P .sized .records) (P .was) d;
-      control = subst (λ (f : Focus). ControlAt p s′ t f d) (sym (focus-here s₂ t g long₂ low)) (control-same p t s₂ s′ (focus-rows t t s₂ g low low) g d (omega (arith, few)) C);
+      control = subst (λ (f : ControlPoint). ControlAt p s′ t f d) (sym (control-point-here s₂ t g long₂ low)) (control-same p t s₂ s′ (control-point-rows t t s₂ g low low) g d (omega (arith, few)) C);
       settled = λ e. absurd (let z : _≡_ {A = ℕ} 0 1 = cc in omega arith);
       calls = few;
     }
@@ -166,11 +166,11 @@ module _ (p s : List ℕ) (T : Threads) (ts : List MachineThread) (t tid : ℕ) 
     thread-there i th n h =
         let l = place-below ts i th h in
         let f = P .sized .fits in
-        let a = agree-then (agree-found i t s s₂ (omega arith) low n S) (focus-other i t s₂ g (omega arith) low n) in
+        let a = agree-then (agree-found i t s s₂ (omega arith) low n S) (control-point-other i t s₂ g (omega arith) low n) in
         let held = P .others i th n h in
         record {
           recorded = record-there T t tid low (P .sized .records) (P .was) d i n ∙ held .recorded;
-          control = subst (λ (f : Focus). ControlAt p s′ i f (th .control)) (sym (a .focused)) (control-same p i s s′ (a .rows) (focusAt s i) (th .control) (let n = held .calls in omega arith) (held .control));
+          control = subst (λ (f : ControlPoint). ControlAt p s′ i f (th .control)) (sym (a .focused)) (control-same p i s s′ (a .rows) (controlPointAt s i) (th .control) (let n = held .calls in omega arith) (held .control));
           settled = held .settled;
           calls = held .calls;
         }
@@ -185,21 +185,21 @@ module _ (p s : List ℕ) (T : Threads) (ts : List MachineThread) (t tid : ℕ) 
         by-place (no n) = thread-there i th n (sym (set-elsewhere ts t i (running tid d) (λ e. n (sym e))) ∙ h)
 
   -- the thread has gone on to d
-  pub proceeds : (Q : List Procedure) → BodiesStand p Q → (names : ℕ → calculus.Slot) (next : ℕ) (things : ObjectKind → ℕ) → NamesHeld s names next things → (f : Focus) (d : Control) → openCalls d ≤ 64 →
+  pub proceeds : (Q : List Procedure) → BodiesStand p Q → (names : ℕ → calculus.Slot) (next : ℕ) (things : ObjectKind → ℕ) → NamesHeld s names next things → (f : ControlPoint) (d : Control) → openCalls d ≤ 64 →
       ControlAt p (found 2048 p s f .1) t (found 2048 p s f .0) d × SameBut t s (found 2048 p s f .1) →
       Holds p (proceeded p s T t f .1) (proceeded p s T t f .0) (record { machine = record { procedures = Q; threads = goneTo d; names = names; next = next }; things = things })
   unfolding proceeded recorded wentOn settled
   proceeds Q B names next things N f d few (C, S) = with-found (found 2048 p s f .0) (found 2048 p s f .1) C S
     where
-      with-found : (g : Focus) (s₂ : List ℕ) → ControlAt p s₂ t g d → SameBut t s s₂ →
-          Holds p (focusPut s₂ t g) (if eqb (g .mode) 5 then finished T t else T) (record { machine = record { procedures = Q; threads = goneTo d; names = names; next = next }; things = things })
+      with-found : (g : ControlPoint) (s₂ : List ℕ) → ControlAt p s₂ t g d → SameBut t s s₂ →
+          Holds p (controlPointPut s₂ t g) (if eqb (g .mode) 5 then finished T t else T) (record { machine = record { procedures = Q; threads = goneTo d; names = names; next = next }; things = things })
       with-found g s₂ C S =
-          subst (λ (b : Bool). Holds p (focusPut s₂ t g) (if b then finished T t else T) (record { machine = record { procedures = Q; threads = goneTo d; names = names; next = next }; things = things }))
+          subst (λ (b : Bool). Holds p (controlPointPut s₂ t g) (if b then finished T t else T) (record { machine = record { procedures = Q; threads = goneTo d; names = names; next = next }; things = things }))
           (sym (mode-tells p s₂ t g d C))
           (record {
-            long = focus-length s₂ t g ∙ long₂ g s₂ d few C S;
+            long = control-point-length s₂ t g ∙ long₂ g s₂ d few C S;
             bodies = B;
-            names = names-same s (focusPut s₂ t g) (shared g s₂ d few C S) N;
+            names = names-same s (controlPointPut s₂ t g) (shared g s₂ d few C S) N;
             sized = sized-after g s₂ d few C S;
             threads = threads-after g s₂ d few C S;
           })

@@ -21,11 +21,11 @@ use Rattle.calculus.specs.State.{unused, identifier, cell, aLock, opened, close
 use Rattle.calculus.specs.Reduction.{_>>=_, _>>_, cellValue}
 use Rattle.workspace.specs.Layout.{ruleOf, codeOf, printed}
 use Rattle.threads.specs.declared.Threads.{Threads}
-use Rattle.control.specs.declared.Focus.{Focus}
+use Rattle.control.specs.declared.ControlPoint.{ControlPoint}
 use Rattle.control.specs.Shapes.{shapeAt, isWrite}
 use Rattle.control.specs.Control.{kept, readyAt}
 use Rattle.things.specs.declared.Slot.{Slot}
-use Rattle.things.specs.Uses.{madeOf, spawnedOf, joinedOf, readOf, writtenOf, lockedOf, unlockedOf, postedOf, waitedOf, rdlockedOf, rdunlockedOf, wrlockedOf, wrunlockedOf, usedBy}
+use Rattle.things.specs.Uses.{madeOf, spawnedOf, joinedOf, readOf, writtenOf, lockedOf, unlockedOf, postedOf, waitedOf, rdlockedOf, rdunlockedOf, wrlockedOf, wrunlockedOf, effectOf}
 use Rattle.engine.specs.declared.races.Access.{Access}
 use Rattle.engine.specs.declared.races.Access.the-variants.{None, Read, Write}
 use Rattle.engine.specs.declared.races.Partner.{Partner}
@@ -33,7 +33,7 @@ use Rattle.engine.specs.declared.races.Partner.the-variants as partner
 use Rattle.engine.specs.declared.races.Pair.{Pair}
 use Rattle.engine.specs.declared.races.Pair.the-variants as pair
 use Rattle.reduction.specs.Slots.{slotAt}
-use Rattle.engine.specs.Focuses.{focusAt}
+use Rattle.engine.specs.ControlPoints.{controlPointAt}
 use Rattle.reduction.specs.Words.{subject}
 use Rattle.engine.specs.Races.{accessBy, accessAt, accessOf, reads, writes, clash, partnerOf, partnerFrom, pairWith, pairOf, lowestPair}
 use Rattle.replay_theory.specs.Run.{ofUnary}
@@ -47,7 +47,7 @@ use Rattle.machine.specs.Replay as replay
 use Rattle.machine.specs.Replay.{Replay, usesIn}
 use Rattle.simulation.proofs.Held.{codeValue, partWord, RowOf, WordAt, ControlAt}
 use Rattle.simulation.proofs.Holds.{SlotIs, Holds}
-use Rattle.simulation.proofs.Naming.{slot-told}
+use Rattle.simulation.proofs.Naming.{slot-decodes}
 
 -- ------------------------------------------------------------------ two threads
 
@@ -101,13 +101,13 @@ clash-none None = refl
 clash-none (Read v) = refl
 clash-none (Write v) = refl
 
-abbrev pub partnerTold : Partner → Option ℕ
-partnerTold partner.None = none
-partnerTold (partner.Is j) = some j
+abbrev pub partnerDecoded : Partner → Option ℕ
+partnerDecoded partner.None = none
+partnerDecoded (partner.Is j) = some j
 
-abbrev pub pairTold : Pair → Option (ℕ × ℕ)
-pairTold pair.None = none
-pairTold (pair.Of i j) = some (i, j)
+abbrev pub pairDecoded : Pair → Option (ℕ × ℕ)
+pairDecoded pair.None = none
+pairDecoded (pair.Of i j) = some (i, j)
 
 module _ (p s : List ℕ) (usesAt : ℕ → MachineThread → ℕ × Uses) (numbered : (i : ℕ) (th : MachineThread) → usesAt i th .0 ≡ i) where
   -- what the numbers show of a thread: nothing of a joined one
@@ -126,18 +126,18 @@ module _ (p s : List ℕ) (usesAt : ℕ → MachineThread → ℕ × Uses) (numb
   next-live : (i : ℕ) (ts : List MachineThread) → ofLive usesAt (i + 1) ts ≡ ofLive usesAt (suc i) ts
   next-live i ts = ap (λ (j : ℕ). ofLive usesAt j ts) (let e : i + 1 ≡ suc i = omega arith in e)
 
-  partner-alike : (a : Access) (u : Uses) → AccessIs a u → (ts : List MachineThread) (i : ℕ) → AllShown i ts → partnerTold (partnerOf p s a i (length ts)) ≡ clashing u (ofLive usesAt i ts)
+  partner-alike : (a : Access) (u : Uses) → AccessIs a u → (ts : List MachineThread) (i : ℕ) → AllShown i ts → partnerDecoded (partnerOf p s a i (length ts)) ≡ clashing u (ofLive usesAt i ts)
   unfolding partnerOf clashing
   partner-alike a u is [] i all = refl
   partner-alike a u is (th ∷ ts) i all =
       by-record (th .joined) refl (partner-alike a u is ts (i + 1) (later-shown i th ts all) ∙ ap (clashing u) (next-live i ts))
     where
-      by-record : (j : Bool) → th .joined ≡ j → partnerTold (partnerOf p s a (i + 1) (length ts)) ≡ clashing u (ofLive usesAt (suc i) ts) →
-          partnerTold (if clash a (accessOf p s i) then partner.Is i else partnerOf p s a (i + 1) (length ts)) ≡ clashing u (unless j (λ l. usesAt i th ∷ l) (ofLive usesAt (suc i) ts))
+      by-record : (j : Bool) → th .joined ≡ j → partnerDecoded (partnerOf p s a (i + 1) (length ts)) ≡ clashing u (ofLive usesAt (suc i) ts) →
+          partnerDecoded (if clash a (accessOf p s i) then partner.Is i else partnerOf p s a (i + 1) (length ts)) ≡ clashing u (unless j (λ l. usesAt i th ∷ l) (ofLive usesAt (suc i) ts))
       by-record true e rest = rw (first-shown i th ts all .0 e, clash-none a) rest
       by-record false e rest = rw (clash-alike a (accessOf p s i) u (usesAt i th .1) is (first-shown i th ts all .1 e)) (by-clash (uses.clash u (usesAt i th .1)))
         where
-          by-clash : (b : Bool) → partnerTold (if b then partner.Is i else partnerOf p s a (i + 1) (length ts)) ≡ (if b then some (usesAt i th .0) else clashing u (ofLive usesAt (suc i) ts))
+          by-clash : (b : Bool) → partnerDecoded (if b then partner.Is i else partnerOf p s a (i + 1) (length ts)) ≡ (if b then some (usesAt i th .0) else clashing u (ofLive usesAt (suc i) ts))
           by-clash true = ap some (sym (numbered i th))
           by-clash false = rest
 
@@ -147,7 +147,7 @@ module _ (p s : List ℕ) (usesAt : ℕ → MachineThread → ℕ × Uses) (numb
   none-alone zero j = refl
   none-alone (suc n) j = none-alone n (j + 1)
 
-  pairs-alike : (ts : List MachineThread) (i : ℕ) → AllShown i ts → (count : ℕ) → count ≡ i + length ts → pairTold (pairOf p s count i (length ts)) ≡ lowestAmong (ofLive usesAt i ts)
+  pairs-alike : (ts : List MachineThread) (i : ℕ) → AllShown i ts → (count : ℕ) → count ≡ i + length ts → pairDecoded (pairOf p s count i (length ts)) ≡ lowestAmong (ofLive usesAt i ts)
   unfolding pairOf lowestAmong partnerFrom pairWith pairOr
   pairs-alike [] i all count e = refl
   pairs-alike (th ∷ ts) i all count e =
@@ -156,20 +156,20 @@ module _ (p s : List ℕ) (usesAt : ℕ → MachineThread → ℕ × Uses) (numb
       left : count - (i + 1) ≡ length ts
       left = omega (arith, e)
 
-      with-partner : (a : Partner) (later : Pair) (o : Option (ℕ × ℕ)) → pairTold later ≡ o → pairTold (pairWith i a later) ≡ pairOr i (partnerTold a) o
+      with-partner : (a : Partner) (later : Pair) (o : Option (ℕ × ℕ)) → pairDecoded later ≡ o → pairDecoded (pairWith i a later) ≡ pairOr i (partnerDecoded a) o
       with-partner partner.None later o h = h
       with-partner (partner.Is j) later o h = refl
 
-      by-record : (j : Bool) → th .joined ≡ j → pairTold (pairOf p s count (i + 1) (length ts)) ≡ lowestAmong (ofLive usesAt (suc i) ts) →
-          pairTold (pairWith i (partnerOf p s (accessOf p s i) (i + 1) (count - (i + 1))) (pairOf p s count (i + 1) (length ts))) ≡ lowestAmong (unless j (λ l. usesAt i th ∷ l) (ofLive usesAt (suc i) ts))
+      by-record : (j : Bool) → th .joined ≡ j → pairDecoded (pairOf p s count (i + 1) (length ts)) ≡ lowestAmong (ofLive usesAt (suc i) ts) →
+          pairDecoded (pairWith i (partnerOf p s (accessOf p s i) (i + 1) (count - (i + 1))) (pairOf p s count (i + 1) (length ts))) ≡ lowestAmong (unless j (λ l. usesAt i th ∷ l) (ofLive usesAt (suc i) ts))
       by-record true f rest = rw (first-shown i th ts all .0 f, none-alone (count - (i + 1)) (i + 1)) rest
       by-record false f rest =
           with-partner (partnerOf p s (accessOf p s i) (i + 1) (count - (i + 1))) (pairOf p s count (i + 1) (length ts)) (lowestAmong (ofLive usesAt (suc i) ts)) rest
           ∙ (λ z. pairOr (sym (numbered i th) z) (partnered z) (lowestAmong (ofLive usesAt (suc i) ts)))
         where
-          partnered : partnerTold (partnerOf p s (accessOf p s i) (i + 1) (count - (i + 1))) ≡ clashing (usesAt i th .1) (ofLive usesAt (suc i) ts)
+          partnered : partnerDecoded (partnerOf p s (accessOf p s i) (i + 1) (count - (i + 1))) ≡ clashing (usesAt i th .1) (ofLive usesAt (suc i) ts)
           partnered =
-              ap (λ (n : ℕ). partnerTold (partnerOf p s (accessOf p s i) (i + 1) n)) left
+              ap (λ (n : ℕ). partnerDecoded (partnerOf p s (accessOf p s i) (i + 1) n)) left
               ∙ partner-alike (accessOf p s i) (usesAt i th .1) (first-shown i th ts all .1 f) ts (i + 1) (later-shown i th ts all)
               ∙ ap (clashing (usesAt i th .1)) (next-live i ts)
 
@@ -200,28 +200,28 @@ module _ (n : ℕ) (x : Slot) where
 
 -- a word that neither reads a cell nor writes it
 abbrev Quiet : Word → Type 0
-Quiet w = (x : Slot) (v : ℕ) → x .kind ≡ 2 → accessBy (usedBy (ruleOf (codeOf w)) x 0) v ≡ None
+Quiet w = (x : Slot) (v : ℕ) → x .kind ≡ 2 → accessBy (effectOf (ruleOf (codeOf w)) x 0) v ≡ None
 
 module _ (p s : List ℕ) (row : ℕ) {q : Position} {w : Word} {n : ℕ} (r : RowOf p q w n) where
   -- a word that has its last value
   ready-access : (x v : ℕ) → subject p s (readyAt row (q .index) x) ≡ v →
-      accessAt p s (readyAt row (q .index) x) ≡ (if eqb (slotAt s v .kind) 2 then accessBy (usedBy (ruleOf (codeOf w)) (slotAt s v) 0) v else None)
+      accessAt p s (readyAt row (q .index) x) ≡ (if eqb (slotAt s v .kind) 2 then accessBy (effectOf (ruleOf (codeOf w)) (slotAt s v) 0) v else None)
   unfolding accessAt
   ready-access x v e = rw (e, r .code)
 
   quiet : (x : ℕ) → Quiet w → accessAt p s (readyAt row (q .index) x) ≡ None
   quiet x none-of = let v = subject p s (readyAt row (q .index) x) in ready-access x v refl ∙ by-kind v (eqb (slotAt s v .kind) 2) refl
     where
-      by-kind : (v : ℕ) (b : Bool) → eqb (slotAt s v .kind) 2 ≡ b → (if b then accessBy (usedBy (ruleOf (codeOf w)) (slotAt s v) 0) v else None) ≡ None
+      by-kind : (v : ℕ) (b : Bool) → eqb (slotAt s v .kind) 2 ≡ b → (if b then accessBy (effectOf (ruleOf (codeOf w)) (slotAt s v) 0) v else None) ≡ None
       by-kind v true h = none-of (slotAt s v) v (eqb-true _ _ h)
       by-kind v false h = refl
 
 module _ (p s : List ℕ) (row : ℕ) (names : ℕ → state.Slot) (slot-of : (n : ℕ) → SlotIs (slotAt s (suc n)) (names n)) (constant : slotAt s 0 .kind ≡ 0) where
   -- the thread shows what its word is about to use
-  abbrev ShowsUse : Focus → Redex → Type 0
+  abbrev ShowsUse : ControlPoint → Redex → Type 0
   ShowsUse f w = AccessIs (accessAt p s f) (usesOf names (some w))
 
-  silent : (f : Focus) (u : Uses) → accessAt p s f ≡ None → (u .reading ≡ none) × (u .writing ≡ none) → AccessIs (accessAt p s f) u
+  silent : (f : ControlPoint) (u : Uses) → accessAt p s f ≡ None → (u .reading ≡ none) × (u .writing ≡ none) → AccessIs (accessAt p s f) u
   silent f u e h = subst (λ (a : Access). AccessIs a u) (sym e) h
 
   read-subject : {q : Position} {n : ℕ} → RowOf p q (Unary (partWord read)) n → (x : ℕ) → subject p s (readyAt row (q .index) x) ≡ x
@@ -233,7 +233,7 @@ module _ (p s : List ℕ) (row : ℕ) (names : ℕ → state.Slot) (slot-of : (n
   write-subject r x = rw (r .code)
 
   read-shows : (σ : _) (q : Position) (v : Value) {n : ℕ} → RowOf p q (Unary (partWord read)) n → ShowsUse (readyAt row (q .index) (codeValue v)) (redex σ (machine.unaryWord q read v))
-  unfolding ofUnary usesOf ifCell uses.reads uses.unaryReads uses.writes usedBy ruleOf printed
+  unfolding ofUnary usesOf ifCell uses.reads uses.unaryReads uses.writes effectOf ruleOf printed
   read-shows σ q v r =
       subst (λ (a : Access). AccessIs a (usesOf names (some (redex σ (machine.unaryWord q read v))))) (sym (ready-access p s row r (codeValue v) (codeValue v) (read-subject r (codeValue v)))) (by-value v)
     where
@@ -242,7 +242,7 @@ module _ (p s : List ℕ) (row : ℕ) (names : ℕ → state.Slot) (slot-of : (n
       by-value (name m) = reads-cell m (slotAt s (suc m)) (names m) (slot-of m)
 
   write-shows : (σ : _) (q : Position) (v w : Value) {n : ℕ} → RowOf p q (Binary WriteWord) n → kept s row (q .index) ≡ codeValue v → ShowsUse (readyAt row (q .index) (codeValue w)) (redex σ (machine.writeWord q v w))
-  unfolding ofUnary usesOf ifCell uses.reads uses.writes usedBy ruleOf printed
+  unfolding ofUnary usesOf ifCell uses.reads uses.writes effectOf ruleOf printed
   write-shows σ q v w r held =
       subst (λ (a : Access). AccessIs a (usesOf names (some (redex σ (machine.writeWord q v w))))) (sym (ready-access p s row r (codeValue w) (codeValue v) (write-subject r (codeValue w) ∙ held))) (by-value v)
     where
@@ -258,28 +258,28 @@ module _ (p s : List ℕ) (row : ℕ) (names : ℕ → state.Slot) (slot-of : (n
       silent (readyAt row (q .index) (codeValue v)) (usesOf names (some (redex σ (machine.unaryWord q o v)))) (quiet p s row r (codeValue v) quiet-rule)
       (ap (λ (z : Option ℕ). z >>= λ n. cellValue (names n) >> some n) (no-read v), refl)
 
-  word-shows : (σ : _) (w : machine.Word) (f : Focus) → WordAt p s row f w → ShowsUse f (redex σ w)
-  unfolding ofUnary usesOf ifCell uses.reads uses.unaryReads uses.writes accessAt usedBy spawnedOf joinedOf madeOf lockedOf unlockedOf postedOf waitedOf rdlockedOf rdunlockedOf wrlockedOf wrunlockedOf ruleOf printed
-  word-shows σ (machine.letWord q x v e) f (z, r, S) = subst (λ (g : Focus). ShowsUse g (redex σ (machine.letWord q x v e))) (sym z) (silent (readyAt row (q .index) (codeValue v)) (usesBoth none none) (quiet p s row r (codeValue v) (λ x y h. refl)) (refl, refl))
-  word-shows σ (machine.ifWord q e₁ e₂) f (z, n, r, S₁, S₂) = subst (λ (g : Focus). ShowsUse g (redex σ (machine.ifWord q e₁ e₂))) (sym z) (refl, refl)
-  word-shows σ (machine.whileWord q e) f (z, n, r, S) = subst (λ (g : Focus). ShowsUse g (redex σ (machine.whileWord q e))) (sym z) (refl, refl)
-  word-shows σ (machine.spawnWord q v e) f (z, n, r, S) = subst (λ (g : Focus). ShowsUse g (redex σ (machine.spawnWord q v e))) (sym z) (silent (readyAt row (q .index) (codeValue v)) (usesBoth none none) (quiet p s row r (codeValue v) (λ x y h. rw h)) (refl, refl))
-  word-shows σ (machine.writeWord q v w) f (z, n, r, held) = subst (λ (g : Focus). ShowsUse g (redex σ (machine.writeWord q v w))) (sym z) (write-shows σ q v w r held)
-  word-shows σ (machine.unaryWord q read v) f (z, n, r, N) = subst (λ (g : Focus). ShowsUse g (redex σ (machine.unaryWord q read v))) (sym z) (read-shows σ q v r)
-  word-shows σ (machine.unaryWord q calculus.join v) f (z, n, r, N) = subst (λ (g : Focus). ShowsUse g (redex σ (machine.unaryWord q calculus.join v))) (sym z) (part-silent σ q calculus.join v r (λ x y h. rw h) (λ x. refl))
-  word-shows σ (machine.unaryWord q calculus.ref v) f (z, n, r, N) = subst (λ (g : Focus). ShowsUse g (redex σ (machine.unaryWord q calculus.ref v))) (sym z) (part-silent σ q calculus.ref v r (λ x y h. refl) (λ x. refl))
-  word-shows σ (machine.unaryWord q calculus.lock v) f (z, n, r, N) = subst (λ (g : Focus). ShowsUse g (redex σ (machine.unaryWord q calculus.lock v))) (sym z) (part-silent σ q calculus.lock v r (λ x y h. rw h) (λ x. refl))
-  word-shows σ (machine.unaryWord q calculus.unlock v) f (z, n, r, N) = subst (λ (g : Focus). ShowsUse g (redex σ (machine.unaryWord q calculus.unlock v))) (sym z) (part-silent σ q calculus.unlock v r (λ x y h. rw h) (λ x. refl))
-  word-shows σ (machine.unaryWord q calculus.post v) f (z, n, r, N) = subst (λ (g : Focus). ShowsUse g (redex σ (machine.unaryWord q calculus.post v))) (sym z) (part-silent σ q calculus.post v r (λ x y h. rw h) (λ x. refl))
-  word-shows σ (machine.unaryWord q calculus.wait v) f (z, n, r, N) = subst (λ (g : Focus). ShowsUse g (redex σ (machine.unaryWord q calculus.wait v))) (sym z) (part-silent σ q calculus.wait v r (λ x y h. rw h) (λ x. refl))
-  word-shows σ (machine.unaryWord q (calculus.hold calculus.rdlock) v) f (z, n, r, N) = subst (λ (g : Focus). ShowsUse g (redex σ (machine.unaryWord q (calculus.hold calculus.rdlock) v))) (sym z) (part-silent σ q (calculus.hold calculus.rdlock) v r (λ x y h. rw h) (λ x. refl))
-  word-shows σ (machine.unaryWord q (calculus.hold calculus.rdunlock) v) f (z, n, r, N) = subst (λ (g : Focus). ShowsUse g (redex σ (machine.unaryWord q (calculus.hold calculus.rdunlock) v))) (sym z) (part-silent σ q (calculus.hold calculus.rdunlock) v r (λ x y h. rw h) (λ x. refl))
-  word-shows σ (machine.unaryWord q (calculus.hold calculus.wrlock) v) f (z, n, r, N) = subst (λ (g : Focus). ShowsUse g (redex σ (machine.unaryWord q (calculus.hold calculus.wrlock) v))) (sym z) (part-silent σ q (calculus.hold calculus.wrlock) v r (λ x y h. rw h) (λ x. refl))
-  word-shows σ (machine.unaryWord q (calculus.hold calculus.wrunlock) v) f (z, n, r, N) = subst (λ (g : Focus). ShowsUse g (redex σ (machine.unaryWord q (calculus.hold calculus.wrunlock) v))) (sym z) (part-silent σ q (calculus.hold calculus.wrunlock) v r (λ x y h. rw h) (λ x. refl))
-  word-shows σ (machine.unaryWord q (calculus.call called) v) f (z, n, r, N) = subst (λ (g : Focus). ShowsUse g (redex σ (machine.unaryWord q (calculus.call called) v))) (sym z) (part-silent σ q (calculus.call called) v r (λ x y h. refl) (λ x. refl))
-  word-shows σ (machine.nullaryWord q o) f (z, n, r, N) = subst (λ (g : Focus). ShowsUse g (redex σ (machine.nullaryWord q o))) (sym z) (refl, refl)
-  word-shows σ (machine.unrolledWord q e) f (z, n, r, S) = subst (λ (g : Focus). ShowsUse g (redex σ (machine.unrolledWord q e))) (sym z) (refl, refl)
-  word-shows σ (machine.againWord q v e) f (z, n, r, S) = subst (λ (g : Focus). ShowsUse g (redex σ (machine.againWord q v e))) (sym z) (silent (readyAt row (q .index) (codeValue v)) (usesBoth none none) (quiet p s row r (codeValue v) (λ x y h. refl)) (refl, refl))
+  word-shows : (σ : _) (w : machine.Word) (f : ControlPoint) → WordAt p s row f w → ShowsUse f (redex σ w)
+  unfolding ofUnary usesOf ifCell uses.reads uses.unaryReads uses.writes accessAt effectOf spawnedOf joinedOf madeOf lockedOf unlockedOf postedOf waitedOf rdlockedOf rdunlockedOf wrlockedOf wrunlockedOf ruleOf printed
+  word-shows σ (machine.letWord q x v e) f (z, r, S) = subst (λ (g : ControlPoint). ShowsUse g (redex σ (machine.letWord q x v e))) (sym z) (silent (readyAt row (q .index) (codeValue v)) (usesBoth none none) (quiet p s row r (codeValue v) (λ x y h. refl)) (refl, refl))
+  word-shows σ (machine.ifWord q e₁ e₂) f (z, n, r, S₁, S₂) = subst (λ (g : ControlPoint). ShowsUse g (redex σ (machine.ifWord q e₁ e₂))) (sym z) (refl, refl)
+  word-shows σ (machine.whileWord q e) f (z, n, r, S) = subst (λ (g : ControlPoint). ShowsUse g (redex σ (machine.whileWord q e))) (sym z) (refl, refl)
+  word-shows σ (machine.spawnWord q v e) f (z, n, r, S) = subst (λ (g : ControlPoint). ShowsUse g (redex σ (machine.spawnWord q v e))) (sym z) (silent (readyAt row (q .index) (codeValue v)) (usesBoth none none) (quiet p s row r (codeValue v) (λ x y h. rw h)) (refl, refl))
+  word-shows σ (machine.writeWord q v w) f (z, n, r, held) = subst (λ (g : ControlPoint). ShowsUse g (redex σ (machine.writeWord q v w))) (sym z) (write-shows σ q v w r held)
+  word-shows σ (machine.unaryWord q read v) f (z, n, r, N) = subst (λ (g : ControlPoint). ShowsUse g (redex σ (machine.unaryWord q read v))) (sym z) (read-shows σ q v r)
+  word-shows σ (machine.unaryWord q calculus.join v) f (z, n, r, N) = subst (λ (g : ControlPoint). ShowsUse g (redex σ (machine.unaryWord q calculus.join v))) (sym z) (part-silent σ q calculus.join v r (λ x y h. rw h) (λ x. refl))
+  word-shows σ (machine.unaryWord q calculus.ref v) f (z, n, r, N) = subst (λ (g : ControlPoint). ShowsUse g (redex σ (machine.unaryWord q calculus.ref v))) (sym z) (part-silent σ q calculus.ref v r (λ x y h. refl) (λ x. refl))
+  word-shows σ (machine.unaryWord q calculus.lock v) f (z, n, r, N) = subst (λ (g : ControlPoint). ShowsUse g (redex σ (machine.unaryWord q calculus.lock v))) (sym z) (part-silent σ q calculus.lock v r (λ x y h. rw h) (λ x. refl))
+  word-shows σ (machine.unaryWord q calculus.unlock v) f (z, n, r, N) = subst (λ (g : ControlPoint). ShowsUse g (redex σ (machine.unaryWord q calculus.unlock v))) (sym z) (part-silent σ q calculus.unlock v r (λ x y h. rw h) (λ x. refl))
+  word-shows σ (machine.unaryWord q calculus.post v) f (z, n, r, N) = subst (λ (g : ControlPoint). ShowsUse g (redex σ (machine.unaryWord q calculus.post v))) (sym z) (part-silent σ q calculus.post v r (λ x y h. rw h) (λ x. refl))
+  word-shows σ (machine.unaryWord q calculus.wait v) f (z, n, r, N) = subst (λ (g : ControlPoint). ShowsUse g (redex σ (machine.unaryWord q calculus.wait v))) (sym z) (part-silent σ q calculus.wait v r (λ x y h. rw h) (λ x. refl))
+  word-shows σ (machine.unaryWord q (calculus.hold calculus.rdlock) v) f (z, n, r, N) = subst (λ (g : ControlPoint). ShowsUse g (redex σ (machine.unaryWord q (calculus.hold calculus.rdlock) v))) (sym z) (part-silent σ q (calculus.hold calculus.rdlock) v r (λ x y h. rw h) (λ x. refl))
+  word-shows σ (machine.unaryWord q (calculus.hold calculus.rdunlock) v) f (z, n, r, N) = subst (λ (g : ControlPoint). ShowsUse g (redex σ (machine.unaryWord q (calculus.hold calculus.rdunlock) v))) (sym z) (part-silent σ q (calculus.hold calculus.rdunlock) v r (λ x y h. rw h) (λ x. refl))
+  word-shows σ (machine.unaryWord q (calculus.hold calculus.wrlock) v) f (z, n, r, N) = subst (λ (g : ControlPoint). ShowsUse g (redex σ (machine.unaryWord q (calculus.hold calculus.wrlock) v))) (sym z) (part-silent σ q (calculus.hold calculus.wrlock) v r (λ x y h. rw h) (λ x. refl))
+  word-shows σ (machine.unaryWord q (calculus.hold calculus.wrunlock) v) f (z, n, r, N) = subst (λ (g : ControlPoint). ShowsUse g (redex σ (machine.unaryWord q (calculus.hold calculus.wrunlock) v))) (sym z) (part-silent σ q (calculus.hold calculus.wrunlock) v r (λ x y h. rw h) (λ x. refl))
+  word-shows σ (machine.unaryWord q (calculus.call called) v) f (z, n, r, N) = subst (λ (g : ControlPoint). ShowsUse g (redex σ (machine.unaryWord q (calculus.call called) v))) (sym z) (part-silent σ q (calculus.call called) v r (λ x y h. refl) (λ x. refl))
+  word-shows σ (machine.nullaryWord q o) f (z, n, r, N) = subst (λ (g : ControlPoint). ShowsUse g (redex σ (machine.nullaryWord q o))) (sym z) (refl, refl)
+  word-shows σ (machine.unrolledWord q e) f (z, n, r, S) = subst (λ (g : ControlPoint). ShowsUse g (redex σ (machine.unrolledWord q e))) (sym z) (refl, refl)
+  word-shows σ (machine.againWord q v e) f (z, n, r, S) = subst (λ (g : ControlPoint). ShowsUse g (redex σ (machine.againWord q v e))) (sym z) (silent (readyAt row (q .index) (codeValue v)) (usesBoth none none) (quiet p s row r (codeValue v) (λ x y h. refl)) (refl, refl))
 
 -- ------------------------------------------------------------------ the lowest pair
 
@@ -287,20 +287,20 @@ module _ (p s : List ℕ) (T : Threads) (R : Replay) (H : Holds p s T R) where
   abbrev usesAt : ℕ → MachineThread → ℕ × Uses
   usesAt i th = (i, usesOf (R .machine .names) (nextRedex (th .control)))
 
-  done-shows : (i : ℕ) (d : Control) → isDone d ≡ true → ControlAt p s i (focusAt s i) d → accessOf p s i ≡ None
+  done-shows : (i : ℕ) (d : Control) → isDone d ≡ true → ControlAt p s i (controlPointAt s i) d → accessOf p s i ≡ None
   unfolding accessOf accessAt
   done-shows i (done v) e C = ap (accessAt p s) C
   done-shows i (at σ w K) e C = absurd (let z : _≡_ {A = ℕ} 0 1 = cc in omega arith)
 
-  control-shows : (i : ℕ) (d : Control) → ControlAt p s i (focusAt s i) d → AccessIs (accessOf p s i) (usesOf (R .machine .names) (nextRedex d))
+  control-shows : (i : ℕ) (d : Control) → ControlAt p s i (controlPointAt s i) d → AccessIs (accessOf p s i) (usesOf (R .machine .names) (nextRedex d))
   unfolding accessOf usesOf ifCell
   control-shows i (done v) C = subst (λ (a : Access). AccessIs a (usesBoth none none)) (sym (done-shows i (done v) refl C)) (refl, refl)
-  control-shows i (at σ w K) (values, W, F) = word-shows p s (focusAt s i .row) (R .machine .names) (λ n. slot-told (H .names) (name n)) (H .names .constant) σ w (focusAt s i) W
+  control-shows i (at σ w K) (values, W, F) = word-shows p s (controlPointAt s i .row) (R .machine .names) (λ n. slot-decodes (H .names) (name n)) (H .names .constant) σ w (controlPointAt s i) W
 
-  pub lowest-pair-alike : pairTold (lowestPair p s (T .count)) ≡ replay.lowestPair R
+  pub lowest-pair-alike : pairDecoded (lowestPair p s (T .count)) ≡ replay.lowestPair R
   unfolding lowestPair replay.lowestPair usesIn
   lowest-pair-alike =
-      ap (λ (n : ℕ). pairTold (pairOf p s n 0 n)) (H .sized .count)
+      ap (λ (n : ℕ). pairDecoded (pairOf p s n 0 n)) (H .sized .count)
       ∙ pairs-alike p s usesAt (λ i th. refl) (R .machine .threads) 0 shown (length (R .machine .threads)) (omega arith)
     where
       shown : (m : ℕ) (th : MachineThread) → getElem? (R .machine .threads) m ≡ some th → (th .joined ≡ true → accessOf p s (0 + m) ≡ None) × (th .joined ≡ false → AccessIs (accessOf p s (0 + m)) (usesAt (0 + m) th .1))

@@ -10,11 +10,11 @@ use lib.Dec.{leb}
 use lib.ListN.{length}
 use Rattle.spec.specs.Choice.{if_then_else_}
 use Rattle.spec.specs.Text.{bytes, same, Line, closed, Field, lookUp, fields}
-use Rattle.spec.specs.Reading.{Seen, right, wrong, wrongAfter, freelock, _to_, inRange, allInRange, numbers}
+use Rattle.spec.specs.Reading.{LineResult, good, bad, refuseAfter, freelock, _to_, inRange, allInRange, numbers}
 use Rattle.spec.specs.Expression.{Step, Expr, leaf, unary, binary, Item, step, proc, Procedure}
 use Rattle.spec.specs.Program.{Program, firstNumber, stepOf, wordLine, procOf, procLine, itemLine, itemLines}
 use Rattle.spec.specs.Words.{wordsUnder, leastValue, largestValue, valueRange, role, binding}
-use Rattle.spec.specs.WellFormed.{Shows, nothing, line, prefix, itemsOf, listing, StepInside, UsedInside, AllUsedInside, firstItemLine, WellFormedProgram}
+use Rattle.spec.specs.WellFormed.{Parses, nothing, line, prefix, itemsOf, listing, StepInside, UsedInside, AllUsedInside, firstItemLine, WellFormedProgram}
 use Rattle.spec.proofs.Seen.{wrong-is-not-right, seen-right, numbers-right}
 use Rattle.spec.specs.declared.ProgramHeading.{ProgramHeading}
 use Rattle.spec.specs.declared.ProgramHeading.the-variants.{P, P2}
@@ -87,7 +87,7 @@ unfolding allInRange inRange firstNumber
 number-low least largest [] l h = absurd (omega (arith, l))
 number-low least largest (n ∷ ns) l h = leb-true n largest (true-right (leb least n) (leb n largest) (true-left (leb least n && leb n largest) (allInRange [] ns) h))
 
-word-low : (k : ℕ) (o : Option Word) (fs : List Field) (i : Item) → wordLine k o fs ≡ right i → ItemLow i
+word-low : (k : ℕ) (o : Option Word) (fs : List Field) (i : Item) → wordLine k o fs ≡ good i → ItemLow i
 unfolding wordLine stepOf valueRange
 word-low k none fs i h = wrong-is-not-right h
 word-low k (some w) fs i h =
@@ -95,7 +95,7 @@ word-low k (some w) fs i h =
     let (l, in-range) = numbers-right (valueRange w ∷ []) fs ns r in
     subst ItemLow is (number-low (leastValue w) (largestValue w) ns l in-range)
 
-proc-low : (h : ProgramHeading) (k : ℕ) (fs : List Field) (i : Item) → procLine h k fs ≡ right i → ItemLow i
+proc-low : (h : ProgramHeading) (k : ℕ) (fs : List Field) (i : Item) → procLine h k fs ≡ good i → ItemLow i
 unfolding procLine procOf
 proc-low P k fs i h = wrong-is-not-right h
 proc-low P2 k fs i h =
@@ -104,22 +104,22 @@ proc-low P2 k fs i h =
     let z = number-low 0 255 ns l in-range in
     subst ItemLow is (omega (arith, z))
 
-freelock-wrong : {A : Type 0} (x : Seen A) (i : Item) → wrongAfter freelock x ≡ right i → ItemLow i
-unfolding wrongAfter
-freelock-wrong (wrong v) i h = wrong-is-not-right h
-freelock-wrong (right a) i h = wrong-is-not-right h
+freelock-wrong : {A : Type 0} (x : LineResult A) (i : Item) → refuseAfter freelock x ≡ good i → ItemLow i
+unfolding refuseAfter
+freelock-wrong (bad v) i h = wrong-is-not-right h
+freelock-wrong (good a) i h = wrong-is-not-right h
 
-line-low : (h : ProgramHeading) (k : ℕ) (fs : List Field) (i : Item) → itemLine h k fs ≡ right i → ItemLow i
+line-low : (h : ProgramHeading) (k : ℕ) (fs : List Field) (i : Item) → itemLine h k fs ≡ good i → ItemLow i
 unfolding itemLine
 line-low h k [] i e = wrong-is-not-right e
 line-low h k (f ∷ fs) i e = go (same f (bytes "freelock")) (same f (bytes "proc")) e
   where
-    go : (a b : Bool) → (if a then wrongAfter freelock (numbers ((0 to 0) ∷ []) fs) else if b then procLine h k fs else wordLine k (lookUp (wordsUnder h) f) fs) ≡ right i → ItemLow i
+    go : (a b : Bool) → (if a then refuseAfter freelock (numbers ((0 to 0) ∷ []) fs) else if b then procLine h k fs else wordLine k (lookUp (wordsUnder h) f) fs) ≡ good i → ItemLow i
     go true b e = freelock-wrong (numbers ((0 to 0) ∷ []) fs) i e
     go false true e = proc-low h k fs i e
     go false false e = word-low k (lookUp (wordsUnder h) f) fs i e
 
-lines-low : (h : ProgramHeading) (n k : ℕ) (ls : List Line) (is : List Item) (rest : List Line) → Shows (itemLines h k n) ls is rest → AllItems is
+lines-low : (h : ProgramHeading) (n k : ℕ) (ls : List Line) (is : List Item) (rest : List Line) → Parses (itemLines h k n) ls is rest → AllItems is
 unfolding itemLines
 lines-low h zero k ls [] rest nothing = tt
 lines-low h (suc n) k (closed l ∷ ls) (i ∷ is) rest (line e more) = (line-low h k (fields l) i e, lines-low h n (k + 1) ls is rest more)

@@ -16,18 +16,18 @@ use Rattle.calculus.specs.Reduction.{_>>=_, _>>_, cellValue}
 use Rattle.calculus.proofs.Laws.Maps.{some-is-not-none}
 use Rattle.workspace.specs.Layout.{ruleOf, codeOf, printed}
 use Rattle.threads.specs.declared.Threads.{Threads}
-use Rattle.control.specs.declared.Focus.{Focus}
+use Rattle.control.specs.declared.ControlPoint.{ControlPoint}
 use Rattle.control.specs.Shapes.{shapeAt, isWrite}
 use Rattle.control.specs.Control.{kept, continuation, returning, readyAt}
 use Rattle.things.specs.declared.Slot.{Slot}
-use Rattle.things.specs.declared.Used.{Used}
+use Rattle.things.specs.declared.StepEffect.{StepEffect}
 use Rattle.reduction.specs.declared.words.Act.{Act}
 use Rattle.reduction.specs.declared.words.Act.the-variants.{Go}
-use Rattle.things.specs.Uses.{slot, writtenOf, usedBy}
+use Rattle.things.specs.Uses.{slot, writtenOf, effectOf}
 use Rattle.reduction.specs.Slots.{slotAt, slotPut}
 use Rattle.reduction.specs.Words.{given, subject, operand, effected, wordUsed, actedBy, acted}
 use Rattle.engine.specs.Steps.{actStep, afterAct}
-use Rattle.replay_theory.specs.Replay.{limited}
+use Rattle.replay_theory.specs.Replay.{checkLimits}
 use Rattle.machine.specs.Environment.{Env}
 use Rattle.machine.specs.Control as machine
 use Rattle.machine.specs.Control.{Frame, writeWord, unaryWord, at, return}
@@ -35,12 +35,12 @@ use Rattle.machine.specs.State.{Machine, running}
 use Rattle.machine.specs.Step.{zeroValue, gives, leaves, stepUnary, stepWord}
 use Rattle.machine.specs.Replay.{Replay, within}
 use Rattle.simulation.proofs.Held.{codeValue, partWord, RowOf, Values, Frames}
-use Rattle.simulation.proofs.Turning.{same-all, RowIn}
+use Rattle.simulation.proofs.Advancing.{same-all, RowIn}
 use Rattle.simulation.proofs.Finding.{frames-same, returns-word}
 use Rattle.simulation.proofs.Agreeing.{rows-same}
 use Rattle.simulation.proofs.Holds.{SlotIs, Holds}
 use Rattle.simulation.proofs.Using.{Use, gave, left, Using, using-read, using-lock, using-unlock, using-post, using-wait, using-rdlock, using-rdunlock, using-wrlock, using-wrunlock, useOf, usedTo, slotOf, nameIn, step-asks, UseIs, Roomy, uses-alike}
-use Rattle.simulation.proofs.Naming.{slot-put-length, slot-agree, slot-told, used-below, names-put}
+use Rattle.simulation.proofs.Naming.{slot-put-length, slot-agree, slot-decodes, used-below, names-put}
 use Rattle.simulation.proofs.Moving.{Answered, moves, pausing}
 use Rattle.simulation.proofs.Alone.{goes, ready}
 
@@ -48,7 +48,7 @@ use Rattle.simulation.proofs.Alone.{goes, ready}
 
 module _ (p s : List ℕ) (row c : ℕ) {q : Position} where
   part-acts : (o : calculus.Unary) → Using o → {n : ℕ} (v : ℕ) → RowOf p q (Unary (partWord o)) n →
-      acted p s (readyAt row (q .index) v) c ≡ effected p s row (q .index) v (usedBy (ruleOf (codeOf (Unary (partWord o)))) (slotAt s v) v)
+      acted p s (readyAt row (q .index) v) c ≡ effected p s row (q .index) v (effectOf (ruleOf (codeOf (Unary (partWord o)))) (slotAt s v) v)
   unfolding acted actedBy wordUsed subject operand shapeAt isWrite ruleOf printed
   part-acts read using-read v r = rw (r .code) (rw (r .code))
   part-acts lock using-lock v r = rw (r .code) (rw (r .code))
@@ -62,7 +62,7 @@ module _ (p s : List ℕ) (row c : ℕ) {q : Position} where
 
   write-acts : {n : ℕ} (v w : ℕ) → kept s row (q .index) ≡ v → RowOf p q (Binary Write) n →
       acted p s (readyAt row (q .index) w) c ≡ effected p s row (q .index) v (writtenOf (slotAt s v) w)
-  unfolding acted actedBy wordUsed subject operand usedBy shapeAt isWrite ruleOf printed
+  unfolding acted actedBy wordUsed subject operand effectOf shapeAt isWrite ruleOf printed
   write-acts v w e r = rw (r .code) (rw (r .code) (ap (λ (u : ℕ). effected p s row (q .index) u (writtenOf (slotAt s u) w)) e))
 
 -- a value that names nothing is of no use
@@ -99,10 +99,10 @@ module _ (p s : List ℕ) (T : Threads) (R : Replay) (t tid : ℕ) (σ : Env) (K
   M = R .machine
 
   -- what a step of the machine answers, if no thing is made
-  abbrev pub Answers : Focus → Option Machine → Act × List ℕ → Type 0
-  Answers f o r = Answered p (limited within (o >>= λ N. some (record { machine = N; things = R .things }))) (afterAct p T t f r)
+  abbrev pub Answers : ControlPoint → Option Machine → Act × List ℕ → Type 0
+  Answers f o r = Answered p (checkLimits within (o >>= λ N. some (record { machine = N; things = R .things }))) (afterAct p T t f r)
 
-  module _ (w : machine.Word) (f : Focus) (k : ℕ) (k-low : k < 256) (F : Frames p s t row k (continuation p k) K) (there : getElem? (M .threads) t ≡ some (running tid (at σ w K))) where
+  module _ (w : machine.Word) (f : ControlPoint) (k : ℕ) (k-low : k < 256) (F : Frames p s t row k (continuation p k) K) (there : getElem? (M .threads) t ≡ some (running tid (at σ w K))) where
     -- the word becomes a value
     gives-value : (x : Value) → Answers f (some (gives M t tid σ K (M .names) x)) (Go (given p row k (codeValue x)), s)
     unfolding given
@@ -130,20 +130,20 @@ module _ (p s : List ℕ) (T : Threads) (R : Replay) (t tid : ℕ) (σ : Env) (K
         }))
 
     -- the word asks for the use of what a value names
-    asks : (v : Value) (u : Option Use) (x : Used) → (slotOf M t tid σ K v ≡ unused → u ≡ none) → UseIs u x →
+    asks : (v : Value) (u : Option Use) (x : StepEffect) → (slotOf M t tid σ K v ≡ unused → u ≡ none) → UseIs u x →
         Answers f (u >>= λ y. some (usedTo M t tid σ K (nameIn M t tid σ K v) y)) (effected p s row k (codeValue v) x)
-    unfolding effected afterAct actStep limited
-    asks v none x useless is = subst (λ (z : Used). Answers f none (effected p s row k (codeValue v) z)) (sym is) refl
-    asks v (some (gave y)) x useless is = subst (λ (z : Used). Answers f (some (gives M t tid σ K (M .names) y)) (effected p s row k (codeValue v) z)) (sym is) (gives-value y)
+    unfolding effected afterAct actStep checkLimits
+    asks v none x useless is = subst (λ (z : StepEffect). Answers f none (effected p s row k (codeValue v) z)) (sym is) refl
+    asks v (some (gave y)) x useless is = subst (λ (z : StepEffect). Answers f (some (gives M t tid σ K (M .names) y)) (effected p s row k (codeValue v) z)) (sym is) (gives-value y)
     asks (int n) (some (left sl)) x useless is = some-is-not-none (useless refl)
     asks (name n) (some (left sl)) x useless (y, e, held) =
-        subst (λ (z : Used). Answers f (some (leaves M t tid σ K n sl)) (effected p s row k (suc n) z)) (sym e)
+        subst (λ (z : StepEffect). Answers f (some (leaves M t tid σ K n sl)) (effected p s row k (suc n) z)) (sym e)
         (leaves-slot n sl y (used-below (H .names) n (λ z. some-is-not-none (useless z))) held)
 
   -- what a value names, by its numbers
   told : (v : Value) → SlotIs (slotAt s (codeValue v)) (slotOf M t tid σ K v)
-  told (int k) = slot-told (H .names) (int k)
-  told (name m) = slot-told (H .names) (name m)
+  told (int k) = slot-decodes (H .names) (int k)
+  told (name m) = slot-decodes (H .names) (name m)
 
   write-asks : (q : Position) (v w : Value) → stepWord M t tid σ K state.first (writeWord q v w) ≡ (writeUse (slotOf M t tid σ K v) w >>= λ y. some (usedTo M t tid σ K (nameIn M t tid σ K v) y))
   write-asks q (int k) w = refl
@@ -162,9 +162,9 @@ module _ (p s : List ℕ) (T : Threads) (R : Replay) (t tid : ℕ) (σ : Env) (K
         getElem? (M .threads) t ≡ some (running tid (at σ (unaryWord q o v) K)) → Answers (readyAt row (q .index) (codeValue v)) (stepUnary M t tid σ K o v) (acted p s (readyAt row (q .index) (codeValue v)) c)
     part-goes o u v r roomy there =
         subst (λ (a : Act × List ℕ). Answers (readyAt row (q .index) (codeValue v)) (stepUnary M t tid σ K o v) a) (sym (part-acts p s row c o u (codeValue v) r))
-        (subst (λ (m : Option Machine). Answers (readyAt row (q .index) (codeValue v)) m (effected p s row (q .index) (codeValue v) (usedBy (ruleOf (codeOf (Unary (partWord o)))) (slotAt s (codeValue v)) (codeValue v))))
+        (subst (λ (m : Option Machine). Answers (readyAt row (q .index) (codeValue v)) m (effected p s row (q .index) (codeValue v) (effectOf (ruleOf (codeOf (Unary (partWord o)))) (slotAt s (codeValue v)) (codeValue v))))
         (sym (step-asks M t tid σ K o u v))
-        (asks (unaryWord q o v) (readyAt row (q .index) (codeValue v)) (q .index) (r .below) F there v (useOf o (slotOf M t tid σ K v)) (usedBy (ruleOf (codeOf (Unary (partWord o)))) (slotAt s (codeValue v)) (codeValue v))
+        (asks (unaryWord q o v) (readyAt row (q .index) (codeValue v)) (q .index) (r .below) F there v (useOf o (slotOf M t tid σ K v)) (effectOf (ruleOf (codeOf (Unary (partWord o)))) (slotAt s (codeValue v)) (codeValue v))
         (λ e. ap (useOf o) e ∙ unused-useless o u) (uses-alike (slotAt s (codeValue v)) o u (slotOf M t tid σ K v) (told v) roomy (codeValue v))))
 
     pub write-goes : (v w : Value) → RowOf p q (Binary Write) n → kept s row (q .index) ≡ codeValue v →

@@ -22,15 +22,15 @@ use Rattle.threads.specs.declared.Record.{Record}
 use Rattle.threads.specs.declared.Threads.{Threads}
 use Rattle.threads.specs.Records.{noRecord}
 use Rattle.threads.specs.Threads.{spawned}
-use Rattle.control.specs.Layout.{finish, keptValuesAt, openCallsAt, focusModesAt, focusPlacesAt, focusValuesAt, focusRowsAt, spaceSize}
-use Rattle.control.specs.declared.Focus.{Focus}
-use Rattle.control.specs.Control.{variable, kept, calledFrom, continuation, second, focus, entering, returning, readyAt}
-use Rattle.engine.specs.Focuses.{focusAt}
+use Rattle.control.specs.Layout.{finish, keptValuesAt, openCallsAt, controlPointModesAt, controlPointPlacesAt, controlPointValuesAt, controlPointRowsAt, spaceSize}
+use Rattle.control.specs.declared.ControlPoint.{ControlPoint}
+use Rattle.control.specs.Control.{variable, kept, calledFrom, continuation, second, controlPoint, entering, returning, readyAt}
+use Rattle.engine.specs.ControlPoints.{controlPointAt}
 use Rattle.reduction.specs.Words.{given}
 use Rattle.engine.specs.declared.Outcome.the-variants.{Past}
 use Rattle.engine.specs.Steps.{ending, proceeded, copiedFrom, copied, actStep, afterAct, givesZero, spawnedStep}
-use Rattle.replay_theory.specs.Run.{threadLimit, withinLimits, openIn}
-use Rattle.replay_theory.specs.Replay.{limited}
+use Rattle.replay_theory.specs.Run.{threadLimit, withinLimits, stillOpen}
+use Rattle.replay_theory.specs.Replay.{checkLimits}
 use Rattle.machine.specs.Environment.{Env}
 use Rattle.machine.specs.Control.{Frame, spawnWord, done, at, return, enter, openCalls}
 use Rattle.machine.specs.State.{MachineThread, Machine, running}
@@ -38,7 +38,7 @@ use Rattle.machine.specs.Step.{zeroValue, addThread, gives}
 use Rattle.machine.specs.Replay.{Replay, within}
 use Rattle.simulation.proofs.Held.{RowOf, Stands, Values, Frames, ControlAt}
 use Rattle.machine.proofs.Marks.{calls-counted, enter-tells}
-use Rattle.simulation.proofs.Turning.{same-all, RowIn}
+use Rattle.simulation.proofs.Advancing.{same-all, RowIn}
 use Rattle.simulation.proofs.Finding.{frames-row, enters-word, returns-word}
 use Rattle.simulation.proofs.Agreeing.{Agree, SharedSame, agree-all, control-same, less-or-more}
 use Rattle.simulation.proofs.Holds.{Sized, Holds}
@@ -87,18 +87,18 @@ module _ (a b : ℕ) (apart : a ≢ b) where
 -- row b is the first of thread u
 module _ (s : List ℕ) (a b : ℕ) (apart : a ≢ b) (u : ℕ) (is : b ≡ 66 * u) (low : u < 16) where
   agree-copied : (i : ℕ) → i < 16 → i ≢ u → Agree i s (copied s a b)
-  unfolding copied variable kept calledFrom focusAt
+  unfolding copied variable kept calledFrom controlPointAt
   agree-copied i h n = record {
     rows = record {
       variables = λ r y in-row hy. copied-outside a b apart 256 s 0 (0 + 256 * r + y) (beside r y in-row hy (less-or-more i u n));
       kepts = λ r j in-row hj. copied-outside a b apart 256 s 0 (keptValuesAt + 256 * r + j) (inr (omega (arith, low, is)));
       calls = λ r in-row. copied-outside a b apart 256 s 0 (openCallsAt + r) (inr (omega (arith, low, is)));
     };
-    focused = λ z. focus
-        (copied-outside a b apart 256 s 0 (focusModesAt + i) (inr (omega (arith, low, is))) z)
-        (copied-outside a b apart 256 s 0 (focusPlacesAt + i) (inr (omega (arith, low, is))) z)
-        (copied-outside a b apart 256 s 0 (focusValuesAt + i) (inr (omega (arith, low, is))) z)
-        (copied-outside a b apart 256 s 0 (focusRowsAt + i) (inr (omega (arith, low, is))) z);
+    focused = λ z. controlPoint
+        (copied-outside a b apart 256 s 0 (controlPointModesAt + i) (inr (omega (arith, low, is))) z)
+        (copied-outside a b apart 256 s 0 (controlPointPlacesAt + i) (inr (omega (arith, low, is))) z)
+        (copied-outside a b apart 256 s 0 (controlPointValuesAt + i) (inr (omega (arith, low, is))) z)
+        (copied-outside a b apart 256 s 0 (controlPointRowsAt + i) (inr (omega (arith, low, is))) z);
   }
     where
       beside : (r y : ℕ) → RowIn i r → y < 256 → (i < u) ⊎ (u < i) → (0 + 256 * r + y < 256 * b + 0) ⊎ (256 * b + 0 + 256 ≤ 0 + 256 * r + y)
@@ -196,7 +196,7 @@ module _ (p s : List ℕ) (T : Threads) (R : Replay) (t tid : ℕ) (σ : Env) (K
           let held = H .threads i th g in
           record {
             recorded = spawned-there T (M .threads) n ph (H .sized) room i d ∙ held .recorded;
-            control = subst (λ (f : Focus). ControlAt p s₁ i f (th .control)) (sym (a .focused)) (control-same p i s s₁ (a .rows) (focusAt s i) (th .control) (let c = held .calls in omega arith) (held .control));
+            control = subst (λ (f : ControlPoint). ControlAt p s₁ i f (th .control)) (sym (a .focused)) (control-same p i s s₁ (a .rows) (controlPointAt s i) (th .control) (let c = held .calls in omega arith) (held .control));
             settled = held .settled;
             calls = held .calls;
           };
@@ -213,7 +213,7 @@ module _ (p s : List ℕ) (T : Threads) (R : Replay) (t tid : ℕ) (σ : Env) (K
 
     -- the new thread has no open call
     none-open : openCalls (enter σ e []) ≤ 64
-    unfolding openIn
+    unfolding stillOpen
     none-open = let z = sym (calls-counted (enter σ e [])) ∙ ap length (sym (enter-tells σ e [])) in omega (arith, z)
 
     child-held : Holds p (after .1) (after .0) R₁
@@ -232,15 +232,15 @@ module _ (p s : List ℕ) (T : Threads) (R : Replay) (t tid : ℕ) (σ : Env) (K
         ap (λ (ts : List MachineThread). set ts t (running tid (return σ zeroValue K))) (set-append-seam (M .threads) ph [] (running n (enter σ e [])))
         ∙ set-append-left (M .threads) (running n (enter σ e []) ∷ []) t (running tid (return σ zeroValue K)) t-below
 
-    abbrev word : Focus
+    abbrev word : ControlPoint
     word = readyAt row (q .index) (suc n)
 
-    spawns-one : Answered p (limited within (some Spawns)) (givesZero p t word after)
+    spawns-one : Answered p (checkLimits within (some Spawns)) (givesZero p t word after)
     unfolding givesZero given afterAct actStep
     spawns-one =
         let (values₂, W₂, F₂) = child-held .threads t (running tid (at σ (spawnWord q (name n) e) K)) there₁ .control in
-        let same-row = frames-row p t (after .1) K (focusAt (after .1) t .row) (q .index) (continuation p (q .index)) F₂ ∙ sym (frames-row p t s K row (q .index) (continuation p (q .index)) F) in
-        subst (λ (ts : List MachineThread). Answered p (limited within (some (record { machine = record { procedures = M .procedures; threads = ts; names = M .names; next = M .next }; things = R .things }))) (givesZero p t word after)) threads-after
+        let same-row = frames-row p t (after .1) K (controlPointAt (after .1) t .row) (q .index) (continuation p (q .index)) F₂ ∙ sym (frames-row p t s K row (q .index) (continuation p (q .index)) F) in
+        subst (λ (ts : List MachineThread). Answered p (checkLimits within (some (record { machine = record { procedures = M .procedures; threads = ts; names = M .names; next = M .next }; things = R .things }))) (givesZero p t word after)) threads-after
         (moves p (after .1) (after .0) ts₁ t tid word
         (pausing p (after .1) (after .0) R₁ t tid (at σ (spawnWord q (name n) e) K) child-held there₁ refl (after .1) (child-held .long) (λ i h d. agree-all i (after .1)))
         (M .procedures) (H .bodies) (M .names) (M .next) (R .things) (child-held .names) (returning row (continuation p (q .index)) 0) (return σ zeroValue K)
@@ -253,22 +253,22 @@ module _ (p s : List ℕ) (T : Threads) (R : Replay) (t tid : ℕ) (σ : Env) (K
           frames = subst (λ (i : ℕ). Frames p (after .1) t i (q .index) (continuation p (q .index)) K) same-row F₂;
         })))
 
-    with-room : Answered p (limited within (some Spawns)) (spawnedStep p s T t (readyAt row (q .index) (suc n)) (suc n))
+    with-room : Answered p (checkLimits within (some Spawns)) (spawnedStep p s T t (readyAt row (q .index) (suc n)) (suc n))
     unfolding spawnedStep
     with-room =
-        subst (λ (c : ℕ). Answered p (limited within (some Spawns)) (if leb 16 c then (ending Past T, s) else givesZero p t word (proceeded p (copied s row (66 * c)) (spawned T (suc n)) c (entering (66 * c) (second p (q .index))))))
+        subst (λ (c : ℕ). Answered p (checkLimits within (some Spawns)) (if leb 16 c then (ending Past T, s) else givesZero p t word (proceeded p (copied s row (66 * c)) (spawned T (suc n)) c (entering (66 * c) (second p (q .index))))))
         (sym (H .sized .count)) (rw (lt-leb 16 u room) spawns-one)
 
-  no-room : 16 ≤ u → Answered p (limited within (some Spawns)) (spawnedStep p s T t (readyAt row (q .index) (suc n)) (suc n))
-  unfolding spawnedStep limited within withinLimits threadLimit
+  no-room : 16 ≤ u → Answered p (checkLimits within (some Spawns)) (spawnedStep p s T t (readyAt row (q .index) (suc n)) (suc n))
+  unfolding spawnedStep checkLimits within withinLimits threadLimit
   no-room full =
       let a = length-append (set (M .threads) t (running tid (return σ zeroValue K))) (running n (enter σ e []) ∷ []) in
       let b = length-set (M .threads) t (running tid (return σ zeroValue K)) in
       rw (H .sized .count, le-leb 16 u full, lt-leb (length (set (M .threads) t (running tid (return σ zeroValue K)) ++ (running n (enter σ e []) ∷ []))) 16 (omega (arith, a, b, full))) refl
 
-  pub spawning-goes : Answered p (limited within (some Spawns)) (spawnedStep p s T t (readyAt row (q .index) (suc n)) (suc n))
+  pub spawning-goes : Answered p (checkLimits within (some Spawns)) (spawnedStep p s T t (readyAt row (q .index) (suc n)) (suc n))
   spawning-goes = go (decLt u 16)
     where
-      go : Dec (u < 16) → Answered p (limited within (some Spawns)) (spawnedStep p s T t (readyAt row (q .index) (suc n)) (suc n))
+      go : Dec (u < 16) → Answered p (checkLimits within (some Spawns)) (spawnedStep p s T t (readyAt row (q .index) (suc n)) (suc n))
       go (yes l) = with-room l
       go (no f) = no-room (omega (arith, f))

@@ -23,13 +23,13 @@ use Rattle.control.specs.Control.{rootOf, variable, entering}
 use Rattle.reduction.specs.Slots.{slotAt}
 use Rattle.engine.specs.Steps.{zeroed, startSpace, startOf}
 use Rattle.engine.proofs.Clearing.{zeroed-length, zeroed-before, zeroed-in}
-use Rattle.replay_theory.specs.Run.{openIn}
+use Rattle.replay_theory.specs.Run.{stillOpen}
 use Rattle.machine.specs.Control.{done, enter, openCalls}
 use Rattle.machine.proofs.Marks.{calls-counted, enter-tells}
 use Rattle.machine.specs.State.{MachineThread, running, startMachine}
 use Rattle.machine.specs.Replay.{startReplay}
 use Rattle.simulation.proofs.Bodies.{ProgramStands}
-use Rattle.simulation.proofs.Turning.{same-all}
+use Rattle.simulation.proofs.Advancing.{same-all}
 use Rattle.simulation.proofs.Finding.{enters-word}
 use Rattle.simulation.proofs.Holds.{SlotIs, kindCode, kind-low, NamesHeld, ThreadHeld, Holds}
 use Rattle.simulation.proofs.Proceeding.{Paused, proceeds}
@@ -110,7 +110,7 @@ module _ (p s : List ℕ) (long : length s ≡ spaceSize) where
         none-there (suc i) th n h = none-is-not-some h
 
     none-open : openCalls (enter (λ x. int 0) (P .root) []) ≤ 64
-    unfolding openIn
+    unfolding stillOpen
     none-open = let z = sym (calls-counted (enter (λ x. int 0) (P .root) [])) ∙ ap length (sym (enter-tells (λ x. int 0) (P .root) [])) in omega (arith, z)
 
     pub start-held : Holds p (startOf p s .1) (startOf p s .0) (startReplay P)

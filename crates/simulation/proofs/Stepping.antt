@@ -25,20 +25,20 @@ use Rattle.threads.specs.declared.Record.{Record}
 use Rattle.threads.specs.declared.Threads.{Threads}
 use Rattle.threads.specs.Threads.{isRunning, runs}
 use Rattle.control.specs.Layout.{finish}
-use Rattle.control.specs.declared.Focus.{Focus}
+use Rattle.control.specs.declared.ControlPoint.{ControlPoint}
 use Rattle.control.specs.Shapes.{shapeAt, isWrite, isIf}
 use Rattle.control.specs.Control.{continuation, second as secondAt, readyAt, stoppedAt, unrolledAt}
 use Rattle.things.specs.declared.Slot.{Slot}
-use Rattle.things.specs.declared.Used.the-variants as used
+use Rattle.things.specs.declared.StepEffect.the-variants as used
 use Rattle.engine.specs.declared.Outcome.the-variants.{Stuck}
-use Rattle.things.specs.Uses.{slot, spawnedOf, joinedOf, usedBy}
+use Rattle.things.specs.Uses.{slot, spawnedOf, joinedOf, effectOf}
 use Rattle.reduction.specs.Slots.{slotAt}
-use Rattle.engine.specs.Focuses.{focusAt}
+use Rattle.engine.specs.ControlPoints.{controlPointAt}
 use Rattle.reduction.specs.Words.{subject, operand, effected, wordUsed, actedBy, acted}
 use Rattle.engine.specs.Steps.{mayChoose, ending, actStep, afterAct, steppedFrom, stepped}
 use Rattle.replay_theory.specs.Trace.{TraceLine}
 use Rattle.replay_theory.specs.Run.{cells, kindMade, partOfIf, noChoice, partChosen, effect, thingsAfter, unaryEffect}
-use Rattle.replay_theory.specs.Replay.{Outcome, limited}
+use Rattle.replay_theory.specs.Replay.{Outcome, checkLimits}
 use Rattle.machine.specs.Environment.{Env}
 use Rattle.machine.specs.Control as machine
 use Rattle.machine.specs.Control.{Frame, letWord, ifWord, whileWord, spawnWord, writeWord, unaryWord, nullaryWord, unrolledWord, againWord, Control, done, at, redex, marks, openCalls}
@@ -49,7 +49,7 @@ use Rattle.simulation.proofs.Held.{codeValue, partWord, noPartWord, Row
 use Rattle.simulation.proofs.Holds.{SlotIs, Holds}
 use Rattle.simulation.proofs.Proceeding.{place-below}
 use Rattle.simulation.proofs.Using.{Using, using-read, using-lock, using-unlock, using-post, using-wait, using-rdlock, using-rdunlock, using-wrlock, using-wrunlock, slotOf, Roomy}
-use Rattle.simulation.proofs.Naming.{slot-told}
+use Rattle.simulation.proofs.Naming.{slot-decodes}
 use Rattle.simulation.proofs.Moving.{Answered, thread-low}
 use Rattle.simulation.proofs.Alone.{let-goes, if-first, if-second, while-goes, again-goes, unrolled-first, unrolled-second}
 use Rattle.simulation.proofs.Sharing.{part-goes, write-goes}
@@ -58,7 +58,7 @@ use Rattle.simulation.proofs.Joined.{joining-goes}
 use Rattle.simulation.proofs.Spawned.{spawning-goes}
 use Rattle.simulation.proofs.Called.{call-goes}
 use Rattle.simulation.proofs.Finding.{frames-inside}
-use Rattle.simulation.proofs.Turning.{RowIn}
+use Rattle.simulation.proofs.Advancing.{RowIn}
 
 -- ------------------------------------------------------------------ identifiers
 
@@ -80,16 +80,16 @@ identified x (rwlock N writer) h = is-none refl (rw (h .0)) (rw (h .0))
 
 module _ (p s : List ℕ) (row c : ℕ) {q : Position} {n : ℕ} (v : ℕ) where
   join-acts : RowOf p q (Unary Join) n → acted p s (readyAt row (q .index) v) c ≡ effected p s row (q .index) v (joinedOf (slotAt s v))
-  unfolding acted actedBy wordUsed subject operand usedBy shapeAt isWrite ruleOf printed
+  unfolding acted actedBy wordUsed subject operand effectOf shapeAt isWrite ruleOf printed
   join-acts r = rw (r .code) (rw (r .code))
 
   spawn-acts : RowOf p q (Binary Spawn) n → acted p s (readyAt row (q .index) v) c ≡ effected p s row (q .index) v (spawnedOf (slotAt s v))
-  unfolding acted actedBy wordUsed subject operand usedBy shapeAt isWrite ruleOf printed
+  unfolding acted actedBy wordUsed subject operand effectOf shapeAt isWrite ruleOf printed
   spawn-acts r = rw (r .code) (rw (r .code))
 
 -- ------------------------------------------------------------------ choices
 
-refuses : (p : List ℕ) (f : Focus) → eqb (f .mode) 4 ≡ false → isIf (shapeAt p (f .at)) ≡ false → (c : ℕ) → mayChoose p f (suc c) ≡ false
+refuses : (p : List ℕ) (f : ControlPoint) → eqb (f .mode) 4 ≡ false → isIf (shapeAt p (f .at)) ≡ false → (c : ℕ) → mayChoose p f (suc c) ≡ false
 unfolding mayChoose
 refuses p f a b c = rw (ne-eqb (suc c) 0 (λ e. omega (arith, e))) (go (eqb (suc c) 1))
   where
@@ -100,37 +100,37 @@ refuses p f a b c = rw (ne-eqb (suc c) 0 (λ e. omega (arith, e))) (go (eqb (suc
 module _ (p s : List ℕ) (T : Threads) (R : Replay) (t : ℕ) where
   -- what is left of a line once the word is known
   abbrev Line : Redex → (Part → Option Machine) → Option Part → Outcome Replay
-  Line w g o = limited within (o >>= λ part. g part >>= λ N. some (record { machine = N; things = thingsAfter (effect w) (R .things) }))
+  Line w g o = checkLimits within (o >>= λ part. g part >>= λ N. some (record { machine = N; things = thingsAfter (effect w) (R .things) }))
 
-  stuck : Answered p (limited within none) (ending Stuck T, s)
-  unfolding limited
+  stuck : Answered p (checkLimits within none) (ending Stuck T, s)
+  unfolding checkLimits
   stuck = refl
 
-  choice-0 : (f : Focus) (o : Outcome Replay) → Answered p o (afterAct p T t f (acted p s f 0)) → Answered p o (steppedFrom p s T t f 0)
+  choice-0 : (f : ControlPoint) (o : Outcome Replay) → Answered p o (afterAct p T t f (acted p s f 0)) → Answered p o (steppedFrom p s T t f 0)
   unfolding steppedFrom mayChoose
   choice-0 f o G = G
 
-  choice-1 : (f : Focus) (o : Outcome Replay) → mayChoose p f 1 ≡ true → Answered p o (afterAct p T t f (acted p s f 1)) → Answered p o (steppedFrom p s T t f 1)
+  choice-1 : (f : ControlPoint) (o : Outcome Replay) → mayChoose p f 1 ≡ true → Answered p o (afterAct p T t f (acted p s f 1)) → Answered p o (steppedFrom p s T t f 1)
   unfolding steppedFrom
   choice-1 f o h G = rw h G
 
-  choice-none : (f : Focus) (c : ℕ) (w : Redex) (g : Part → Option Machine) (o : Option Part) → o ≡ none → mayChoose p f c ≡ false → Answered p (Line w g o) (steppedFrom p s T t f c)
+  choice-none : (f : ControlPoint) (c : ℕ) (w : Redex) (g : Part → Option Machine) (o : Option Part) → o ≡ none → mayChoose p f c ≡ false → Answered p (Line w g o) (steppedFrom p s T t f c)
   unfolding steppedFrom
   choice-none f c w g o e h = rw (h, e) stuck
 
-  too-large : (f : Focus) (c : ℕ) → mayChoose p f (suc (suc c)) ≡ false
+  too-large : (f : ControlPoint) (c : ℕ) → mayChoose p f (suc (suc c)) ≡ false
   unfolding mayChoose
   too-large f c = rw (ne-eqb (suc (suc c)) 0 (λ e. omega (arith, e)), ne-eqb (suc (suc c)) 1 (λ e. omega (arith, e)))
 
   -- a word with nothing to choose
-  plain : (w : Redex) (g : Part → Option Machine) (f : Focus) → ((c : ℕ) → partChosen w c ≡ noChoice c) → eqb (f .mode) 4 ≡ false → isIf (shapeAt p (f .at)) ≡ false →
+  plain : (w : Redex) (g : Part → Option Machine) (f : ControlPoint) → ((c : ℕ) → partChosen w c ≡ noChoice c) → eqb (f .mode) 4 ≡ false → isIf (shapeAt p (f .at)) ≡ false →
       Answered p (Line w g (some first)) (afterAct p T t f (acted p s f 0)) → (c : ℕ) → Answered p (Line w g (partChosen w c)) (steppedFrom p s T t f c)
   unfolding noChoice
   plain w g f is a b G zero = subst (λ (o : Option Part). Answered p (Line w g o) (steppedFrom p s T t f 0)) (sym (is 0)) (choice-0 f (Line w g (some first)) G)
   plain w g f is a b G (suc c) = choice-none f (suc c) w g (partChosen w (suc c)) (is (suc c)) (refuses p f a b c)
 
   -- an `if`
-  either : (w : Redex) (g : Part → Option Machine) (f : Focus) → ((c : ℕ) → partChosen w c ≡ partOfIf c) → mayChoose p f 1 ≡ true →
+  either : (w : Redex) (g : Part → Option Machine) (f : ControlPoint) → ((c : ℕ) → partChosen w c ≡ partOfIf c) → mayChoose p f 1 ≡ true →
       Answered p (Line w g (some first)) (afterAct p T t f (acted p s f 0)) → Answered p (Line w g (some second)) (afterAct p T t f (acted p s f 1)) →
       (c : ℕ) → Answered p (Line w g (partChosen w c)) (steppedFrom p s T t f c)
   unfolding partOfIf
@@ -147,53 +147,53 @@ module _ (p s : List ℕ) (T : Threads) (R : Replay) (t tid : ℕ) (σ : Env) (K
   abbrev There : machine.Word → Type 0
   There w = getElem? (M .threads) t ≡ some (running tid (at σ w K))
 
-  abbrev WordLine : machine.Word → Focus → ℕ → Type 0
+  abbrev WordLine : machine.Word → ControlPoint → ℕ → Type 0
   WordLine w f c = Answered p (Line p s T R t (redex σ w) (λ part. stepWord M t tid σ K part w) (partChosen (redex σ w) c)) (steppedFrom p s T t f c)
 
   -- a join, or a spawn, of what is no identifier
-  no-identifier : (f : Focus) (k v : ℕ) → Answered p (limited within none) (afterAct p T t f (effected p s row k v used.Stuck))
-  unfolding limited afterAct effected actStep
+  no-identifier : (f : ControlPoint) (k v : ℕ) → Answered p (checkLimits within none) (afterAct p T t f (effected p s row k v used.Stuck))
+  unfolding checkLimits afterAct effected actStep
   no-identifier f k v = refl
 
   told : (v : Value) → SlotIs (slotAt s (codeValue v)) (slotOf M t tid σ K v)
-  told (int k) = slot-told (H .names) (int k)
-  told (name m) = slot-told (H .names) (name m)
+  told (int k) = slot-decodes (H .names) (int k)
+  told (name m) = slot-decodes (H .names) (name m)
 
   join-goes : (q : Position) {m : ℕ} (v : Value) → RowOf p q (Unary Join) m → Frames p s t row (q .index) (continuation p (q .index)) K → There (unaryWord q join v) →
-      Answered p (limited within (stepUnary M t tid σ K join v >>= λ N. some (record { machine = N; things = R .things }))) (afterAct p T t (readyAt row (q .index) (codeValue v)) (acted p s (readyAt row (q .index) (codeValue v)) 0))
+      Answered p (checkLimits within (stepUnary M t tid σ K join v >>= λ N. some (record { machine = N; things = R .things }))) (afterAct p T t (readyAt row (q .index) (codeValue v)) (acted p s (readyAt row (q .index) (codeValue v)) 0))
   unfolding afterAct effected actStep
   join-goes q v r F there = rw (join-acts p s row 0 (codeValue v) r) (by-value v there)
     where
       by-value : (v : Value) → There (unaryWord q join v) →
-          Answered p (limited within (stepUnary M t tid σ K join v >>= λ N. some (record { machine = N; things = R .things }))) (afterAct p T t (readyAt row (q .index) (codeValue v)) (effected p s row (q .index) (codeValue v) (joinedOf (slotAt s (codeValue v)))))
+          Answered p (checkLimits within (stepUnary M t tid σ K join v >>= λ N. some (record { machine = N; things = R .things }))) (afterAct p T t (readyAt row (q .index) (codeValue v)) (effected p s row (q .index) (codeValue v) (joinedOf (slotAt s (codeValue v)))))
       by-value (int k) there = constant (identified (slotAt s 0) unused (told (int k)))
         where
-          constant : Identified (slotAt s 0) unused → Answered p (limited within none) (afterAct p T t (readyAt row (q .index) 0) (effected p s row (q .index) 0 (joinedOf (slotAt s 0))))
+          constant : Identified (slotAt s 0) unused → Answered p (checkLimits within none) (afterAct p T t (readyAt row (q .index) 0) (effected p s row (q .index) 0 (joinedOf (slotAt s 0))))
           constant (is-one a b c) = none-is-not-some a
           constant (is-none a b c) = rw b (no-identifier (readyAt row (q .index) 0) (q .index) 0)
       by-value (name n) there = by-slot (identified (slotAt s (suc n)) (M .names n) (told (name n)))
         where
           by-slot : Identified (slotAt s (suc n)) (M .names n) →
-              Answered p (limited within (stepUnary M t tid σ K join (name n) >>= λ N. some (record { machine = N; things = R .things }))) (afterAct p T t (readyAt row (q .index) (suc n)) (effected p s row (q .index) (suc n) (joinedOf (slotAt s (suc n)))))
+              Answered p (checkLimits within (stepUnary M t tid σ K join (name n) >>= λ N. some (record { machine = N; things = R .things }))) (afterAct p T t (readyAt row (q .index) (suc n)) (effected p s row (q .index) (suc n) (joinedOf (slotAt s (suc n)))))
           by-slot (is-one a b c) = rw (a, b) (joining-goes p s T R t tid σ K H low row inside values q n F there)
           by-slot (is-none a b c) = rw (a, b) (no-identifier (readyAt row (q .index) (suc n)) (q .index) (suc n))
 
   spawn-goes : (q : Position) {m : ℕ} (v : Value) (e : Expr) → RowOf p q (Binary Spawn) m → Stands p finish (secondAt p (q .index)) e → Frames p s t row (q .index) (continuation p (q .index)) K → There (spawnWord q v e) →
-      Answered p (limited within (stepWord M t tid σ K first (spawnWord q v e) >>= λ N. some (record { machine = N; things = R .things }))) (afterAct p T t (readyAt row (q .index) (codeValue v)) (acted p s (readyAt row (q .index) (codeValue v)) 0))
+      Answered p (checkLimits within (stepWord M t tid σ K first (spawnWord q v e) >>= λ N. some (record { machine = N; things = R .things }))) (afterAct p T t (readyAt row (q .index) (codeValue v)) (acted p s (readyAt row (q .index) (codeValue v)) 0))
   unfolding afterAct effected actStep
   spawn-goes q v e r S F there = rw (spawn-acts p s row 0 (codeValue v) r) (by-value v there)
     where
       by-value : (v : Value) → There (spawnWord q v e) →
-          Answered p (limited within (stepWord M t tid σ K first (spawnWord q v e) >>= λ N. some (record { machine = N; things = R .things }))) (afterAct p T t (readyAt row (q .index) (codeValue v)) (effected p s row (q .index) (codeValue v) (spawnedOf (slotAt s (codeValue v)))))
+          Answered p (checkLimits within (stepWord M t tid σ K first (spawnWord q v e) >>= λ N. some (record { machine = N; things = R .things }))) (afterAct p T t (readyAt row (q .index) (codeValue v)) (effected p s row (q .index) (codeValue v) (spawnedOf (slotAt s (codeValue v)))))
       by-value (int k) there = constant (identified (slotAt s 0) unused (told (int k)))
         where
-          constant : Identified (slotAt s 0) unused → Answered p (limited within none) (afterAct p T t (readyAt row (q .index) 0) (effected p s row (q .index) 0 (spawnedOf (slotAt s 0))))
+          constant : Identified (slotAt s 0) unused → Answered p (checkLimits within none) (afterAct p T t (readyAt row (q .index) 0) (effected p s row (q .index) 0 (spawnedOf (slotAt s 0))))
           constant (is-one a b c) = none-is-not-some a
           constant (is-none a b c) = rw c (no-identifier (readyAt row (q .index) 0) (q .index) 0)
       by-value (name n) there = by-slot (identified (slotAt s (suc n)) (M .names n) (told (name n)))
         where
           by-slot : Identified (slotAt s (suc n)) (M .names n) →
-              Answered p (limited within (stepWord M t tid σ K first (spawnWord q (name n) e) >>= λ N. some (record { machine = N; things = R .things }))) (afterAct p T t (readyAt row (q .index) (suc n)) (effected p s row (q .index) (suc n) (spawnedOf (slotAt s (suc n)))))
+              Answered p (checkLimits within (stepWord M t tid σ K first (spawnWord q (name n) e) >>= λ N. some (record { machine = N; things = R .things }))) (afterAct p T t (readyAt row (q .index) (suc n)) (effected p s row (q .index) (suc n) (spawnedOf (slotAt s (suc n)))))
           by-slot (is-one a b c) = rw (a, c) (spawning-goes p s T R t tid σ K H low row inside values q n e r S F there)
           by-slot (is-none a b c) = rw (a, c) (no-identifier (readyAt row (q .index) (suc n)) (q .index) (suc n))
 
@@ -208,10 +208,10 @@ module _ (p s : List ℕ) (T : Threads) (R : Replay) (t tid : ℕ) (σ : Env) (K
 
   -- a word with one part that uses what its part names
   uses : (o : calculus.Unary) → Using o → isIf (shapeOf (ruleOf (codeOf (Unary (partWord o))))) ≡ false → thingsAfter (unaryEffect o) (R .things) ≡ R .things →
-      (q : Position) (v : Value) (f : Focus) → WordAt p s row f (unaryWord q o v) → Frames p s t row (q .index) (continuation p (q .index)) K → There (unaryWord q o v) → (c : ℕ) → WordLine (unaryWord q o v) f c
+      (q : Position) (v : Value) (f : ControlPoint) → WordAt p s row f (unaryWord q o v) → Frames p s t row (q .index) (continuation p (q .index)) K → There (unaryWord q o v) → (c : ℕ) → WordLine (unaryWord q o v) f c
   unfolding partChosen effect
   uses o u h same q v f (e, n, r, N) F there c =
-      subst (λ (g : Focus). WordLine (unaryWord q o v) g c) (sym e)
+      subst (λ (g : ControlPoint). WordLine (unaryWord q o v) g c) (sym e)
       (plain p s T R t (redex σ (unaryWord q o v)) (λ part. stepWord M t tid σ K part (unaryWord q o v)) (readyAt row (q .index) (codeValue v)) (λ c. refl) refl (no-if q (Unary (partWord o)) r h)
       (rw same (part-goes p s T R t tid σ K H low row inside values 0 q F o u v r (roomy-value v) there)) c)
 
@@ -230,34 +230,34 @@ module _ (p s : List ℕ) (T : Threads) (R : Replay) (t tid : ℕ) (σ : Env) (K
   maker-no-if calculus.newsem = refl
   maker-no-if (calculus.newrwlock N) = refl
 
-  word-goes : (w : machine.Word) (f : Focus) → WordAt p s row f w → Frames p s t row (placeOf p s w) (continuation p (placeOf p s w)) K → There w → (c : ℕ) → WordLine w f c
+  word-goes : (w : machine.Word) (f : ControlPoint) → WordAt p s row f w → Frames p s t row (placeOf p s w) (continuation p (placeOf p s w)) K → There w → (c : ℕ) → WordLine w f c
   unfolding partChosen effect unaryEffect thingsAfter isIf ruleOf printed
   word-goes (letWord q x v e) f (z, r, S) F there c =
-      subst (λ (g : Focus). WordLine (letWord q x v e) g c) (sym z)
+      subst (λ (g : ControlPoint). WordLine (letWord q x v e) g c) (sym z)
       (plain p s T R t (redex σ (letWord q x v e)) (λ part. stepWord M t tid σ K part (letWord q x v e)) (readyAt row (q .index) (codeValue v)) (λ c. refl) refl (no-if q (Binary Let) r refl)
       (let-goes p s T R t tid σ K H low row inside values q x v e r S F 0 there) c)
   word-goes (ifWord q e₁ e₂) f (z, n, r, S₁, S₂) F there c =
-      subst (λ (g : Focus). WordLine (ifWord q e₁ e₂) g c) (sym z)
+      subst (λ (g : ControlPoint). WordLine (ifWord q e₁ e₂) g c) (sym z)
       (either p s T R t (redex σ (ifWord q e₁ e₂)) (λ part. stepWord M t tid σ K part (ifWord q e₁ e₂)) (stoppedAt row (q .index)) (λ c. refl) (at-if q r)
       (if-first p s T R t tid σ K H low row inside values q e₁ e₂ r S₁ S₂ F there) (if-second p s T R t tid σ K H low row inside values q e₁ e₂ r S₁ S₂ F there) c)
   word-goes (whileWord q e) f (z, n, r, S) F there c =
-      subst (λ (g : Focus). WordLine (whileWord q e) g c) (sym z)
+      subst (λ (g : ControlPoint). WordLine (whileWord q e) g c) (sym z)
       (plain p s T R t (redex σ (whileWord q e)) (λ part. stepWord M t tid σ K part (whileWord q e)) (stoppedAt row (q .index)) (λ c. refl) refl (no-if q (Unary While) r refl)
       (while-goes p s T R t tid σ K H low row inside values q e r S F 0 there) c)
   word-goes (spawnWord q v e) f (z, n, r, S) F there c =
-      subst (λ (g : Focus). WordLine (spawnWord q v e) g c) (sym z)
+      subst (λ (g : ControlPoint). WordLine (spawnWord q v e) g c) (sym z)
       (plain p s T R t (redex σ (spawnWord q v e)) (λ part. stepWord M t tid σ K part (spawnWord q v e)) (readyAt row (q .index) (codeValue v)) (λ c. refl) refl (no-if q (Binary Spawn) r refl)
       (spawn-goes q v e r S F there) c)
   word-goes (writeWord q v w) f (z, n, r, held) F there c =
-      subst (λ (g : Focus). WordLine (writeWord q v w) g c) (sym z)
+      subst (λ (g : ControlPoint). WordLine (writeWord q v w) g c) (sym z)
       (plain p s T R t (redex σ (writeWord q v w)) (λ part. stepWord M t tid σ K part (writeWord q v w)) (readyAt row (q .index) (codeValue w)) (λ c. refl) refl (no-if q (Binary Write) r refl)
       (write-goes p s T R t tid σ K H low row inside values 0 q F v w r held there) c)
   word-goes (unaryWord q join v) f (z, n, r, N) F there c =
-      subst (λ (g : Focus). WordLine (unaryWord q join v) g c) (sym z)
+      subst (λ (g : ControlPoint). WordLine (unaryWord q join v) g c) (sym z)
       (plain p s T R t (redex σ (unaryWord q join v)) (λ part. stepWord M t tid σ K part (unaryWord q join v)) (readyAt row (q .index) (codeValue v)) (λ c. refl) refl (no-if q (Unary Join) r refl)
       (join-goes q v r F there) c)
   word-goes (unaryWord q ref v) f (z, n, r, N) F there c =
-      subst (λ (g : Focus). WordLine (unaryWord q ref v) g c) (sym z)
+      subst (λ (g : ControlPoint). WordLine (unaryWord q ref v) g c) (sym z)
       (plain p s T R t (redex σ (unaryWord q ref v)) (λ part. stepWord M t tid σ K part (unaryWord q ref v)) (readyAt row (q .index) (codeValue v)) (λ c. refl) refl (no-if q (Unary Ref) r refl)
       (rw (ref-acts p s row 0 (codeValue v) r)
       (making-goes p s T R t tid σ K H low row inside values (unaryWord q ref v) (readyAt row (q .index) (codeValue v)) (q .index) (r .below) F there cells (slot 2 (codeValue v) 0) (cell v) refl (refl, refl))) c)
@@ -271,20 +271,20 @@ module _ (p s : List ℕ) (T : Threads) (R : Replay) (t tid : ℕ) (σ : Env) (K
   word-goes (unaryWord q (hold wrlock) v) f W F there c = uses (hold wrlock) using-wrlock refl refl q v f W F there c
   word-goes (unaryWord q (hold wrunlock) v) f W F there c = uses (hold wrunlock) using-wrunlock refl refl q v f W F there c
   word-goes (unaryWord q (call g) v) f (z, n, r, N) F there c =
-      subst (λ (h : Focus). WordLine (unaryWord q (call g) v) h c) (sym z)
+      subst (λ (h : ControlPoint). WordLine (unaryWord q (call g) v) h c) (sym z)
       (plain p s T R t (redex σ (unaryWord q (call g) v)) (λ part. stepWord M t tid σ K part (unaryWord q (call g) v)) (readyAt row (q .index) (codeValue v)) (λ c. refl) refl (no-if q (Unary Call) r refl)
       (call-goes p s T R t tid σ K H low row inside few values q g v r N F there) c)
   word-goes (nullaryWord q o) f (z, n, r, N) F there c =
-      subst (λ (g : Focus). WordLine (nullaryWord q o) g c) (sym z)
+      subst (λ (g : ControlPoint). WordLine (nullaryWord q o) g c) (sym z)
       (plain p s T R t (redex σ (nullaryWord q o)) (λ part. stepWord M t tid σ K part (nullaryWord q o)) (stoppedAt row (q .index)) (λ c. refl) refl (no-if q (Leaf (noPartWord o)) r (maker-no-if o))
       (rw (maker-acts p s row 0 o N r)
       (making-goes p s T R t tid σ K H low row inside values (nullaryWord q o) (stoppedAt row (q .index)) (q .index) (r .below) F there (kindMade o) (makerSlot o) (made o) (maker-kind o) (maker-slot o))) c)
   word-goes (unrolledWord q e) f (z, n, r, S) F there c =
-      subst (λ (g : Focus). WordLine (unrolledWord q e) g c) (sym z)
+      subst (λ (g : ControlPoint). WordLine (unrolledWord q e) g c) (sym z)
       (either p s T R t (redex σ (unrolledWord q e)) (λ part. stepWord M t tid σ K part (unrolledWord q e)) (unrolledAt row (q .index)) (λ c. refl) (at-unrolled q)
       (unrolled-first p s T R t tid σ K H low row inside values q e r S F there) (unrolled-second p s T R t tid σ K H low row inside values q e r S F there) c)
   word-goes (againWord q v e) f (z, n, r, S) F there c =
-      subst (λ (g : Focus). WordLine (againWord q v e) g c) (sym z)
+      subst (λ (g : ControlPoint). WordLine (againWord q v e) g c) (sym z)
       (plain p s T R t (redex σ (againWord q v e)) (λ part. stepWord M t tid σ K part (againWord q v e)) (readyAt row (q .index) (codeValue v)) (λ c. refl) refl (no-if q (Unary While) r refl)
       (again-goes p s T R t tid σ K H low row inside values q e r S F 0 v there) c)
 
@@ -303,9 +303,9 @@ module _ (p s : List ℕ) (T : Threads) (R : Replay) (H : Holds p s T R) (roomy 
   line = record { thread = t; choice = c }
 
   -- a thread runs if its record says so
-  runs-told : (th : MachineThread) → getElem? ts t ≡ some th → runs T t ≡ isRunning (statusOf (th .joined) (th .control))
+  runs-decodes : (th : MachineThread) → getElem? ts t ≡ some th → runs T t ≡ isRunning (statusOf (th .joined) (th .control))
   unfolding runs
-  runs-told th there =
+  runs-decodes th there =
       let l = place-below ts t th there in
       let f = H .sized .fits in
       let k = H .sized .count in
@@ -316,18 +316,18 @@ module _ (p s : List ℕ) (T : Threads) (R : Replay) (H : Holds p s T R) (roomy 
   runs-not missing = let l = place-missing ts t missing in let k = H .sized .count in rw (le-leb (T .count) t (omega (arith, l, k)))
 
   -- a line of a thread that has no word
-  no-word : runs T t ≡ false → steppedOn R line ≡ none → Answered p (limited within (steppedOn R line)) (stepped p s T t c)
+  no-word : runs T t ≡ false → steppedOn R line ≡ none → Answered p (checkLimits within (steppedOn R line)) (stepped p s T t c)
   unfolding stepped
   no-word h e = rw (h, e) (stuck p s T R t)
 
-  has-word : (tid : ℕ) (σ : Env) (w : machine.Word) (K : List Frame) → getElem? ts t ≡ some (running tid (at σ w K)) → Answered p (limited within (steppedOn R line)) (stepped p s T t c)
+  has-word : (tid : ℕ) (σ : Env) (w : machine.Word) (K : List Frame) → getElem? ts t ≡ some (running tid (at σ w K)) → Answered p (checkLimits within (steppedOn R line)) (stepped p s T t c)
   unfolding stepped steppedOn wordOf step isRunning openCalls
   has-word tid σ w K there =
       let held = H .threads t (running tid (at σ w K)) there in
       let (values, W, F) = held .control in
       let few : marks K ≤ 64 = held .calls in
-      let inside = frames-inside p t s K (focusAt s t .row) (placeOf p s w) (continuation p (placeOf p s w)) (omega (arith, few)) F in
-      rw (runs-told (running tid (at σ w K)) there, there) (word-goes p s T R t tid σ K H roomy (thread-low p s T R t (running tid (at σ w K)) H there) (focusAt s t .row) inside few values w (focusAt s t) W F there c)
+      let inside = frames-inside p t s K (controlPointAt s t .row) (placeOf p s w) (continuation p (placeOf p s w)) (omega (arith, few)) F in
+      rw (runs-decodes (running tid (at σ w K)) there, there) (word-goes p s T R t tid σ K H roomy (thread-low p s T R t (running tid (at σ w K)) H there) (controlPointAt s t .row) inside few values w (controlPointAt s t) W F there c)
 
   joined-wordless : (tid : ℕ) (d : Control) → getElem? ts t ≡ some (record { tid = tid; joined = true; control = d }) → steppedOn R line ≡ none
   unfolding steppedOn wordOf
@@ -342,15 +342,15 @@ module _ (p s : List ℕ) (T : Threads) (R : Replay) (H : Holds p s T R) (roomy 
   none-wordless missing = rw missing
 
   -- the numbers answer the line as the machine does, and hold it afterwards
-  pub step-simulated : Answered p (limited within (steppedOn R line)) (stepped p s T t c)
+  pub step-simulated : Answered p (checkLimits within (steppedOn R line)) (stepped p s T t c)
   unfolding isRunning
   step-simulated = by-place (getElem? ts t) refl
     where
-      by-record : (tid : ℕ) (joined : Bool) (d : Control) → getElem? ts t ≡ some (record { tid = tid; joined = joined; control = d }) → Answered p (limited within (steppedOn R line)) (stepped p s T t c)
-      by-record tid true d there = no-word (runs-told (record { tid = tid; joined = true; control = d }) there) (joined-wordless tid d there)
-      by-record tid false (done v) there = no-word (runs-told (running tid (done v)) there) (done-wordless tid v there)
+      by-record : (tid : ℕ) (joined : Bool) (d : Control) → getElem? ts t ≡ some (record { tid = tid; joined = joined; control = d }) → Answered p (checkLimits within (steppedOn R line)) (stepped p s T t c)
+      by-record tid true d there = no-word (runs-decodes (record { tid = tid; joined = true; control = d }) there) (joined-wordless tid d there)
+      by-record tid false (done v) there = no-word (runs-decodes (running tid (done v)) there) (done-wordless tid v there)
       by-record tid false (at σ w K) there = has-word tid σ w K there
 
-      by-place : (o : Option MachineThread) → getElem? ts t ≡ o → Answered p (limited within (steppedOn R line)) (stepped p s T t c)
+      by-place : (o : Option MachineThread) → getElem? ts t ≡ o → Answered p (checkLimits within (steppedOn R line)) (stepped p s T t c)
       by-place none missing = no-word (runs-not missing) (none-wordless missing)
       by-place (some th) there = by-record (th .tid) (th .joined) (th .control) there

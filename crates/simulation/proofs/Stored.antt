@@ -17,7 +17,7 @@ use Rattle.threads.specs.declared.Threads.{Threads}
 use Rattle.engine.specs.Steps as engine
 use Rattle.replay_theory.specs.Trace.{TraceLine}
 use Rattle.replay_theory.specs.Run.{partOfIf, noChoice, partChosen, effect, thingsAfter}
-use Rattle.replay_theory.specs.Replay.{limited}
+use Rattle.replay_theory.specs.Replay.{checkLimits}
 use Rattle.machine.specs.Step.{step}
 use Rattle.machine.specs.Replay.{Replay, wordOf, stepped, within}
 use Rattle.simulation.proofs.Holds.{Holds}
@@ -82,8 +82,8 @@ module _ (R : Replay) where
 
 -- the numbers answer a line as they have stored it, if fewer steps were done than a count can hold
 pub line-answered : (p s : List ℕ) (T : Threads) (R : Replay) (k : ℕ) → Holds p s T R → CountsWithin k (R .machine .names) → suc k < 18446744073709551616 → (l : TraceLine) →
-    Answered p (limited within (stepped R l)) (engine.stepped p s T (stored (l .thread)) (stored (l .choice)))
+    Answered p (checkLimits within (stepped R l)) (engine.stepped p s T (stored (l .thread)) (stored (l .choice)))
 line-answered p s T R k H counts low l =
-    subst (λ (o : Option Replay). Answered p (limited within o) (engine.stepped p s T (stored (l .thread)) (stored (l .choice))))
+    subst (λ (o : Option Replay). Answered p (checkLimits within o) (engine.stepped p s T (stored (l .thread)) (stored (l .choice))))
     (line-stored R (l .thread) (l .choice) (H .sized .fits))
     (step-simulated p s T R H (counts-roomy k (R .machine .names) low counts) (stored (l .thread)) (stored (l .choice)))

@@ -15,9 +15,9 @@ use Rattle.calculus.specs.State.{opened, closed, readers, writer, unused, ident
 use Rattle.calculus.specs.Reduction.{_>>=_, _>>_, cellValue, lockState, ifOpened, count, oneLess, rwState, insideAfter}
 use Rattle.workspace.specs.Layout.{ruleOf, codeOf, printed}
 use Rattle.things.specs.declared.Slot.{Slot}
-use Rattle.things.specs.declared.Used.{Used}
-use Rattle.things.specs.declared.Used.the-variants.{Gives, Leaves, Stuck}
-use Rattle.things.specs.Uses.{slot, readOf, lockedOf, unlockedOf, postedOf, waitedOf, rdlockedOf, rdunlockedOf, wrlockedOf, wrunlockedOf, usedBy}
+use Rattle.things.specs.declared.StepEffect.{StepEffect}
+use Rattle.things.specs.declared.StepEffect.the-variants.{Returns, Updates, Stuck}
+use Rattle.things.specs.Uses.{slot, readOf, lockedOf, unlockedOf, postedOf, waitedOf, rdlockedOf, rdunlockedOf, wrlockedOf, wrunlockedOf, effectOf}
 use Rattle.machine.specs.Environment.{Env}
 use Rattle.machine.specs.Control.{Frame}
 use Rattle.machine.specs.State.{Machine}
@@ -149,10 +149,10 @@ module _ (M : Machine) (i tid : ℕ) (σ : Env) (K : List Frame) where
 -- ------------------------------------------------------------------ on numbers
 
 -- what the code makes of it
-abbrev pub UseIs : Option Use → Used → Type 0
+abbrev pub UseIs : Option Use → StepEffect → Type 0
 UseIs none u = u ≡ Stuck
-UseIs (some (gave v)) u = u ≡ Gives (codeValue v)
-UseIs (some (left sl)) u = (y : Slot) × (u ≡ Leaves y) × SlotIs y sl
+UseIs (some (gave v)) u = u ≡ Returns (codeValue v)
+UseIs (some (left sl)) u = (y : Slot) × (u ≡ Updates y) × SlotIs y sl
 
 -- a count that can still be raised
 abbrev pub Roomy : state.Slot → Type 0
@@ -168,7 +168,7 @@ module _ (x : Slot) where
   unfolding readOf
   read-used unused h = rw h
   read-used identifier h = rw h
-  read-used (cell v) h = rw (h .0) (ap Gives (h .1))
+  read-used (cell v) h = rw (h .0) (ap Returns (h .1))
   read-used (aLock opened) h = rw (h .0)
   read-used (aLock closed) h = rw (h .0)
   read-used (semaphore c) h = rw (h .0)
@@ -290,8 +290,8 @@ module _ (x : Slot) where
   wrunlock-used (rwlock N (readers k)) h = rw (h .0)
   wrunlock-used (rwlock N writer) h = (slot 5 (x .first) 0, rw (h .0), (refl, h .1, refl))
 
-  pub uses-alike : (o : calculus.Unary) → Using o → (sl : state.Slot) → SlotIs x sl → Roomy sl → (v : ℕ) → UseIs (useOf o sl) (usedBy (ruleOf (codeOf (Unary (partWord o)))) x v)
-  unfolding usedBy ruleOf printed
+  pub uses-alike : (o : calculus.Unary) → Using o → (sl : state.Slot) → SlotIs x sl → Roomy sl → (v : ℕ) → UseIs (useOf o sl) (effectOf (ruleOf (codeOf (Unary (partWord o)))) x v)
+  unfolding effectOf ruleOf printed
   uses-alike read using-read sl h r v = read-used sl h
   uses-alike lock using-lock sl h r v = lock-used sl h
   uses-alike unlock using-unlock sl h r v = unlock-used sl h

@@ -2,14 +2,14 @@
 use mathlib.Core.Path.{_≡_, refl}
 use mathlib.Core.List.{[], _∷_}
 use Prim.Native.String.{String, _++_}
-use Rattle.spec.specs.Reading.{on, _>>=_}
+use Rattle.spec.specs.Reading.{ok, _>>=_}
 use Rattle.spec.specs.Program.{program}
 use Rattle.spec.specs.Pairs.KnownPairs.{barred, P, found}
 use Rattle.calculus.specs.Expression.{value as constant, int, var, letIn, if, while, spawn, write, unary, join, ref, read, lock, unlock, post, wait, hold, rdlock, rdunlock, wrlock, wrunlock, call, nullary, newtid, newlock, newsem, newrwlock}
 use Rattle.soundness.specs.Erasure.{erase, eraseProgram}
 
-pub P-is-run : (program (barred P) >>= λ p. on (eraseProgram p))
-    ≡ on (record {
+pub P-is-run : (program (barred P) >>= λ p. ok (eraseProgram p))
+    ≡ ok (record {
       procedures = [];
       root = letIn 0 (unary ref (constant (int 0)))
           (letIn 1 (nullary newtid)
@@ -28,8 +28,8 @@ everyWord =
     ++ "let,8|lock,0|var,2|let,9|unlock,0|var,2|let,10|post,0|var,3|let,11|wait,0|var,3|"
     ++ "let,12|rdlock,0|var,4|let,13|rdunlock,0|var,4|let,14|wrlock,0|var,4|let,15|wrunlock,0|var,4|let,16|join,0|var,5|while,0|int,9|"
 
-pub every-word-is-run : (program (barred everyWord) >>= λ p. on (eraseProgram p))
-    ≡ on (record {
+pub every-word-is-run : (program (barred everyWord) >>= λ p. ok (eraseProgram p))
+    ≡ ok (record {
       procedures = record { parameter = 0; body = if (unary read (var 0)) (constant (int 7)) }
           ∷ record { parameter = 1; body = write (var 1) (unary (call 0) (var 1)) }
           ∷ [];

@@ -28,7 +28,7 @@ use Rattle.spec.proofs.Wide.{map-wide}
 use Rattle.spec.proofs.Agreement.{agree-same-tree, tree-of-type}
 use Rattle.spec.proofs.Shown.{Shown, agreeing, looser, may-show-exactly}
 use Rattle.calculus.specs.Expression.{choose}
-use Rattle.calculus.specs.Figure5.{Ty, intType, refType, lockType, tidType, semType, rwlockType, _shown-as_, asItIs, looser as looser-lock, Env, empty, bind}
+use Rattle.calculus.specs.Figure5.{Ty, intType, refType, lockType, tidType, semType, rwlockType, _<:_, asItIs, looser as looser-lock, Env, empty, bind}
 use Rattle.soundness.proofs.Capabilities.{cap, covers-cap}
 
 -- the type of the calculus that a tree is: its maps as capabilities. No type is a ref without a content.
@@ -77,10 +77,10 @@ module _ {P : Program} (S : Split) (R : InRange P S) where
   means-rwlock t r w e = ap meaning (tree-of-type S R t (type-line.Rwlock r w) e)
 
   -- what a var line may show is what a variable may be shown as
-  pub shown-means : (t u : TypeNumber) → mayShow S t u ≡ true → means S u shown-as means S t
+  pub shown-means : (t u : TypeNumber) → mayShow S t u ≡ true → means S u <: means S t
   shown-means t u h = by-cases (may-show-exactly S t u .0 h)
     where
-      by-cases : Shown S t u → means S u shown-as means S t
+      by-cases : Shown S t u → means S u <: means S t
       by-cases (agreeing a) = rw (agree-means S t u a) asItIs
       by-cases (looser {i = i} {o = o} {j = j} {p = p} x y gives takes) =
           rw (means-lock t i o x, means-lock u j p y) (looser-lock (covers-cap gives) (covers-cap takes))

@@ -5,7 +5,7 @@ use mathlib.Core.List.{List}
 use Prim.Native.Nat.{ℕ}
 use Rattle.spec.specs.Program.{Program}
 use Rattle.spec.specs.Split.{Split}
-use Rattle.spec.specs.Sites.{NumberedCondition, claimsOf}
+use Rattle.spec.specs.StepContexts.{NumberedCondition, claimsOf}
 use Rattle.spec.specs.FirstFalse.{Holds, Earlier, Refuted}
 use Rattle.spec.specs.declared.Refusal.{Refusal}
 use Rattle.spec.specs.declared.Purpose.the-variants.{Check}

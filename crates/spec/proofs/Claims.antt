@@ -5,10 +5,10 @@ use mathlib.Core.Bool.{Bool, true, false}
 use mathlib.Core.Option.{none, some}
 use Prim.Native.Nat.{ℕ}
 use Rattle.spec.specs.Choice.{if_then_else_}
-use Rattle.spec.specs.Reading.{Out, stop, on, _>>=_}
+use Rattle.spec.specs.Reading.{Result, refuse, ok, _>>=_}
 use Rattle.spec.specs.Split.{Split}
 use Rattle.spec.specs.Conditions.{Condition, T, F, A}
-use Rattle.spec.specs.Sites.{Site, NumberedCondition, claims, claimsAt, judge, firstFalse, only}
+use Rattle.spec.specs.StepContexts.{StepContext, NumberedCondition, claims, claimsAt, judge, firstFalse, only}
 use Rattle.spec.specs.FirstFalse.{Holds, AllHold, Names, type, flow, access, FirstFalse}
 use Rattle.spec.specs.declared.Refusal.{Refusal}
 use Rattle.spec.proofs.Clashes.{true-is-not-false, none-is-not-some, not-true-false}
@@ -16,7 +16,7 @@ use Rattle.spec.proofs.Outcomes.{stop-is-not-on, stop-injective, bind-g
 
 -- ------------------------------------------------------------------ one condition
 
-judged-holds : {t : Unit {0}} (k i : ℕ) (c : Condition) → judge k i c ≡ on t → Holds c
+judged-holds : {t : Unit {0}} (k i : ℕ) (c : Condition) → judge k i c ≡ ok t → Holds c
 unfolding judge Holds
 judged-holds k i (T true) h = refl
 judged-holds k i (T false) h = stop-is-not-on h
@@ -25,7 +25,7 @@ judged-holds k i (F (some l)) h = stop-is-not-on h
 judged-holds k i (A true p) h = refl
 judged-holds k i (A false p) h = stop-is-not-on h
 
-holds-judged : (k i : ℕ) (c : Condition) → Holds c → judge k i c ≡ on tt
+holds-judged : (k i : ℕ) (c : Condition) → Holds c → judge k i c ≡ ok tt
 unfolding judge Holds
 holds-judged k i (T b) h = rw h
 holds-judged k i (F o) h = rw h
@@ -33,14 +33,14 @@ holds-judged k i (A b p) h = rw h
 
 -- ------------------------------------------------------------------ a list of claims
 
-pub none-false-all-hold : {t : Unit {0}} (cs : List NumberedCondition) → firstFalse cs ≡ on t → AllHold cs
+pub none-false-all-hold : {t : Unit {0}} (cs : List NumberedCondition) → firstFalse cs ≡ ok t → AllHold cs
 unfolding firstFalse AllHold
 none-false-all-hold [] h = tt
 none-false-all-hold (c ∷ cs) h =
     let b = bind-goes-on _ _ h in
     (judged-holds _ _ _ (b .1), none-false-all-hold cs (b .2))
 
-pub all-hold-none-false : (cs : List NumberedCondition) → AllHold cs → firstFalse cs ≡ on tt
+pub all-hold-none-false : (cs : List NumberedCondition) → AllHold cs → firstFalse cs ≡ ok tt
 unfolding firstFalse AllHold
 all-hold-none-false [] h = refl
 all-hold-none-false (c ∷ cs) h = goes-on-bind _ _ (holds-judged _ _ _ (h .0)) (all-hold-none-false cs (h .1))
@@ -68,7 +68,7 @@ only-append sort (c ∷ xs) ys = go (sort (c .condition)) (only-append sort xs y
     go true e = ap (c ∷_) e
     go false e = e
 
-pub claims-append : (S : Split) (xs ys : List Site) → claims S (xs ++ ys) ≡ claims S xs ++ claims S ys
+pub claims-append : (S : Split) (xs ys : List StepContext) → claims S (xs ++ ys) ≡ claims S xs ++ claims S ys
 unfolding claims
 claims-append S [] ys = refl
 claims-append S (x ∷ xs) ys = rw (claims-append S xs ys, append-assoc (claimsAt S x) (claims S xs) (claims S ys))
@@ -81,20 +81,20 @@ pub record OfEach (Q : List NumberedCondition → Type 0) : Type 0 where
 pub all-hold-each : OfEach AllHold
 all-hold-each = record { parts = all-hold-parts; whole = all-hold-append }
 
--- it is said of a step and of the sites behind it, and of two lists of sites
+-- it is said of a step and of the step contexts behind it, and of two lists of step contexts
 module _ {Q : List NumberedCondition → Type 0} (each : OfEach Q) (S : Split) where
-  pub step-parts : (s : Site) (ss : List Site) → Q (claims S (s ∷ ss)) → Q (claimsAt S s) × Q (claims S ss)
+  pub step-parts : (s : StepContext) (ss : List StepContext) → Q (claims S (s ∷ ss)) → Q (claimsAt S s) × Q (claims S ss)
   unfolding claims
   step-parts s ss h = each .parts (claimsAt S s) (claims S ss) h
 
-  pub parts-step : (s : Site) (ss : List Site) → Q (claimsAt S s) → Q (claims S ss) → Q (claims S (s ∷ ss))
+  pub parts-step : (s : StepContext) (ss : List StepContext) → Q (claimsAt S s) → Q (claims S ss) → Q (claims S (s ∷ ss))
   unfolding claims
   parts-step s ss p q = each .whole (claimsAt S s) (claims S ss) p q
 
-  pub both-parts : (xs ys : List Site) → Q (claims S (xs ++ ys)) → Q (claims S xs) × Q (claims S ys)
+  pub both-parts : (xs ys : List StepContext) → Q (claims S (xs ++ ys)) → Q (claims S xs) × Q (claims S ys)
   both-parts xs ys h = each .parts (claims S xs) (claims S ys) (subst Q (claims-append S xs ys) h)
 
-  pub parts-both : (xs ys : List Site) → Q (claims S xs) → Q (claims S ys) → Q (claims S (xs ++ ys))
+  pub parts-both : (xs ys : List StepContext) → Q (claims S xs) → Q (claims S ys) → Q (claims S (xs ++ ys))
   parts-both xs ys p q = subst Q (sym (claims-append S xs ys)) (each .whole (claims S xs) (claims S ys) p q)
 
 -- ------------------------------------------------------------------ the first false one is one
@@ -126,7 +126,7 @@ one-first {r = r} same f g =
 
 -- ------------------------------------------------------------------ the first false one
 
-judged-false : {r : Refusal} (k i : ℕ) (c : Condition) → judge k i c ≡ stop r → (Holds c → ⊥) × Names k i c r
+judged-false : {r : Refusal} (k i : ℕ) (c : Condition) → judge k i c ≡ refuse r → (Holds c → ⊥) × Names k i c r
 unfolding judge Holds
 judged-false k i (T true) h = stop-is-not-on (sym h)
 judged-false k i (T false) h = (λ t. true-is-not-false (sym t), subst (λ s. Names k i (T false) s) (stop-injective h) type)
@@ -135,17 +135,17 @@ judged-false k i (F (some l)) h = (λ n. none-is-not-some (sym n), subst (λ s. 
 judged-false k i (A true p) h = stop-is-not-on (sym h)
 judged-false k i (A false p) h = (λ t. true-is-not-false (sym t), subst (λ s. Names k i (A false p) s) (stop-injective h) access)
 
-pub stopped-first-false : {r : Refusal} (cs : List NumberedCondition) → firstFalse cs ≡ stop r → FirstFalse cs r
+pub stopped-first-false : {r : Refusal} (cs : List NumberedCondition) → firstFalse cs ≡ refuse r → FirstFalse cs r
 unfolding firstFalse _>>=_ AllHold
 stopped-first-false [] h = stop-is-not-on (sym h)
 stopped-first-false (c ∷ cs) h = go (judge (c .line) (c .number) (c .condition)) refl h (stopped-first-false cs)
   where
-    go : {r : Refusal} (o : Out (Unit {0})) → judge (c .line) (c .number) (c .condition) ≡ o → (o >>= λ holds. firstFalse cs) ≡ stop r
-        → (firstFalse cs ≡ stop r → FirstFalse cs r) → FirstFalse (c ∷ cs) r
-    go (stop s) e h rest =
+    go : {r : Refusal} (o : Result (Unit {0})) → judge (c .line) (c .number) (c .condition) ≡ o → (o >>= λ holds. firstFalse cs) ≡ refuse r
+        → (firstFalse cs ≡ refuse r → FirstFalse cs r) → FirstFalse (c ∷ cs) r
+    go (refuse s) e h rest =
         let f = judged-false _ _ _ (e ∙ h) in
         record { before = []; here = c; after = cs; parted = refl; holdBefore = tt; isFalse = f .0; named = f .1 }
-    go (on t) e h rest =
+    go (ok t) e h rest =
         let f = rest h in
         record {
           before = c ∷ f .before;
@@ -158,16 +158,16 @@ stopped-first-false (c ∷ cs) h = go (judge (c .line) (c .number) (c .condition
         }
 
 -- and back
-false-judged : {k i : ℕ} {c : Condition} {r : Refusal} → Names k i c r → (Holds c → ⊥) → judge k i c ≡ stop r
+false-judged : {k i : ℕ} {c : Condition} {r : Refusal} → Names k i c r → (Holds c → ⊥) → judge k i c ≡ refuse r
 unfolding judge Holds
 false-judged (type {b}) h = rw (not-true-false b h)
 false-judged flow h = refl
 false-judged (access {b}) h = rw (not-true-false b h)
 
-pub first-false-stopped : {r : Refusal} {all : List NumberedCondition} → FirstFalse all r → firstFalse all ≡ stop r
+pub first-false-stopped : {r : Refusal} {all : List NumberedCondition} → FirstFalse all r → firstFalse all ≡ refuse r
 unfolding firstFalse AllHold _>>=_
 first-false-stopped {r} f = ap firstFalse (f .parted) ∙ past (f .before) (f .holdBefore)
   where
-    past : (before : List NumberedCondition) → AllHold before → firstFalse (before ++ f .here ∷ f .after) ≡ stop r
+    past : (before : List NumberedCondition) → AllHold before → firstFalse (before ++ f .here ∷ f .after) ≡ refuse r
     past [] h = ap (λ o. o >>= λ holds. firstFalse (f .after)) (false-judged (f .named) (f .isFalse))
     past (c ∷ cs) h = goes-on-bind _ _ (holds-judged _ _ _ (h .0)) (past cs (h .1))

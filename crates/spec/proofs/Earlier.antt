@@ -5,7 +5,7 @@ use mathlib.Core.List.{List, [], _∷_, _++_}
 use Prim.Native.Nat.{_<_}
 use native.Mathlib.Decide.{decLt}
 use native.Mathlib.Omega.{arith}
-use Rattle.spec.specs.Sites.{NumberedCondition}
+use Rattle.spec.specs.StepContexts.{NumberedCondition}
 use Rattle.spec.specs.FirstFalse.{Holds, AllHold, FirstFalse, Earlier, byLine, byNumber, EarlierThanAll, InOrder}
 use Rattle.spec.specs.declared.Refusal.{Refusal}
 

@@ -4,11 +4,11 @@ use mathlib.Core.List.{List}
 use mathlib.Core.Bool.{true}
 use Prim.Native.Nat.{ℕ, _≤_}
 use native.Mathlib.Omega.{arith}
-use Rattle.spec.specs.Reading.{Out, stop, on}
+use Rattle.spec.specs.Reading.{Result, refuse, ok}
 use Rattle.spec.specs.Conditions.{Condition}
-use Rattle.spec.specs.Sites.{claimsOf}
+use Rattle.spec.specs.StepContexts.{claimsOf}
 use Rattle.spec.specs.Workspace.{workspaceSize}
-use Rattle.spec.specs.Verdict.{ruled, checked, answer, verdict, four, returned, onConditions}
+use Rattle.spec.specs.Verdict.{conditionsHold, checked, answer, verdict, numbers4, returned, onConditions}
 use Rattle.spec.specs.WellFormed.{firstItemLine}
 use Rattle.spec.specs.FirstFalse.{Names, type, flow, access, Refuted}
 use Rattle.spec.specs.declared.Answer.the-variants.{Refuse}
@@ -18,16 +18,16 @@ use Rattle.spec.proofs.StepLines.{items-rise}
 use Rattle.spec.proofs.Order.{claims-in-order}
 use Rattle.spec.proofs.Reached.{reached, reached-checked}
 
-refused-stopped : {r : Refusal} (o : Out (Unit {0})) → answer o ≡ Refuse r → o ≡ stop r
+refused-stopped : {r : Refusal} (o : Result (Unit {0})) → answer o ≡ Refuse r → o ≡ refuse r
 unfolding answer
-refused-stopped {r} (stop s) h = let same : s ≡ r = cc in ap stop same
-refused-stopped (on t) h = let clash : _≡_ {A = ℕ} 0 1 = cc in absurd (omega arith)
+refused-stopped {r} (refuse s) h = let same : s ≡ r = cc in ap refuse same
+refused-stopped (ok t) h = let clash : _≡_ {A = ℕ} 0 1 = cc in absurd (omega arith)
 
 pub refusal-names-first-false : (room : ℕ) (p s : List ℕ) (r : Refusal) → verdict room p s ≡ Refuse r → onConditions (returned (Refuse r) .number) ≡ true
     → Refuted p s r
-unfolding verdict ruled
+unfolding verdict conditionsHold
 refusal-names-first-false room p s r h late =
-    let c = reached room p s (stop r) late (refused-stopped (checked room p s) h) in
+    let c = reached room p s (refuse r) late (refused-stopped (checked room p s) h) in
     record {
       P = c .P;
       S = c .S;
@@ -37,8 +37,8 @@ refusal-names-first-false room p s r h late =
     }
 
 pub first-false-is-refused : (room : ℕ) (p s : List ℕ) (r : Refusal) → workspaceSize ≤ room → Refuted p s r → verdict room p s ≡ Refuse r
-unfolding verdict answer ruled
-first-false-is-refused room p s r enough f = ap answer (reached-checked room p s (stop r) (record {
+unfolding verdict answer conditionsHold
+first-false-is-refused room p s r enough f = ap answer (reached-checked room p s (refuse r) (record {
   P = f .P;
   S = f .S;
   enough = enough;
@@ -48,7 +48,7 @@ first-false-is-refused room p s r enough f = ap answer (reached-checked room p s
 
 -- what names a condition is one of 31 to 33, so that the promise of a first false condition is about each of them
 named-on-conditions : {k i : ℕ} {c : Condition} {r : Refusal} → Names k i c r → onConditions (returned (Refuse r) .number) ≡ true
-unfolding returned four onConditions
+unfolding returned numbers4 onConditions
 named-on-conditions type = refl
 named-on-conditions flow = refl
 named-on-conditions access = refl

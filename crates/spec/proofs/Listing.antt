@@ -5,7 +5,7 @@ use Prim.Native.Nat.{ℕ, zero, suc, _+_, _≤_}
 use native.Mathlib.Omega.{arith}
 use lib.ListN.{length, drop, length-append}
 use lib.Seq.{drop-append-seam}
-use Rattle.spec.specs.Reading.{on}
+use Rattle.spec.specs.Reading.{ok}
 use Rattle.spec.specs.Expression.{Step, Expr, leaf, unary, binary, size, withParts, listed, Item, step, proc, stepsAmong, leading, firstListed, expression, noLineLeft, Procedure, structure}
 use Rattle.spec.specs.WellFormed.{prefix, IndexesFrom, itemsOf, listing, NumberedFrom}
 use Rattle.spec.specs.declared.Word.{Word}
@@ -106,7 +106,7 @@ leading-front (proc x k ∷ items) (s ∷ ss) rest h = let clash : _≡_ {A = �
 
 -- ------------------------------------------------------------------ one expression among the lines
 
-pub expression-listed : (last i : ℕ) (e : Expr) (rest : List Item) → IndexesFrom i e → expression last i (itemsOf e ++ rest) ≡ on (e, rest)
+pub expression-listed : (last i : ℕ) (e : Expr) (rest : List Item) → IndexesFrom i e → expression last i (itemsOf e ++ rest) ≡ ok (e, rest)
 unfolding expression firstListed itemsOf
 expression-listed last i e rest f =
     let found : listed i (leading (map step (prefix e) ++ rest)) ≡ e ∷ listed (i + size e) (leading rest) =
@@ -116,7 +116,7 @@ expression-listed last i e rest f =
     rw (found, behind)
 
 first-lists : {e : Expr} {rest : List Item} (last i : ℕ) (items : List Item) (es : List Expr) → Lists i (leading items) es
-    → firstListed last items es ≡ on (e, rest) → (items ≡ itemsOf e ++ rest) × IndexesFrom i e
+    → firstListed last items es ≡ ok (e, rest) → (items ≡ itemsOf e ++ rest) × IndexesFrom i e
 unfolding firstListed itemsOf
 first-lists last i items [] l h = stop-is-not-on h
 first-lists last i items (x ∷ es) (finished {rest = behind} q f l) h =
@@ -124,14 +124,14 @@ first-lists last i items (x ∷ es) (finished {rest = behind} q f l) h =
     leading-front items (prefix x) behind q ∙ ap (λ n. map step (prefix x) ++ drop n items) (prefix-length x) in
     subst (λ (r : Expr × List Item). (items ≡ map step (prefix (r .0)) ++ r .1) × IndexesFrom i (r .0)) (on-injective h) (front, f)
 
-pub listed-expression : {e : Expr} {rest : List Item} (last i : ℕ) (items : List Item) → expression last i items ≡ on (e, rest)
+pub listed-expression : {e : Expr} {rest : List Item} (last i : ℕ) (items : List Item) → expression last i items ≡ ok (e, rest)
     → (items ≡ itemsOf e ++ rest) × IndexesFrom i e
 unfolding expression
 listed-expression last i items h = first-lists last i items (listed i (leading items)) (lists i (leading items)) h
 
 -- ------------------------------------------------------------------ procedures and the root
 
-none-left : {t : Unit {0}} (items : List Item) → noLineLeft items ≡ on t → items ≡ []
+none-left : {t : Unit {0}} (items : List Item) → noLineLeft items ≡ ok t → items ≡ []
 unfolding noLineLeft
 none-left [] h = refl
 none-left (x ∷ items) h = stop-is-not-on h
@@ -157,7 +157,7 @@ procedure-lists k i x l items rest e ps root all indexes behind = record {
   counted = ap suc (behind .counted);
 }
 
-pub structure-lists : {ps : List Procedure} {root : Expr} (last k i : ℕ) (items : List Item) → structure last k i items ≡ on (ps, root)
+pub structure-lists : {ps : List Procedure} {root : Expr} (last k i : ℕ) (items : List Item) → structure last k i items ≡ ok (ps, root)
     → Listed k i items ps root
 unfolding structure
 structure-lists last zero i items h =
@@ -175,7 +175,7 @@ structure-lists last (suc k) i (proc x l ∷ items) h =
     (procedure-lists k i x l items rest e ps root all indexes (structure-lists last k (i + size e) rest h₂))
 
 pub listing-structured : (last i : ℕ) (ps : List Procedure) (root : Expr) → NumberedFrom i ps root
-    → structure last (length ps) i (listing ps root) ≡ on (ps, root)
+    → structure last (length ps) i (listing ps root) ≡ ok (ps, root)
 unfolding structure listing NumberedFrom noLineLeft
 listing-structured last i [] root f =
     goes-on-bind _ _ (ap (expression last i) (sym (append-nil (itemsOf root))) ∙ expression-listed last i root [] f) (goes-on-bind _ _ refl refl)

@@ -6,7 +6,7 @@ use Prim.Native.Nat.{ℕ, zero, suc, _+_}
 use native.Mathlib.Omega.{arith}
 use lib.ListN.{getD}
 use Rattle.spec.specs.Choice.{if_then_else_}
-use Rattle.spec.specs.Reading.{on}
+use Rattle.spec.specs.Reading.{ok}
 use Rattle.spec.specs.Split.{Split, typeAt, mapAt}
 use Rattle.spec.specs.Maps.{_≥ᵐ_, holdsEverywhere}
 use Rattle.spec.specs.Kinds.{lock, sameKind, is, firstMap, secondMap}
@@ -38,21 +38,21 @@ module _ (S : Split) where
       by-kind true e = none-nowhere (mapAt S (secondMap x) ≥ᵐ mapAt S (firstMap x)) (covers-none (h (firstMap x) (secondMap x) (is-of lock x e)))
       by-kind false e = refl
 
-  all-enough : {t : Unit {0}} (k : ℕ) (xs : List TypeLine) → allTakeEnough S k xs ≡ on t → (n : ℕ) → Enough (getD xs n type-line.Int)
+  all-enough : {t : Unit {0}} (k : ℕ) (xs : List TypeLine) → allTakeEnough S k xs ≡ ok t → (n : ℕ) → Enough (getD xs n type-line.Int)
   unfolding allTakeEnough
   all-enough k [] h n = λ i o e. let clash : _≡_ {A = ℕ} 0 1 = cc in absurd (omega arith)
   all-enough k (x ∷ xs) h zero = line-enough x (demand-goes-on _ _ (bind-goes-on _ _ h .1))
   all-enough k (x ∷ xs) h (suc n) = all-enough (k + 1) xs (bind-goes-on _ _ h .2) n
 
-  enough-all : (k : ℕ) (xs : List TypeLine) → ((n : ℕ) → Enough (getD xs n type-line.Int)) → allTakeEnough S k xs ≡ on tt
+  enough-all : (k : ℕ) (xs : List TypeLine) → ((n : ℕ) → Enough (getD xs n type-line.Int)) → allTakeEnough S k xs ≡ ok tt
   unfolding allTakeEnough
   enough-all k [] h = refl
   enough-all k (x ∷ xs) h = goes-on-bind _ _ (goes-on-demand _ (LockTakesLess k) (enough-line x (h 0))) (enough-all (k + 1) xs (λ n. h (suc n)))
 
-  pub locks-take-enough : {t : Unit {0}} → locksTakeEnough S ≡ on t → LocksTakeEnough S
+  pub locks-take-enough : {t : Unit {0}} → locksTakeEnough S ≡ ok t → LocksTakeEnough S
   unfolding locksTakeEnough typeAt
   locks-take-enough h t = all-enough 2 (S .types) h (t .0)
 
-  pub enough-taken : LocksTakeEnough S → locksTakeEnough S ≡ on tt
+  pub enough-taken : LocksTakeEnough S → locksTakeEnough S ≡ ok tt
   unfolding locksTakeEnough typeAt
   enough-taken h = enough-all 2 (S .types) (λ n. h (record { 0 = n }))

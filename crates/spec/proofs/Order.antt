@@ -8,7 +8,7 @@ use Rattle.spec.specs.Expression.{Step, Expr, leaf, unary, binary, lineO
 use Rattle.spec.specs.Program.{Program}
 use Rattle.spec.specs.Split.{Map, Split}
 use Rattle.spec.specs.Conditions.{Condition, Env, startMap, signature, conditionsOf, procedureConditions}
-use Rattle.spec.specs.Sites.{Site, sites, NumberedCondition, numbered, claimsAt, claims, bodySites, claimsOfProcedure, claimsOfProcedures, claimsOf}
+use Rattle.spec.specs.StepContexts.{StepContext, stepContexts, NumberedCondition, numbered, claimsAt, claims, bodyStepContexts, claimsOfProcedure, claimsOfProcedures, claimsOf}
 use Rattle.spec.specs.WellFormed.{prefix, itemsOf, listing}
 use Rattle.spec.specs.FirstFalse.{byLine, byNumber, EarlierThanAll, InOrder}
 use Rattle.spec.proofs.StepLines.{Rising}
@@ -75,53 +75,53 @@ rising-in-order lo ((k, cs) ∷ js) h =
 -- ------------------------------------------------------------------ the lines of a program
 
 module _ (S : Split) where
-  abbrev judgedAt : Site → Judged
+  abbrev judgedAt : StepContext → Judged
   judgedAt s = (lineOf (s .step), conditionsOf S (s .Γ) (s .pre) (s .step))
 
-  abbrev judgedOf : List Site → List Judged
+  abbrev judgedOf : List StepContext → List Judged
   judgedOf ss = map judgedAt ss
 
-  claims-judged : (ss : List Site) → claims S ss ≡ claimsAll (judgedOf ss)
+  claims-judged : (ss : List StepContext) → claims S ss ≡ claimsAll (judgedOf ss)
   unfolding claims claimsAt claimsAll
   claims-judged [] = refl
   claims-judged (s ∷ ss) = ap (claimsAt S s ++_) (claims-judged ss)
 
   -- of the procedures from number f on, and of the root
   unfoldable judgedFrom : (f : ℕ) → List Procedure → Expr → List Judged
-  judgedFrom f [] root = judgedOf (sites S [] (startMap S) root)
+  judgedFrom f [] root = judgedOf (stepContexts S [] (startMap S) root)
   judgedFrom f (p ∷ ps) root =
-      (p .line, procedureConditions S (signature S f) p) ∷ (judgedOf (bodySites S (signature S f) p) ++ judgedFrom (f + 1) ps root)
+      (p .line, procedureConditions S (signature S f) p) ∷ (judgedOf (bodyStepContexts S (signature S f) p) ++ judgedFrom (f + 1) ps root)
 
   program-judged : (f : ℕ) (ps : List Procedure) (root : Expr)
-      → claimsOfProcedures S f ps ++ claims S (sites S [] (startMap S) root) ≡ claimsAll (judgedFrom f ps root)
+      → claimsOfProcedures S f ps ++ claims S (stepContexts S [] (startMap S) root) ≡ claimsAll (judgedFrom f ps root)
   unfolding claimsOfProcedures claimsOfProcedure claimsAll judgedFrom
-  program-judged f [] root = claims-judged (sites S [] (startMap S) root)
+  program-judged f [] root = claims-judged (stepContexts S [] (startMap S) root)
   program-judged f (p ∷ ps) root =
       let g = signature S f in
       let own = numbered (p .line) 1 (procedureConditions S g p) in
-      let body = claims S (bodySites S g p) in
-      let rest = claims S (sites S [] (startMap S) root) in
+      let body = claims S (bodyStepContexts S g p) in
+      let rest = claims S (stepContexts S [] (startMap S) root) in
       append-assoc (own ++ body) (claimsOfProcedures S (f + 1) ps) rest
       ∙ append-assoc own body (claimsOfProcedures S (f + 1) ps ++ rest)
       ∙ ap (λ cs. own ++ (body ++ cs)) (program-judged (f + 1) ps root)
-      ∙ ap (λ cs. own ++ (cs ++ claimsAll (judgedFrom (f + 1) ps root))) (claims-judged (bodySites S g p))
-      ∙ ap (own ++_) (sym (claims-all-append (judgedOf (bodySites S g p)) (judgedFrom (f + 1) ps root)))
+      ∙ ap (λ cs. own ++ (cs ++ claimsAll (judgedFrom (f + 1) ps root))) (claims-judged (bodyStepContexts S g p))
+      ∙ ap (own ++_) (sym (claims-all-append (judgedOf (bodyStepContexts S g p)) (judgedFrom (f + 1) ps root)))
 
-  -- sites stand on the lines of their steps
-  abbrev lineOfSite : Site → ℕ
-  lineOfSite s = lineOf (s .step)
+  -- step contexts stand on the lines of their steps
+  abbrev lineOfStepContext : StepContext → ℕ
+  lineOfStepContext s = lineOf (s .step)
 
   abbrev lineOfStep : Step → ℕ
   lineOfStep s = s .line
 
-  site-lines : (Γ : Env) (pre : Map) (e : Expr) → map lineOfSite (sites S Γ pre e) ≡ map lineOfStep (prefix e)
-  unfolding sites prefix lineOf
-  site-lines Γ pre (leaf w k v) = refl
-  site-lines Γ pre (unary w k v e₁) = ap (k .line ∷_) (site-lines Γ _ e₁)
-  site-lines Γ pre (binary w k v e₁ e₂) =
-      rw (map-append lineOfSite (sites S Γ pre e₁) _, map-append lineOfStep (prefix e₁) (prefix e₂), site-lines Γ pre e₁, site-lines _ _ e₂)
+  step-context-lines : (Γ : Env) (pre : Map) (e : Expr) → map lineOfStepContext (stepContexts S Γ pre e) ≡ map lineOfStep (prefix e)
+  unfolding stepContexts prefix lineOf
+  step-context-lines Γ pre (leaf w k v) = refl
+  step-context-lines Γ pre (unary w k v e₁) = ap (k .line ∷_) (step-context-lines Γ _ e₁)
+  step-context-lines Γ pre (binary w k v e₁ e₂) =
+      rw (map-append lineOfStepContext (stepContexts S Γ pre e₁) _, map-append lineOfStep (prefix e₁) (prefix e₂), step-context-lines Γ pre e₁, step-context-lines _ _ e₂)
 
-  judged-lines : (ss : List Site) → map lineOfJudged (judgedOf ss) ≡ map lineOfSite ss
+  judged-lines : (ss : List StepContext) → map lineOfJudged (judgedOf ss) ≡ map lineOfStepContext ss
   judged-lines [] = refl
   judged-lines (s ∷ ss) = ap (lineOf (s .step) ∷_) (judged-lines ss)
 
@@ -130,15 +130,15 @@ module _ (S : Split) where
   step-lines [] = refl
   step-lines (s ∷ ss) = ap (s .line ∷_) (step-lines ss)
 
-  expression-lines : (Γ : Env) (pre : Map) (e : Expr) → map lineOfJudged (judgedOf (sites S Γ pre e)) ≡ map lineOfItem (itemsOf e)
+  expression-lines : (Γ : Env) (pre : Map) (e : Expr) → map lineOfJudged (judgedOf (stepContexts S Γ pre e)) ≡ map lineOfItem (itemsOf e)
   unfolding itemsOf
-  expression-lines Γ pre e = judged-lines (sites S Γ pre e) ∙ site-lines Γ pre e ∙ sym (step-lines (prefix e))
+  expression-lines Γ pre e = judged-lines (stepContexts S Γ pre e) ∙ step-context-lines Γ pre e ∙ sym (step-lines (prefix e))
 
   program-lines : (f : ℕ) (ps : List Procedure) (root : Expr) → map lineOfJudged (judgedFrom f ps root) ≡ map lineOfItem (listing ps root)
-  unfolding listing bodySites lineOfItem judgedFrom
+  unfolding listing bodyStepContexts lineOfItem judgedFrom
   program-lines f [] root = expression-lines [] (startMap S) root
   program-lines f (p ∷ ps) root =
-      let body = bodySites S (signature S f) p in
+      let body = bodyStepContexts S (signature S f) p in
       ap (p .line ∷_) (map-append lineOfJudged (judgedOf body) (judgedFrom (f + 1) ps root)
       ∙ ap (_++ map lineOfJudged (judgedFrom (f + 1) ps root)) (expression-lines _ _ (p .body))
       ∙ ap (map lineOfItem (itemsOf (p .body)) ++_) (program-lines (f + 1) ps root)

@@ -9,7 +9,7 @@ use native.Mathlib.Omega.{arith}
 use lib.ListN.{length, getD, replicate, length-replicate}
 use Rattle.spec.specs.Choice.{if_then_else_}
 use Rattle.spec.specs.Text.{Line, bytes, same, Field, lookUp}
-use Rattle.spec.specs.Reading.{right, seen, _to_, below, inRange, numerals, numbers}
+use Rattle.spec.specs.Reading.{good, seen, _to_, below, inRange, numerals, numbers}
 use Rattle.spec.specs.Words.{takesStart}
 use Rattle.spec.specs.Expression.{Step}
 use Rattle.spec.specs.Program.{Program}
@@ -17,7 +17,7 @@ use Rattle.spec.specs.Split.{Map, headings, headerRanges, mapsOf, mapsIn
 use Rattle.spec.specs.declared.Signature.{Signature}
 use Rattle.spec.specs.declared.Header.{Header}
 use Rattle.spec.specs.Kinds.{ref, sameKind, is, refLocation, content, maps}
-use Rattle.spec.specs.WellFormed.{Shows, nothing, line, WellFormedSplit}
+use Rattle.spec.specs.WellFormed.{Parses, nothing, line, WellFormedSplit}
 use Rattle.spec.specs.declared.Purpose.{Purpose}
 use Rattle.spec.specs.declared.Purpose.the-variants.{Check, Fill}
 use Rattle.spec.specs.Ranges.{AllBelow, InRange}
@@ -42,7 +42,7 @@ record HeaderFits (H : Header) : Type 0 where
   start : H .start .0 < H .maps
 
 -- the numbers of a header that names its start
-named-fits : (h : Heading) (fs : List Field) (ns : List ℕ) → numbers (headerRanges C2 (mapsIn (numerals fs))) fs ≡ right ns
+named-fits : (h : Heading) (fs : List Field) (ns : List ℕ) → numbers (headerRanges C2 (mapsIn (numerals fs))) fs ≡ good ns
     → HeaderFits (record {
       heading = h;
       denominator = getD ns 0 0;
@@ -64,7 +64,7 @@ named-fits h fs ns n =
     }
 
 -- the ranges of a `C` header, and of the same numbers of the others
-headed-fits : (o : Option Heading) (fs : List Field) (H : Header) → headed o fs ≡ right H → HeaderFits H
+headed-fits : (o : Option Heading) (fs : List Field) (H : Header) → headed o fs ≡ good H → HeaderFits H
 unfolding headed headerRanges headerOf startOf mapsIn mapsOf
 headed-fits none fs H h = wrong-is-not-right h
 headed-fits (some C) fs H h =
@@ -81,7 +81,7 @@ headed-fits (some C) fs H h =
 headed-fits (some C2) fs H h = let (ns, n, e) = seen-right _ h in along HeaderFits e (named-fits C2 fs ns n)
 headed-fits (some C3) fs H h = let (ns, n, e) = seen-right _ h in along HeaderFits e (named-fits C3 fs ns n)
 
-header-fits : (purpose : Purpose) (fs : List Field) (H : Header) → headerLine purpose fs ≡ right H → HeaderFits H
+header-fits : (purpose : Purpose) (fs : List Field) (H : Header) → headerLine purpose fs ≡ good H → HeaderFits H
 unfolding headerLine
 header-fits purpose [] H h = wrong-is-not-right h
 header-fits purpose (f ∷ fs) H h = headed-fits (lookUp (headings purpose) f) fs H h
@@ -98,18 +98,18 @@ module _ (H : Header) (own : ℕ) (fs : List Field) where
   plain-fits : (t : TypeLine) → is ref t ≡ false → AllBelow (H .maps) (maps t) → TypeFits H own t
   plain-fits t e h = record { place = λ r. true-is-not-false (sym r ∙ e); loads = h }
 
-  int-fits : (t : TypeLine) → seen (λ ns. type-line.Int) (numbers ((0 to 0) ∷ (0 to 0) ∷ []) fs) ≡ right t → TypeFits H own t
+  int-fits : (t : TypeLine) → seen (λ ns. type-line.Int) (numbers ((0 to 0) ∷ (0 to 0) ∷ []) fs) ≡ good t → TypeFits H own t
   unfolding is sameKind
   int-fits t h = let (ns, n, e) = seen-right _ h in along (TypeFits H own) e (plain-fits type-line.Int refl tt)
 
-  ref-fits : (t : TypeLine) → seen refOf (numbers (below (H .locations) ∷ below own ∷ []) fs) ≡ right t → TypeFits H own t
+  ref-fits : (t : TypeLine) → seen refOf (numbers (below (H .locations) ∷ below own ∷ []) fs) ≡ good t → TypeFits H own t
   unfolding refOf refLocation content
   ref-fits t h =
       let (ns, n, e) = seen-right _ h in
       let at = in-range-at (below (H .locations) ∷ below own ∷ []) fs ns n in
       along (TypeFits H own) e (record { place = λ r. (in-below _ _ (at 0 (omega arith)), in-below _ _ (at 1 (omega arith))); loads = tt })
 
-  lock-fits : (h : Heading) (t : TypeLine) → seen (lockOf h) (numbers (below (H .maps) ∷ outRange h (H .maps) ∷ []) fs) ≡ right t → TypeFits H own t
+  lock-fits : (h : Heading) (t : TypeLine) → seen (lockOf h) (numbers (below (H .maps) ∷ outRange h (H .maps) ∷ []) fs) ≡ good t → TypeFits H own t
   unfolding lockOf outRange is sameKind
   lock-fits h t r =
       let (ns, n, e) = seen-right _ r in
@@ -122,26 +122,26 @@ module _ (H : Header) (own : ℕ) (fs : List Field) where
       by-heading C2 ns first second = plain-fits _ refl (first, (first, tt))
       by-heading C3 ns first second = plain-fits _ refl (first, (in-below _ _ second, tt))
 
-  tid-fits : (t : TypeLine) → seen tidOf (numbers (below (H .maps) ∷ (0 to 0) ∷ []) fs) ≡ right t → TypeFits H own t
+  tid-fits : (t : TypeLine) → seen tidOf (numbers (below (H .maps) ∷ (0 to 0) ∷ []) fs) ≡ good t → TypeFits H own t
   unfolding tidOf is sameKind
   tid-fits t h =
       let (ns, n, e) = seen-right _ h in
       along (TypeFits H own) e (plain-fits _ refl (in-below _ _ (in-range-at (below (H .maps) ∷ (0 to 0) ∷ []) fs ns n 0 (omega arith)), tt))
 
-  sem-fits : (t : TypeLine) → seen semOf (numbers (below (H .maps) ∷ (0 to 0) ∷ []) fs) ≡ right t → TypeFits H own t
+  sem-fits : (t : TypeLine) → seen semOf (numbers (below (H .maps) ∷ (0 to 0) ∷ []) fs) ≡ good t → TypeFits H own t
   unfolding semOf is sameKind
   sem-fits t h =
       let (ns, n, e) = seen-right _ h in
       along (TypeFits H own) e (plain-fits _ refl (in-below _ _ (in-range-at (below (H .maps) ∷ (0 to 0) ∷ []) fs ns n 0 (omega arith)), tt))
 
-  rwlock-fits : (t : TypeLine) → seen rwlockOf (numbers (below (H .maps) ∷ below (H .maps) ∷ []) fs) ≡ right t → TypeFits H own t
+  rwlock-fits : (t : TypeLine) → seen rwlockOf (numbers (below (H .maps) ∷ below (H .maps) ∷ []) fs) ≡ good t → TypeFits H own t
   unfolding rwlockOf is sameKind
   rwlock-fits t h =
       let (ns, n, e) = seen-right _ h in
       let at = in-range-at (below (H .maps) ∷ below (H .maps) ∷ []) fs ns n in
       along (TypeFits H own) e (plain-fits _ refl (in-below _ _ (at 0 (omega arith)), (in-below _ _ (at 1 (omega arith)), tt)))
 
-type-fits : (H : Header) (own : ℕ) (fs : List Field) (t : TypeLine) → typeLine H own fs ≡ right t → TypeFits H own t
+type-fits : (H : Header) (own : ℕ) (fs : List Field) (t : TypeLine) → typeLine H own fs ≡ good t → TypeFits H own t
 unfolding typeLine
 type-fits H own [] t h = wrong-is-not-right h
 type-fits H own (f ∷ fs) t h =
@@ -159,7 +159,7 @@ ref-place : {H : Header} {own : ℕ} {t : TypeLine} {p : Location} {c : TypeNumb
 unfolding is sameKind refLocation content
 ref-place {H} {own} fits e = along (TypeFits H own) e fits .place refl
 
-types-fit : (H : Header) (own n : ℕ) {ls rest : List Line} {ts : List TypeLine} → Shows (typeLines H own n) ls ts rest
+types-fit : (H : Header) (own n : ℕ) {ls rest : List Line} {ts : List TypeLine} → Parses (typeLines H own n) ls ts rest
     → (length ts ≡ n) × ((t : ℕ) → t < length ts → TypeFits H (own + t) (getD ts t type-line.Int))
 unfolding typeLines
 types-fit H own zero nothing = (refl, λ t h. absurd (omega arith))
@@ -174,11 +174,11 @@ types-fit H own (suc n) (line {a = a} {as′ = ts} h more) =
 
 -- ------------------------------------------------------------------ map lines
 
-map-wide : (H : Header) (fs : List Field) (m : Map) → mapLine H fs ≡ right m → length m ≡ H .locations
+map-wide : (H : Header) (fs : List Field) (m : Map) → mapLine H fs ≡ good m → length m ≡ H .locations
 unfolding mapLine
 map-wide H fs m h = numbers-right _ fs m h .0 ∙ length-replicate (H .locations) (0 to 1000000000)
 
-maps-wide : (H : Header) (n : ℕ) {ls rest : List Line} {ms : List Map} → Shows (replicate n (mapLine H)) ls ms rest
+maps-wide : (H : Header) (n : ℕ) {ls rest : List Line} {ms : List Map} → Parses (replicate n (mapLine H)) ls ms rest
     → (length ms ≡ n) × ((m : ℕ) → m < length ms → length (getD ms m []) ≡ H .locations)
 maps-wide H zero nothing = (refl, λ m h. absurd (omega arith))
 maps-wide H (suc n) (line {a = a} {as′ = ms} h more) =
@@ -195,14 +195,14 @@ maps-wide H (suc n) (line {a = a} {as′ = ms} h more) =
 SignatureFits : Header → Signature → Type 0
 SignatureFits H g = (g .before .0 < H .maps) × (g .argument .0 < H .types) × (g .after .0 < H .maps) × (g .result .0 < H .types)
 
-signature-fits : (H : Header) (fs : List Field) (g : Signature) → signatureLine H fs ≡ right g → SignatureFits H g
+signature-fits : (H : Header) (fs : List Field) (g : Signature) → signatureLine H fs ≡ good g → SignatureFits H g
 unfolding signatureLine signatureOf SignatureFits
 signature-fits H fs g h =
     let (ns, n, e) = seen-right _ h in
     let at = in-range-at (below (H .maps) ∷ below (H .types) ∷ below (H .maps) ∷ below (H .types) ∷ []) fs ns n in
     along (SignatureFits H) e (in-below _ _ (at 0 (omega arith)), in-below _ _ (at 1 (omega arith)), in-below _ _ (at 2 (omega arith)), in-below _ _ (at 3 (omega arith)))
 
-signatures-fit : (H : Header) (n : ℕ) {ls rest : List Line} {gs : List Signature} → Shows (replicate n (signatureLine H)) ls gs rest
+signatures-fit : (H : Header) (n : ℕ) {ls rest : List Line} {gs : List Signature} → Parses (replicate n (signatureLine H)) ls gs rest
     → (length gs ≡ n) × ((f : ℕ) (d : Signature) → f < length gs → SignatureFits H (getD gs f d))
 signatures-fit H zero nothing = (refl, λ f d h. absurd (omega arith))
 signatures-fit H (suc n) (line {a = a} {as′ = gs} h more) =
@@ -241,7 +241,7 @@ post-below Fill H [] n h = in-below _ n h
 post-below Fill H (b ∷ m) n h = absurd (omega (arith, in-below _ n h))
 
 module _ (purpose : Purpose) (H : Header) where
-  row-fits : (s : Step) (fs : List Field) (r : Row) → rowLine purpose H s fs ≡ right r → RowFits H r
+  row-fits : (s : Step) (fs : List Field) (r : Row) → rowLine purpose H s fs ≡ good r → RowFits H r
   unfolding rowLine rowOf startGiven RowFits StartFits
   row-fits s [] r h = wrong-is-not-right h
   row-fits s (t ∷ []) r h = wrong-is-not-right h
@@ -256,7 +256,7 @@ module _ (purpose : Purpose) (H : Header) where
       along (RowFits H) e (in-below _ _ (at 0 (omega arith)), post-below purpose H m _ (at 1 (omega arith)), start-below (s .word) H _ (at 2 (omega arith)))
   row-fits s (t ∷ m ∷ f ∷ g ∷ fs) r h = wrong-is-not-right h
 
-  rows-fit : (steps : List Step) {ls rest : List Line} {rs : List Row} → Shows (map (rowLine purpose H) steps) ls rs rest
+  rows-fit : (steps : List Step) {ls rest : List Line} {rs : List Row} → Parses (map (rowLine purpose H) steps) ls rs rest
       → (length rs ≡ length steps) × ((i : ℕ) (d : Row) → i < length rs → RowFits H (getD rs i d))
   rows-fit [] nothing = (refl, λ i d h. absurd (omega arith))
   rows-fit (s ∷ steps) (line {a = a} {as′ = rs} h more) =

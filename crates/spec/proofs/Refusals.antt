@@ -1,14 +1,14 @@
 -- A refusal has a number of its own, never that of ACCEPT.
 use Prim.Native.Nat.{_≤_}
 use native.Mathlib.Omega.{arith}
-use Rattle.spec.specs.Verdict.{returned, four}
+use Rattle.spec.specs.Verdict.{returned, numbers4}
 use Rattle.spec.specs.declared.Answer.the-variants.{Refuse}
 use Rattle.spec.specs.declared.Refusal.{Refusal}
 use Rattle.spec.specs.declared.Refusal.the-variants.{ShortWorkspace, LongProgram, ProgramForm, ProgramRange, ProgramLines, Unbound, Rebound, LongSplit, SplitForm, SplitRange, SplitLines, NoStart, OverOne, TypeFalse, FlowFalse, AccessFalse, NoAfterMaps, TooLarge, TooManyMaps, LockTakesLess, Freelock, NoProcedure, NoKept}
 
 -- a refusal's number is not 0
 pub refusal-number : (r : Refusal) → 1 ≤ returned (Refuse r) .number
-unfolding returned four
+unfolding returned numbers4
 refusal-number ShortWorkspace = omega arith
 refusal-number LongProgram = omega arith
 refusal-number (ProgramForm k) = omega arith

@@ -9,7 +9,7 @@ use Prim.Native.Nat.{ℕ}
 use lib.Dec.{eqb}
 use borrow.Author.Tests.{ltb-true, lt-ltb}
 use Rattle.spec.specs.Choice.{if_then_else_}
-use Rattle.spec.specs.Reading.{Out, stop, on}
+use Rattle.spec.specs.Reading.{Result, refuse, ok}
 use Rattle.spec.specs.Words.{role, binding}
 use Rattle.spec.specs.Expression.{Expr, leaf, unary, binary, Procedure, among, scopeStep, scope, scopes}
 use Rattle.spec.specs.WellFormed.{binders, allBinders, Distinct, StepInside, UsedInside, AllUsedInside}
@@ -67,11 +67,11 @@ none-among-nothing (v ∷ vs) = (refl, none-among-nothing vs)
 
 -- ------------------------------------------------------------------ the walk
 
-used-goes-on : {A : Type 0} {a : A} (b : Bool) (o : Out A) (r : Refusal) → (if b then o else stop r) ≡ on a → (b ≡ true) × (o ≡ on a)
+used-goes-on : {A : Type 0} {a : A} (b : Bool) (o : Result A) (r : Refusal) → (if b then o else refuse r) ≡ ok a → (b ≡ true) × (o ≡ ok a)
 used-goes-on true o r h = (refl, h)
 used-goes-on false o r h = stop-is-not-on h
 
-bound-goes-on : {A : Type 0} {a : A} (b : Bool) (o : Out A) (r : Refusal) → (if b then stop r else o) ≡ on a → (b ≡ false) × (o ≡ on a)
+bound-goes-on : {A : Type 0} {a : A} (b : Bool) (o : Result A) (r : Refusal) → (if b then refuse r else o) ≡ ok a → (b ≡ false) × (o ≡ ok a)
 bound-goes-on true o r h = stop-is-not-on h
 bound-goes-on false o r h = (refl, h)
 
@@ -85,7 +85,7 @@ binding-append Neither v xs ys = refl
 -- of a sheet with `count` procedures
 module _ (count : ℕ) where
   -- when the walk over a step goes on, and when that over an expression does: what is bound behind it, vs, is new after all that it binds
-  step-walk : (r : Role) (k v : ℕ) (inside bound b : List ℕ) → scopeStep count r k v inside bound ≡ on b
+  step-walk : (r : Role) (k v : ℕ) (inside bound b : List ℕ) → scopeStep count r k v inside bound ≡ ok b
       → StepInside count inside r v × ((vs : List ℕ) → EachNew vs b → EachNew (binding r v vs) bound)
   unfolding scopeStep StepInside binding EachNew
   step-walk Binds k v inside bound b h =
@@ -99,7 +99,7 @@ module _ (count : ℕ) where
       (ltb-true f count there, λ vs news. subst (EachNew vs) (sym (on-injective same)) news)
   step-walk Neither k v inside bound b h = (tt, λ vs news. subst (EachNew vs) (sym (on-injective h)) news)
 
-  walk : (e : Expr) (inside bound b : List ℕ) → scope count e inside bound ≡ on b
+  walk : (e : Expr) (inside bound b : List ℕ) → scope count e inside bound ≡ ok b
       → UsedInside count inside e × ((vs : List ℕ) → EachNew vs b → EachNew (binders e ++ vs) bound)
   unfolding scope binders UsedInside
   walk (leaf w k v) inside bound b h =
@@ -123,7 +123,7 @@ module _ (count : ℕ) where
 
   -- and back
   step-walked : (r : Role) (k v : ℕ) (inside bound vs : List ℕ) → StepInside count inside r v → EachNew (binding r v vs) bound
-      → (b : List ℕ) × (scopeStep count r k v inside bound ≡ on b) × EachNew vs b
+      → (b : List ℕ) × (scopeStep count r k v inside bound ≡ ok b) × EachNew vs b
   unfolding scopeStep StepInside binding EachNew
   step-walked Binds k v inside bound vs used new = (v ∷ bound, rw (new .0), new .1)
   step-walked Uses k v inside bound vs used new = (bound, rw used, new)
@@ -131,7 +131,7 @@ module _ (count : ℕ) where
   step-walked Neither k v inside bound vs used new = (bound, refl, new)
 
   walked : (e : Expr) (inside bound vs : List ℕ) → UsedInside count inside e → EachNew (binders e ++ vs) bound
-      → (b : List ℕ) × (scope count e inside bound ≡ on b) × EachNew vs b
+      → (b : List ℕ) × (scope count e inside bound ≡ ok b) × EachNew vs b
   unfolding scope binders UsedInside
   walked (leaf w k v) inside bound vs used new =
       step-walked _ (k .line) v inside bound vs used (rw (binding-append (role (Leaf w)) v [] vs) at new)
@@ -148,7 +148,7 @@ module _ (count : ℕ) where
 
   -- ---------------------------------------------------------------- procedures and the root
 
-  walk-all : (ps : List Procedure) (root : Expr) (bound b : List ℕ) → scopes count ps root bound ≡ on b
+  walk-all : (ps : List Procedure) (root : Expr) (bound b : List ℕ) → scopes count ps root bound ≡ ok b
       → AllUsedInside count ps root × ((vs : List ℕ) → EachNew vs b → EachNew (allBinders ps root ++ vs) bound)
   unfolding scopes allBinders AllUsedInside StepInside binding
   walk-all [] root bound b h = walk root [] bound b h
@@ -163,7 +163,7 @@ module _ (count : ℕ) where
       )
 
   walked-all : (ps : List Procedure) (root : Expr) (bound vs : List ℕ) → AllUsedInside count ps root → EachNew (allBinders ps root ++ vs) bound
-      → (b : List ℕ) × (scopes count ps root bound ≡ on b) × EachNew vs b
+      → (b : List ℕ) × (scopes count ps root bound ≡ ok b) × EachNew vs b
   unfolding scopes allBinders AllUsedInside StepInside binding
   walked-all [] root bound vs used new = walked root [] bound vs used new
   walked-all (p ∷ ps) root bound vs used new =
@@ -173,7 +173,7 @@ module _ (count : ℕ) where
       let (b, h₃, news) = walked-all ps root d vs (used .1) new₂ in
       (b, goes-on-bind _ _ h₁ (goes-on-bind _ _ h₂ h₃), news)
 
-  pub scoped-once-inside : {b : List ℕ} (ps : List Procedure) (root : Expr) → scopes count ps root [] ≡ on b
+  pub scoped-once-inside : {b : List ℕ} (ps : List Procedure) (root : Expr) → scopes count ps root [] ≡ ok b
       → Distinct (allBinders ps root) × AllUsedInside count ps root
   unfolding EachNew
   scoped-once-inside {b} ps root h =
@@ -181,7 +181,7 @@ module _ (count : ℕ) where
       (new-distinct (allBinders ps root) [] .0 (subst (λ vs. EachNew vs []) (append-nil (allBinders ps root)) (new [] tt)) .0, used)
 
   pub once-inside-scoped : (ps : List Procedure) (root : Expr) → Distinct (allBinders ps root) → AllUsedInside count ps root
-      → (b : List ℕ) × (scopes count ps root [] ≡ on b)
+      → (b : List ℕ) × (scopes count ps root [] ≡ ok b)
   once-inside-scoped ps root once used =
       let new = new-distinct (allBinders ps root) [] .1 (once, none-among-nothing (allBinders ps root)) in
       let (b, scoped, _) = walked-all ps root [] [] used (subst (λ vs. EachNew vs []) (sym (append-nil (allBinders ps root))) new) in

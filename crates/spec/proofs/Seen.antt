@@ -11,7 +11,7 @@ use lib.ListN.{length, getD}
 use borrow.Author.Tests.{eqb-true, leb-true, ltb-true, le-leb, lt-leb, lt-ltb}
 use Rattle.spec.specs.Choice.{if_then_else_}
 use Rattle.spec.specs.Text.{Field, numeral}
-use Rattle.spec.specs.Reading.{Fault, badForm, badRange, Seen, right, wrong, seen, insist, Range, _to_, below, inRange, allInRange, withNumeral, numerals, ranged, numbers}
+use Rattle.spec.specs.Reading.{Fault, badForm, badRange, LineResult, good, bad, seen, ensure, Range, _to_, below, inRange, allInRange, withNumeral, numerals, ranged, numbers}
 use Rattle.spec.specs.Split.{headerRanges}
 use Rattle.spec.specs.declared.Heading.the-variants.{C, C2}
 use Rattle.spec.proofs.Clashes.{none-is-not-some}
@@ -19,59 +19,59 @@ use Rattle.spec.proofs.Tests.{both-true}
 
 -- ------------------------------------------------------------------ lines that show something
 
-pub wrong-is-not-right : {A B : Type 0} {w : Fault} {a : A} → wrong w ≡ right a → B
+pub wrong-is-not-right : {A B : Type 0} {w : Fault} {a : A} → bad w ≡ good a → B
 wrong-is-not-right h = let z : _≡_ {A = ℕ} 0 1 = cc in absurd (omega arith)
 
-right-inj : {A : Type 0} {a b : A} → right a ≡ right b → a ≡ b
+right-inj : {A : Type 0} {a b : A} → good a ≡ good b → a ≡ b
 right-inj h = cc
 
-pub seen-right : {A B : Type 0} {f : A → B} {b : B} (x : Seen A) → seen f x ≡ right b → (a : A) × (x ≡ right a) × (f a ≡ b)
+pub seen-right : {A B : Type 0} {f : A → B} {b : B} (x : LineResult A) → seen f x ≡ good b → (a : A) × (x ≡ good a) × (f a ≡ b)
 unfolding seen
-seen-right (right a) h = (a, refl, right-inj h)
-seen-right (wrong w) h = wrong-is-not-right h
+seen-right (good a) h = (a, refl, right-inj h)
+seen-right (bad w) h = wrong-is-not-right h
 
-pub insist-right : {A : Type 0} {a : A} (b : Bool) (w : Fault) (x : Seen A) → insist b w x ≡ right a → (b ≡ true) × (x ≡ right a)
-unfolding insist
-insist-right b w (wrong v) h = wrong-is-not-right h
-insist-right true w (right a) h = (refl, h)
-insist-right false w (right a) h = wrong-is-not-right h
+pub insist-right : {A : Type 0} {a : A} (b : Bool) (w : Fault) (x : LineResult A) → ensure b w x ≡ good a → (b ≡ true) × (x ≡ good a)
+unfolding ensure
+insist-right b w (bad v) h = wrong-is-not-right h
+insist-right true w (good a) h = (refl, h)
+insist-right false w (good a) h = wrong-is-not-right h
 
 -- what holds of what either of two ways shows
-pub either-right : {A : Type 0} (Q : A → Type 0) (b : Bool) (x y : Seen A) → ((a : A) → x ≡ right a → Q a) → ((a : A) → y ≡ right a → Q a)
-    → (a : A) → (if b then x else y) ≡ right a → Q a
+pub either-right : {A : Type 0} (Q : A → Type 0) (b : Bool) (x y : LineResult A) → ((a : A) → x ≡ good a → Q a) → ((a : A) → y ≡ good a → Q a)
+    → (a : A) → (if b then x else y) ≡ good a → Q a
 either-right Q true x y f g a h = f a h
 either-right Q false x y f g a h = g a h
 
-within-right : {ns ms : List ℕ} (b : Bool) → (if b then right ns else wrong badRange) ≡ right ms → (b ≡ true) × (ns ≡ ms)
+within-right : {ns ms : List ℕ} (b : Bool) → (if b then good ns else bad badRange) ≡ good ms → (b ≡ true) × (ns ≡ ms)
 within-right true h = (refl, right-inj h)
 within-right false h = wrong-is-not-right h
 
-pub ranged-right : (rs : List Range) (o : Option (List ℕ)) (ns : List ℕ) → ranged rs o ≡ right ns → (length ns ≡ length rs) × (allInRange rs ns ≡ true)
+pub ranged-right : (rs : List Range) (o : Option (List ℕ)) (ns : List ℕ) → ranged rs o ≡ good ns → (length ns ≡ length rs) × (allInRange rs ns ≡ true)
 unfolding ranged
 ranged-right rs none ns h = wrong-is-not-right h
 ranged-right rs (some ms) ns h = counted (eqb (length ms) (length rs)) refl h
   where
-    counted : (b : Bool) → eqb (length ms) (length rs) ≡ b → (if b then (if allInRange rs ms then right ms else wrong badRange) else wrong badForm) ≡ right ns
+    counted : (b : Bool) → eqb (length ms) (length rs) ≡ b → (if b then (if allInRange rs ms then good ms else bad badRange) else bad badForm) ≡ good ns
         → (length ns ≡ length rs) × (allInRange rs ns ≡ true)
     counted true e h =
         let (t, q) = within-right (allInRange rs ms) h in
         (sym (ap length q) ∙ eqb-true _ _ e, sym (ap (allInRange rs) q) ∙ t)
     counted false e h = wrong-is-not-right h
 
-pub numbers-right : (rs : List Range) (fs : List Field) (ns : List ℕ) → numbers rs fs ≡ right ns → (length ns ≡ length rs) × (allInRange rs ns ≡ true)
+pub numbers-right : (rs : List Range) (fs : List Field) (ns : List ℕ) → numbers rs fs ≡ good ns → (length ns ≡ length rs) × (allInRange rs ns ≡ true)
 unfolding numbers
 numbers-right rs fs ns h = ranged-right rs (numerals fs) ns h
 
 -- and they are the numerals of the fields
-pub numbers-spelled : (rs : List Range) (fs : List Field) (ns : List ℕ) → numbers rs fs ≡ right ns → numerals fs ≡ some ns
+pub numbers-spelled : (rs : List Range) (fs : List Field) (ns : List ℕ) → numbers rs fs ≡ good ns → numerals fs ≡ some ns
 unfolding numbers ranged
 numbers-spelled rs fs ns h = spelled (numerals fs) h
   where
-    counted : (b : Bool) (ms : List ℕ) → (if b then (if allInRange rs ms then right ms else wrong badRange) else wrong badForm) ≡ right ns → ms ≡ ns
+    counted : (b : Bool) (ms : List ℕ) → (if b then (if allInRange rs ms then good ms else bad badRange) else bad badForm) ≡ good ns → ms ≡ ns
     counted true ms h = within-right (allInRange rs ms) h .1
     counted false ms h = wrong-is-not-right h
 
-    spelled : (o : Option (List ℕ)) → ranged rs o ≡ right ns → o ≡ some ns
+    spelled : (o : Option (List ℕ)) → ranged rs o ≡ good ns → o ≡ some ns
     spelled none h = wrong-is-not-right h
     spelled (some ms) h = ap some (counted (eqb (length ms) (length rs)) ms h)
 
@@ -122,7 +122,7 @@ all-at (r ∷ rs) (n ∷ ns) l t zero h = both-true (inRange r n) (allInRange rs
 all-at (r ∷ rs) (n ∷ ns) l t (suc i) h = all-at rs ns (omega (arith, l)) (both-true (inRange r n) (allInRange rs ns) t .1) i (omega arith)
 
 -- each of the numbers on a line is in its range
-pub in-range-at : (rs : List Range) (fs : List Field) (ns : List ℕ) → numbers rs fs ≡ right ns
+pub in-range-at : (rs : List Range) (fs : List Field) (ns : List ℕ) → numbers rs fs ≡ good ns
     → (i : ℕ) → i < length rs → inRange (getD rs i (0 to 0)) (getD ns i 0) ≡ true
 in-range-at rs fs ns h = let (l, t) = numbers-right rs fs ns h in all-at rs ns l t
 

@@ -7,13 +7,13 @@ use Prim.Native.Nat.{ℕ, zero, suc, _<_}
 use native.Mathlib.Omega.{arith}
 use lib.ListN.{length, getD}
 use Rattle.spec.specs.Text.{Line, Field}
-use Rattle.spec.specs.Reading.{right}
+use Rattle.spec.specs.Reading.{good}
 use Rattle.spec.specs.Words.{takesStart, keepsBack}
 use Rattle.spec.specs.Expression.{Step}
 use Rattle.spec.specs.Program.{Program}
 use Rattle.spec.specs.Split.{Row, rowOf, startGiven, mayBeEmpty, emptyFault, rowLine, Split}
 use Rattle.spec.specs.declared.Header.{Header}
-use Rattle.spec.specs.WellFormed.{Shows, nothing, line, WellFormedSplit}
+use Rattle.spec.specs.WellFormed.{Parses, nothing, line, WellFormedSplit}
 use Rattle.spec.specs.declared.Purpose.{Purpose}
 use Rattle.spec.specs.declared.Heading.{Heading}
 use Rattle.spec.specs.declared.Heading.the-variants.{C, C2, C3}
@@ -40,7 +40,7 @@ abbrev pub Started : Row → Type 0
 Started r = (m : MapNumber) × (r .start ≡ some m)
 
 module _ (purpose : Purpose) (H : Header) where
-  row-started : (s : Step) (fs : List Field) (r : Row) → mayBeEmpty (H .heading) (s .word) ≡ false → rowLine purpose H s fs ≡ right r → Started r
+  row-started : (s : Step) (fs : List Field) (r : Row) → mayBeEmpty (H .heading) (s .word) ≡ false → rowLine purpose H s fs ≡ good r → Started r
   unfolding rowLine rowOf
   row-started s [] r barred h = wrong-is-not-right h
   row-started s (t ∷ []) r barred h = wrong-is-not-right h
@@ -53,7 +53,7 @@ module _ (purpose : Purpose) (H : Header) where
       (startGiven ns, sym (ap (λ (q : Row). q .start) e))
   row-started s (t ∷ m ∷ f ∷ g ∷ fs) r barred h = wrong-is-not-right h
 
-  rows-started : (steps : List Step) {ls rest : List Line} {rs : List Row} → Shows (map (rowLine purpose H) steps) ls rs rest
+  rows-started : (steps : List Step) {ls rest : List Line} {rs : List Row} → Parses (map (rowLine purpose H) steps) ls rs rest
       → (i : ℕ) (s : Step) (r : Row) → i < length steps → mayBeEmpty (H .heading) (getD steps i s .word) ≡ false → Started (getD rs i r)
   rows-started [] nothing i s r h barred = absurd (omega arith)
   rows-started (x ∷ steps) (line shown more) zero s r h barred = row-started x _ _ barred shown

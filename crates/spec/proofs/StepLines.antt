@@ -8,11 +8,11 @@ use native.Mathlib.Omega.{arith}
 use lib.ListN.{length}
 use Rattle.spec.specs.Choice.{if_then_else_}
 use Rattle.spec.specs.Text.{bytes, same, Line, Field, lookUp}
-use Rattle.spec.specs.Reading.{Fault, freelock, Seen, right, wrong, wrongAfter, _to_, numbers}
+use Rattle.spec.specs.Reading.{Fault, freelock, LineResult, good, bad, refuseAfter, _to_, numbers}
 use Rattle.spec.specs.Words.{wordsUnder}
 use Rattle.spec.specs.Expression.{Item, lineOfItem}
 use Rattle.spec.specs.Program.{stepOf, wordLine, procOf, procLine, itemLine, itemLines}
-use Rattle.spec.specs.WellFormed.{Shows, nothing, line}
+use Rattle.spec.specs.WellFormed.{Parses, nothing, line}
 use Rattle.spec.specs.declared.ProgramHeading.{ProgramHeading}
 use Rattle.spec.specs.declared.ProgramHeading.the-variants.{P, P2}
 use Rattle.spec.specs.declared.Word.{Word}
@@ -25,32 +25,32 @@ item-lines-counted h k (suc n) = ap suc (item-lines-counted h (k + 1) n)
 
 -- ------------------------------------------------------------------ the line of a step, and of a procedure
 
-after-wrong : {A B C : Type 0} {b : B} (w : Fault) (x : Seen A) → wrongAfter w x ≡ right b → C
-unfolding wrongAfter
-after-wrong w (right a) h = wrong-is-not-right h
-after-wrong w (wrong v) h = wrong-is-not-right h
+after-wrong : {A B C : Type 0} {b : B} (w : Fault) (x : LineResult A) → refuseAfter w x ≡ good b → C
+unfolding refuseAfter
+after-wrong w (good a) h = wrong-is-not-right h
+after-wrong w (bad v) h = wrong-is-not-right h
 
-word-line : (k : ℕ) (o : Option Word) (fs : List Field) (s : Item) → wordLine k o fs ≡ right s → lineOfItem s ≡ k
+word-line : (k : ℕ) (o : Option Word) (fs : List Field) (s : Item) → wordLine k o fs ≡ good s → lineOfItem s ≡ k
 unfolding wordLine stepOf lineOfItem
 word-line k none fs s h = wrong-is-not-right h
 word-line k (some w) fs s h =
     let (ns, _, is) = seen-right _ h in
     sym (ap lineOfItem is)
 
-proc-line : (h : ProgramHeading) (k : ℕ) (fs : List Field) (s : Item) → procLine h k fs ≡ right s → lineOfItem s ≡ k
+proc-line : (h : ProgramHeading) (k : ℕ) (fs : List Field) (s : Item) → procLine h k fs ≡ good s → lineOfItem s ≡ k
 unfolding procLine procOf lineOfItem
 proc-line P k fs s h = wrong-is-not-right h
 proc-line P2 k fs s h =
     let (ns, _, is) = seen-right _ h in
     sym (ap lineOfItem is)
 
-pub item-line : (h : ProgramHeading) (k : ℕ) (fs : List Field) (s : Item) → itemLine h k fs ≡ right s → lineOfItem s ≡ k
+pub item-line : (h : ProgramHeading) (k : ℕ) (fs : List Field) (s : Item) → itemLine h k fs ≡ good s → lineOfItem s ≡ k
 unfolding itemLine
 item-line g k [] s h = wrong-is-not-right h
 item-line g k (f ∷ fs) s h = by-word (same f (bytes "freelock")) (same f (bytes "proc")) h
   where
     by-word : (b c : Bool)
-        → (if b then wrongAfter freelock (numbers ((0 to 0) ∷ []) fs) else if c then procLine g k fs else wordLine k (lookUp (wordsUnder g) f) fs) ≡ right s
+        → (if b then refuseAfter freelock (numbers ((0 to 0) ∷ []) fs) else if c then procLine g k fs else wordLine k (lookUp (wordsUnder g) f) fs) ≡ good s
         → lineOfItem s ≡ k
     by-word true c h = after-wrong freelock (numbers ((0 to 0) ∷ []) fs) h
     by-word false true h = proc-line g k fs s h
@@ -63,7 +63,7 @@ unfoldable pub Rising : (lo : ℕ) → List ℕ → Type 0
 Rising lo [] = Unit {0}
 Rising lo (k ∷ ks) = (lo ≤ k) × Rising (k + 1) ks
 
-pub items-rise : {ls rest : List Line} {items : List Item} (h : ProgramHeading) (k n : ℕ) → Shows (itemLines h k n) ls items rest
+pub items-rise : {ls rest : List Line} {items : List Item} (h : ProgramHeading) (k n : ℕ) → Parses (itemLines h k n) ls items rest
     → Rising k (map lineOfItem items)
 unfolding itemLines Rising
 items-rise g k zero nothing = tt

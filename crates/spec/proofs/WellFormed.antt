@@ -5,11 +5,11 @@ use Prim.Native.Nat.{ℕ, _+_, _≤_}
 use native.Mathlib.Omega.{arith}
 use lib.ListN.{length}
 use Rattle.spec.specs.Text.{lines}
-use Rattle.spec.specs.Reading.{on, programSheet, splitSheet, right, Place, begin, noneLeft, end}
+use Rattle.spec.specs.Reading.{ok, programSheet, splitSheet, good, Place, begin, noneLeft, end}
 use Rattle.spec.specs.Expression.{Expr, Item, stepsAmong, Procedure}
 use Rattle.spec.specs.Program.{Counts, Program, program, programLimit, countLine, itemLines}
 use Rattle.spec.specs.Split.{Split, split, splitLimit, headerLine, rowLine}
-use Rattle.spec.specs.WellFormed.{Shows, firstItemLine, WellFormedProgram, WellFormedSplit}
+use Rattle.spec.specs.WellFormed.{Parses, firstItemLine, WellFormedProgram, WellFormedSplit}
 use Rattle.spec.specs.declared.Purpose.{Purpose}
 use Rattle.spec.proofs.Outcomes.{on-injective, bind-through, goes-on-bind}
 use Rattle.spec.proofs.Reading.{next-begins, all-shown, begun, ended, shown-length, read-next, read-all}
@@ -26,7 +26,7 @@ counts-listed N {items} {ps} {root} all l =
     let steps : N .steps ≡ length (stepsAmong items) = rw (l .all) (omega (arith, all, ap length (l .all), listing-length ps root, l .counted)) in
     λ i. record { heading = N .heading; steps = steps i; procedures = sym (l .counted) i }
 
-pub program-well-formed : {P : Program} (text : List ℕ) → length text ≤ programLimit → program text ≡ on P → WellFormedProgram text P
+pub program-well-formed : {P : Program} (text : List ℕ) → length text ≤ programLimit → program text ≡ ok P → WellFormedProgram text P
 unfolding program firstItemLine
 program-well-formed text fits h =
     bind-through _ _ h λ top h₁ r₁.
@@ -48,7 +48,7 @@ program-well-formed text fits h =
       others = first .rest;
       lined = ap (λ (p : Place). p .rest) (begun programSheet (lines text) h₁) ∙ b .lined;
       heading = N .heading;
-      counted = b .shown ∙ ap right counts;
+      counted = b .shown ∙ ap good counts;
       listed = rw (← from, ← steps, l .counted, ← ended programSheet last h₄, ← l .all) s;
       stepped = ap stepsAmong (l .all);
       numbering = l .numbering;
@@ -56,7 +56,7 @@ program-well-formed text fits h =
       usedInside = rw (l .counted) inside;
     })
 
-pub well-formed-program : {P : Program} (text : List ℕ) → WellFormedProgram text P → program text ≡ on P
+pub well-formed-program : {P : Program} (text : List ℕ) → WellFormedProgram text P → program text ≡ ok P
 unfolding program begin end noneLeft firstItemLine
 well-formed-program {P} text w =
     let (last, items) = read-all programSheet (w .listed) 1 in
@@ -66,12 +66,12 @@ well-formed-program {P} text w =
     (goes-on-bind _ _ items
     (goes-on-bind _ _ refl
     (goes-on-bind _ _ (listing-structured last 0 (P .procedures) (P .root) (w .numbering))
-    (goes-on-bind _ _ scoped (λ i. on (record { steps = sym (w .stepped) i; procedures = P .procedures; root = P .root })))))))
+    (goes-on-bind _ _ scoped (λ i. ok (record { steps = sym (w .stepped) i; procedures = P .procedures; root = P .root })))))))
 
 -- ------------------------------------------------------------------ the split sheet
 
 pub split-well-formed : {S : Split} (purpose : Purpose) (P : Program) (text : List ℕ) → length text ≤ splitLimit
-    → split purpose P text ≡ on S → WellFormedSplit purpose P text S
+    → split purpose P text ≡ ok S → WellFormedSplit purpose P text S
 unfolding split
 split-well-formed purpose P text fits h =
     bind-through _ _ h λ top h₁ r₁.
@@ -94,12 +94,12 @@ split-well-formed purpose P text fits h =
       typed = all-shown splitSheet _ (Hp .1) h₃;
       mapped = all-shown splitSheet _ (tp .1) h₄;
       signed = all-shown splitSheet _ (mp .1) h₅;
-      rowed = subst (λ rest. Shows (map (rowLine purpose (Hp .0)) (P .steps)) (gp .1 .rest) (rp .0) rest) (ended splitSheet (rp .1) h₇)
+      rowed = subst (λ rest. Parses (map (rowLine purpose (Hp .0)) (P .steps)) (gp .1 .rest) (rp .0) rest) (ended splitSheet (rp .1) h₇)
           (all-shown splitSheet _ (gp .1) h₆);
     })
 
 pub well-formed-split : {S : Split} (purpose : Purpose) (P : Program) (text : List ℕ) → WellFormedSplit purpose P text S
-    → split purpose P text ≡ on S
+    → split purpose P text ≡ ok S
 unfolding split begin end noneLeft
 well-formed-split {S} purpose P text w =
     let (l₁, types) = read-all splitSheet (w .typed) 1 in

@@ -5,7 +5,7 @@ use Prim.Native.Nat.{ℕ, zero, suc, _+_}
 use lib.Dec.{eqb, ltb}
 use lib.ListN.{drop}
 use Rattle.spec.specs.Choice.{if_then_else_}
-use Rattle.spec.specs.Reading.{Out, stop, on, _>>=_}
+use Rattle.spec.specs.Reading.{Result, refuse, ok, _>>=_}
 use Rattle.spec.specs.Words.{role, binding}
 use Rattle.spec.specs.declared.Role.{Role}
 use Rattle.spec.specs.declared.Role.the-variants.{Binds, Uses, Calls, Neither}
@@ -97,18 +97,18 @@ breaksOff last (proc x line ∷ is) = line
 
 -- the first of the expressions listed, and the lines behind it; "an expression unfinished or not begun at the last line is 13 there",
 -- and a `proc` line where a step is due is 13 at that line
-unfoldable pub firstListed : (last : ℕ) → List Item → List Expr → Out (Expr × List Item)
-firstListed last items [] = stop (ProgramLines (breaksOff last items))
-firstListed last items (e ∷ es) = on (e, drop (size e) items)
+unfoldable pub firstListed : (last : ℕ) → List Item → List Expr → Result (Expr × List Item)
+firstListed last items [] = refuse (ProgramLines (breaksOff last items))
+firstListed last items (e ∷ es) = ok (e, drop (size e) items)
 
 -- the expression that is due
-unfoldable pub expression : (last i : ℕ) → List Item → Out (Expr × List Item)
+unfoldable pub expression : (last i : ℕ) → List Item → Result (Expr × List Item)
 expression last i items = firstListed last items (listed i (leading items))
 
 -- 13 for an expression "finished earlier (the first line past it)"
-unfoldable pub noLineLeft : List Item → Out (Unit {0})
-noLineLeft [] = on tt
-noLineLeft (x ∷ items) = stop (ProgramLines (lineOfItem x))
+unfoldable pub noLineLeft : List Item → Result (Unit {0})
+noLineLeft [] = ok tt
+noLineLeft (x ∷ items) = refuse (ProgramLines (lineOfItem x))
 
 -- a procedure: its line, the variable that stands for the argument, its body
 pub record Procedure : Type 0 where
@@ -118,17 +118,17 @@ pub record Procedure : Type 0 where
 
 -- "k lines `proc,x`, each followed by its body, then the root expression"; "A step where a `proc` line is due, or the reverse, is 13 at
 -- that line". Steps are counted from index i on, over all bodies and the root.
-unfoldable pub structure : (last k i : ℕ) → List Item → Out (List Procedure × Expr)
+unfoldable pub structure : (last k i : ℕ) → List Item → Result (List Procedure × Expr)
 structure last zero i items = do
   (root, rest) ← expression last i items
   done ← noLineLeft rest
-  on ([], root)
-structure last (suc k) i [] = stop (ProgramLines last)
-structure last (suc k) i (step s ∷ items) = stop (ProgramLines (s .line))
+  ok ([], root)
+structure last (suc k) i [] = refuse (ProgramLines last)
+structure last (suc k) i (step s ∷ items) = refuse (ProgramLines (s .line))
 structure last (suc k) i (proc x line ∷ items) = do
   (body, rest) ← expression last i items
   (others, root) ← structure last k (i + size body) rest
-  on (record { line = line; parameter = x; body = body } ∷ others, root)
+  ok (record { line = line; parameter = x; body = body } ∷ others, root)
 
 -- ------------------------------------------------------------------ scopes
 
@@ -140,15 +140,15 @@ among v (x ∷ xs) = eqb v x || among v xs
 module _ (count : ℕ) where
   -- 14 and 15 of a step, by its role; "49 for a call to a procedure that isn't there, in the place of 14". What comes out is the
   -- variables bound by then
-  unfoldable pub scopeStep : Role → (line v : ℕ) → (inside bound : List ℕ) → Out (List ℕ)
-  scopeStep Binds k v inside bound = if among v bound then stop (Rebound k) else on (v ∷ bound)
-  scopeStep Uses k v inside bound = if among v inside then on bound else stop (Unbound k)
-  scopeStep Calls k f inside bound = if ltb f count then on bound else stop (NoProcedure k)
-  scopeStep Neither k v inside bound = on bound
+  unfoldable pub scopeStep : Role → (line v : ℕ) → (inside bound : List ℕ) → Result (List ℕ)
+  scopeStep Binds k v inside bound = if among v bound then refuse (Rebound k) else ok (v ∷ bound)
+  scopeStep Uses k v inside bound = if among v inside then ok bound else refuse (Unbound k)
+  scopeStep Calls k f inside bound = if ltb f count then ok bound else refuse (NoProcedure k)
+  scopeStep Neither k v inside bound = ok bound
 
   -- 14, 15 and 49 in line order. `inside`: the variables whose let's e2, or whose procedure's body, this is in. `bound`: those that a
   -- let or a `proc` line binds in front of it; what comes out is those that are bound by the end of this expression.
-  unfoldable pub scope : Expr → (inside bound : List ℕ) → Out (List ℕ)
+  unfoldable pub scope : Expr → (inside bound : List ℕ) → Result (List ℕ)
   scope (leaf w k v) inside bound = scopeStep (role (Leaf w)) (k .line) v inside bound
   scope (unary w k v e) inside bound = do
     b ← scopeStep (role (Unary w)) (k .line) v inside bound
@@ -159,7 +159,7 @@ module _ (count : ℕ) where
     scope e₂ (binding (role (Binary w)) v inside) b₁
 
   -- "`proc` lines, which may bind no variable bound elsewhere (15 at the later line)"; "A body uses only x and its own lets"
-  unfoldable pub scopes : List Procedure → (root : Expr) → (bound : List ℕ) → Out (List ℕ)
+  unfoldable pub scopes : List Procedure → (root : Expr) → (bound : List ℕ) → Result (List ℕ)
   scopes [] root bound = scope root [] bound
   scopes (p ∷ ps) root bound = do
     b ← scopeStep Binds (p .line) (p .parameter) [] bound

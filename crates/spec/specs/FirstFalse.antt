@@ -7,7 +7,7 @@ use Prim.Native.Nat.{ℕ, _<_}
 use Rattle.spec.specs.Program.{Program}
 use Rattle.spec.specs.Split.{Split}
 use Rattle.spec.specs.Conditions.{Condition, T, F, A}
-use Rattle.spec.specs.Sites.{NumberedCondition, claimsOf}
+use Rattle.spec.specs.StepContexts.{NumberedCondition, claimsOf}
 use Rattle.spec.specs.Accepted.{Judgeable}
 use Rattle.spec.specs.declared.Location.{Location}
 use Rattle.spec.specs.declared.Refusal.{Refusal}

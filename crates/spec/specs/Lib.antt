@@ -11,7 +11,7 @@ pub mod Kinds
 pub mod Agreement
 pub mod Table
 pub mod Conditions
-pub mod Sites
+pub mod StepContexts
 pub mod Workspace
 pub mod Verdict
 pub mod WellFormed

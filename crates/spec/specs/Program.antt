@@ -5,7 +5,7 @@ use Prim.Native.Nat.{ℕ, zero, suc, _+_}
 use lib.ListN.{getD}
 use Rattle.spec.specs.Choice.{if_then_else_}
 use Rattle.spec.specs.Text.{bytes, same, lines, Field, lookUp}
-use Rattle.spec.specs.Reading.{programSheet, Out, _>>=_, on, Seen, wrong, badForm, freelock, seen, wrongAfter, _to_, Range, numbers, readLine, readLines, begin, end}
+use Rattle.spec.specs.Reading.{programSheet, Result, _>>=_, ok, LineResult, bad, badForm, freelock, seen, refuseAfter, _to_, Range, numbers, readLine, readLines, begin, end}
 use Rattle.spec.specs.Words.{wordsUnder, valueRange}
 use Rattle.spec.specs.Expression.{Step, Expr, Item, step, proc, stepsAmong, Procedure, structure, scopes}
 use Rattle.spec.specs.declared.ProgramHeading.{ProgramHeading}
@@ -41,40 +41,40 @@ proceduresOf P2 ns = getD ns 1 0
 unfoldable pub countsOf : ProgramHeading → List ℕ → Counts
 countsOf h ns = record { heading = h; steps = firstNumber ns; procedures = proceduresOf h ns }
 
-unfoldable pub counted : Option ProgramHeading → List Field → Seen Counts
-counted none fs = wrong badForm
+unfoldable pub counted : Option ProgramHeading → List Field → LineResult Counts
+counted none fs = bad badForm
 counted (some h) fs = seen (countsOf h) (numbers (countRanges h) fs)
 
-unfoldable pub countLine : List Field → Seen Counts
-countLine [] = wrong badForm
+unfoldable pub countLine : List Field → LineResult Counts
+countLine [] = bad badForm
 countLine (f ∷ fs) = counted (lookUp programHeadings f) fs
 
 -- `word,v`
 unfoldable pub stepOf : (line : ℕ) → Word → List ℕ → Item
 stepOf k w ns = step (record { word = w; value = firstNumber ns; line = k })
 
-unfoldable pub wordLine : (line : ℕ) → Option Word → List Field → Seen Item
-wordLine k none fs = wrong badForm
+unfoldable pub wordLine : (line : ℕ) → Option Word → List Field → LineResult Item
+wordLine k none fs = bad badForm
 wordLine k (some w) fs = seen (stepOf k w) (numbers (valueRange w ∷ []) fs)
 
 -- `proc,x`; "In a `P` sheet both new words are 11"
 unfoldable pub procOf : (line : ℕ) → List ℕ → Item
 procOf k ns = proc (firstNumber ns) k
 
-unfoldable pub procLine : ProgramHeading → (line : ℕ) → List Field → Seen Item
-procLine P k fs = wrong badForm
+unfoldable pub procLine : ProgramHeading → (line : ℕ) → List Field → LineResult Item
+procLine P k fs = bad badForm
 procLine P2 k fs = seen (procOf k) (numbers ((0 to 255) ∷ []) fs)
 
 -- "45 for the word `freelock`, after 12 on its line"; its v is 0
-unfoldable pub itemLine : ProgramHeading → (line : ℕ) → List Field → Seen Item
-itemLine h k [] = wrong badForm
+unfoldable pub itemLine : ProgramHeading → (line : ℕ) → List Field → LineResult Item
+itemLine h k [] = bad badForm
 itemLine h k (f ∷ fs) =
-    if same f (bytes "freelock") then wrongAfter freelock (numbers ((0 to 0) ∷ []) fs)
+    if same f (bytes "freelock") then refuseAfter freelock (numbers ((0 to 0) ∷ []) fs)
     else if same f (bytes "proc") then procLine h k fs
     else wordLine k (lookUp (wordsUnder h) f) fs
 
 -- n lines behind the header, numbered from `line` upward
-unfoldable pub itemLines : ProgramHeading → (line n : ℕ) → List (List Field → Seen Item)
+unfoldable pub itemLines : ProgramHeading → (line n : ℕ) → List (List Field → LineResult Item)
 itemLines h k zero = []
 itemLines h k (suc n) = itemLine h k ∷ itemLines h (k + 1) n
 
@@ -85,7 +85,7 @@ pub record Program : Type 0 where
   pub root : Expr
 
 -- 11, 12, 45 and 13 line by line, "After the header come n + k lines"; then 13 for the procedures and the root; then 14, 15 and 49
-unfoldable pub program : List ℕ → Out Program
+unfoldable pub program : List ℕ → Result Program
 program text = do
   top ← begin programSheet (lines text)
   (counts, first) ← readLine programSheet countLine top
@@ -93,4 +93,4 @@ program text = do
   done ← end programSheet last
   (ps, e) ← structure (last .last) (counts .procedures) 0 items
   bound ← scopes (counts .procedures) ps e []
-  on (record { steps = stepsAmong items; procedures = ps; root = e })
+  ok (record { steps = stepsAmong items; procedures = ps; root = e })

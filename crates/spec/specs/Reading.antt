@@ -13,19 +13,19 @@ use Rattle.spec.specs.declared.Refusal.the-variants.{ProgramForm, Progra
 -- ------------------------------------------------------------------ outcomes
 
 -- stopped by a refusal, or going on with what was found
-pub data Out (A : Type 0) : Type 0 where
-  stop : Refusal → Out A
-  on : A → Out A
+pub data Result (A : Type 0) : Type 0 where
+  refuse : Refusal → Result A
+  ok : A → Result A
 
 infixl 1 _>>=_
-unfoldable pub _>>=_ : {A B : Type 0} → Out A → (A → Out B) → Out B
-stop r >>= f = stop r
-on a >>= f = f a
+unfoldable pub _>>=_ : {A B : Type 0} → Result A → (A → Result B) → Result B
+refuse r >>= f = refuse r
+ok a >>= f = f a
 
 -- go on if the test holds
-unfoldable pub demand : Bool → Refusal → Out (Unit {0})
-demand true r = on tt
-demand false r = stop r
+unfoldable pub require : Bool → Refusal → Result (Unit {0})
+require true r = ok tt
+require false r = refuse r
 
 -- ------------------------------------------------------------------ numbers on a line
 
@@ -34,24 +34,24 @@ pub data Fault : Type 0 where
   badForm badRange noStart freelock noKept : Fault
 
 -- what a closed line shows: form is judged before range
-pub data Seen (A : Type 0) : Type 0 where
-  right : A → Seen A
-  wrong : Fault → Seen A
+pub data LineResult (A : Type 0) : Type 0 where
+  good : A → LineResult A
+  bad : Fault → LineResult A
 
-unfoldable pub seen : {A B : Type 0} → (A → B) → Seen A → Seen B
-seen f (right a) = right (f a)
-seen f (wrong w) = wrong w
+unfoldable pub seen : {A B : Type 0} → (A → B) → LineResult A → LineResult B
+seen f (good a) = good (f a)
+seen f (bad w) = bad w
 
 -- what is judged of a line after its form and its ranges
-unfoldable pub insist : {A : Type 0} → Bool → Fault → Seen A → Seen A
-insist b w (wrong v) = wrong v
-insist true w (right a) = right a
-insist false w (right a) = wrong w
+unfoldable pub ensure : {A : Type 0} → Bool → Fault → LineResult A → LineResult A
+ensure b w (bad v) = bad v
+ensure true w (good a) = good a
+ensure false w (good a) = bad w
 
 -- a line that is wrong whatever it shows, once its form and its ranges are right
-unfoldable pub wrongAfter : {A B : Type 0} → Fault → Seen A → Seen B
-wrongAfter w (wrong v) = wrong v
-wrongAfter w (right a) = wrong w
+unfoldable pub refuseAfter : {A B : Type 0} → Fault → LineResult A → LineResult B
+refuseAfter w (bad v) = bad v
+refuseAfter w (good a) = bad w
 
 -- the range of a number: from the first to the last, both in it; or the number of one of so many things, counted from 0
 infix 4 _to_
@@ -80,15 +80,15 @@ unfoldable pub numerals : List Field → Option (List ℕ)
 numerals [] = some []
 numerals (f ∷ fs) = withNumeral (numeral f) (numerals fs)
 
-unfoldable pub ranged : List Range → Option (List ℕ) → Seen (List ℕ)
-ranged rs none = wrong badForm
+unfoldable pub ranged : List Range → Option (List ℕ) → LineResult (List ℕ)
+ranged rs none = bad badForm
 ranged rs (some ns) =
     if eqb (length ns) (length rs)
-    then (if allInRange rs ns then right ns else wrong badRange)
-    else wrong badForm
+    then (if allInRange rs ns then good ns else bad badRange)
+    else bad badForm
 
 -- as many numerals as ranges, each in its range
-unfoldable pub numbers : List Range → List Field → Seen (List ℕ)
+unfoldable pub numbers : List Range → List Field → LineResult (List ℕ)
 numbers rs fs = ranged rs (numerals fs)
 
 -- ------------------------------------------------------------------ lines in turn
@@ -121,36 +121,36 @@ pub record Place : Type 0 where
   pub last : ℕ
   pub rest : List Line
 
-unfoldable pub passed : {A : Type 0} → SheetName → (line : ℕ) → List Line → Seen A → Out (A × Place)
-passed sheet k rest (right a) = on (a, record { last = k; rest = rest })
-passed sheet k rest (wrong w) = stop (faulty sheet w k)
+unfoldable pub passed : {A : Type 0} → SheetName → (line : ℕ) → List Line → LineResult A → Result (A × Place)
+passed sheet k rest (good a) = ok (a, record { last = k; rest = rest })
+passed sheet k rest (bad w) = refuse (faulty sheet w k)
 
 -- a counted line: missing, without its closing byte, or what its fields show
-unfoldable pub nextLine : {A : Type 0} → SheetName → (List Field → Seen A) → (last : ℕ) → List Line → Out (A × Place)
-nextLine sheet read k [] = stop (miscounted sheet k)
-nextLine sheet read k (unclosed l ∷ rest) = stop (form sheet (k + 1))
+unfoldable pub nextLine : {A : Type 0} → SheetName → (List Field → LineResult A) → (last : ℕ) → List Line → Result (A × Place)
+nextLine sheet read k [] = refuse (miscounted sheet k)
+nextLine sheet read k (unclosed l ∷ rest) = refuse (form sheet (k + 1))
 nextLine sheet read k (closed l ∷ rest) = passed sheet (k + 1) rest (read (fields l))
 
-unfoldable pub readLine : {A : Type 0} → SheetName → (List Field → Seen A) → Place → Out (A × Place)
+unfoldable pub readLine : {A : Type 0} → SheetName → (List Field → LineResult A) → Place → Result (A × Place)
 readLine sheet read place = nextLine sheet read (place .last) (place .rest)
 
 -- counted lines in turn, each read in its own way
-unfoldable pub readLines : {A : Type 0} → SheetName → List (List Field → Seen A) → Place → Out (List A × Place)
-readLines sheet [] place = on ([], place)
+unfoldable pub readLines : {A : Type 0} → SheetName → List (List Field → LineResult A) → Place → Result (List A × Place)
+readLines sheet [] place = ok ([], place)
 readLines sheet (read ∷ reads) place = do
   (a, after) ← readLine sheet read place
   (as′, end) ← readLines sheet reads after
-  on (a ∷ as′, end)
+  ok (a ∷ as′, end)
 
 -- an empty text is of the wrong form at line 1
-unfoldable pub begin : SheetName → List Line → Out Place
-begin sheet [] = stop (form sheet 1)
-begin sheet (l ∷ rest) = on (record { last = 0; rest = l ∷ rest })
+unfoldable pub begin : SheetName → List Line → Result Place
+begin sheet [] = refuse (form sheet 1)
+begin sheet (l ∷ rest) = ok (record { last = 0; rest = l ∷ rest })
 
 -- a line behind the last is spare, with any bytes, closed or not
-unfoldable pub noneLeft : SheetName → (last : ℕ) → List Line → Out (Unit {0})
-noneLeft sheet k [] = on tt
-noneLeft sheet k (l ∷ rest) = stop (miscounted sheet (k + 1))
+unfoldable pub noneLeft : SheetName → (last : ℕ) → List Line → Result (Unit {0})
+noneLeft sheet k [] = ok tt
+noneLeft sheet k (l ∷ rest) = refuse (miscounted sheet (k + 1))
 
-unfoldable pub end : SheetName → Place → Out (Unit {0})
+unfoldable pub end : SheetName → Place → Result (Unit {0})
 end sheet place = noneLeft sheet (place .last) (place .rest)

@@ -6,7 +6,7 @@ use Prim.Native.Nat.{ℕ, zero, suc, _+_}
 use lib.ListN.{length, getD, replicate}
 use Rattle.spec.specs.Choice.{if_then_else_}
 use Rattle.spec.specs.Text.{bytes, same, lines, Field, lookUp}
-use Rattle.spec.specs.Reading.{splitSheet, Out, _>>=_, on, wrong, Fault, badForm, noStart, noKept, Seen, seen, insist, Range, _to_, below, numerals, numbers, readLine, readLines, begin, end}
+use Rattle.spec.specs.Reading.{splitSheet, Result, _>>=_, ok, bad, Fault, badForm, noStart, noKept, LineResult, seen, ensure, Range, _to_, below, numerals, numbers, readLine, readLines, begin, end}
 use Rattle.spec.specs.Words.{takesStart, keepsBack}
 use Rattle.spec.specs.Expression.{Step}
 use Rattle.spec.specs.Program.{Program}
@@ -67,12 +67,12 @@ headerOf h ns = record {
   start = startOf h ns;
 }
 
-unfoldable pub headed : Option Heading → List Field → Seen Header
-headed none fs = wrong badForm
+unfoldable pub headed : Option Heading → List Field → LineResult Header
+headed none fs = bad badForm
 headed (some h) fs = seen (headerOf h) (numbers (headerRanges h (mapsIn (numerals fs))) fs)
 
-unfoldable pub headerLine : Purpose → List Field → Seen Header
-headerLine purpose [] = wrong badForm
+unfoldable pub headerLine : Purpose → List Field → LineResult Header
+headerLine purpose [] = bad badForm
 headerLine purpose (f ∷ fs) = headed (lookUp (headings purpose) f) fs
 
 -- `int,0,0`; `ref,p,t`; `lock,k,0`, or `lock,in,out`; `tid,k,0`; `sem,k,0`; `rwlock,r,w`. A content type's number is less than the
@@ -101,8 +101,8 @@ semOf ns = Sem (record { 0 = getD ns 0 0 })
 unfoldable pub rwlockOf : List ℕ → TypeLine
 rwlockOf ns = Rwlock (record { 0 = getD ns 0 0 }) (record { 0 = getD ns 1 0 })
 
-unfoldable pub typeLine : Header → (own : ℕ) → List Field → Seen TypeLine
-typeLine H own [] = wrong badForm
+unfoldable pub typeLine : Header → (own : ℕ) → List Field → LineResult TypeLine
+typeLine H own [] = bad badForm
 typeLine H own (f ∷ fs) =
     if same f (bytes "int") then seen (λ ns. Int) (numbers ((0 to 0) ∷ (0 to 0) ∷ []) fs)
     else if same f (bytes "ref") then seen refOf (numbers (below (H .locations) ∷ below own ∷ []) fs)
@@ -110,15 +110,15 @@ typeLine H own (f ∷ fs) =
     else if same f (bytes "tid") then seen tidOf (numbers (below (H .maps) ∷ (0 to 0) ∷ []) fs)
     else if same f (bytes "sem") then seen semOf (numbers (below (H .maps) ∷ (0 to 0) ∷ []) fs)
     else if same f (bytes "rwlock") then seen rwlockOf (numbers (below (H .maps) ∷ below (H .maps) ∷ []) fs)
-    else wrong badForm
+    else bad badForm
 
 -- the lines of n types, numbered from `own` upward
-unfoldable pub typeLines : Header → (own n : ℕ) → List (List Field → Seen TypeLine)
+unfoldable pub typeLines : Header → (own n : ℕ) → List (List Field → LineResult TypeLine)
 typeLines H own zero = []
 typeLines H own (suc n) = typeLine H own ∷ typeLines H (own + 1) n
 
 -- a map line: a numeral for each location
-unfoldable pub mapLine : Header → List Field → Seen Map
+unfoldable pub mapLine : Header → List Field → LineResult Map
 mapLine H fs = numbers (replicate (H .locations) (0 to 1000000000)) fs
 
 -- the signature of a procedure that is not there: never seen, since 49 refuses a call to one
@@ -134,7 +134,7 @@ signatureOf ns = record {
 }
 
 -- `before,argument,after,result`, "map, type, map, type"
-unfoldable pub signatureLine : Header → List Field → Seen Signature
+unfoldable pub signatureLine : Header → List Field → LineResult Signature
 signatureLine H fs =
     seen signatureOf (numbers (below (H .maps) ∷ below (H .types) ∷ below (H .maps) ∷ below (H .types) ∷ []) fs)
 
@@ -180,17 +180,17 @@ postField Check m = m
 postField Fill [] = bytes "0"
 postField Fill (b ∷ m) = b ∷ m
 
-unfoldable pub rowLine : Purpose → Header → Step → List Field → Seen Row
-rowLine purpose H s [] = wrong badForm
-rowLine purpose H s (t ∷ []) = wrong badForm
-rowLine purpose H s (t ∷ m ∷ []) = wrong badForm
+unfoldable pub rowLine : Purpose → Header → Step → List Field → LineResult Row
+rowLine purpose H s [] = bad badForm
+rowLine purpose H s (t ∷ []) = bad badForm
+rowLine purpose H s (t ∷ m ∷ []) = bad badForm
 rowLine purpose H s (t ∷ m ∷ [] ∷ []) =
-    insist (mayBeEmpty (H .heading) (s .word)) (emptyFault (s .word))
+    ensure (mayBeEmpty (H .heading) (s .word)) (emptyFault (s .word))
     (seen (rowOf none) (numbers (below (H .types) ∷ postRange purpose H m ∷ []) (t ∷ postField purpose m ∷ [])))
 rowLine purpose H s (t ∷ m ∷ (b ∷ f) ∷ []) =
     seen (λ ns. rowOf (some (startGiven ns)) ns)
     (numbers (below (H .types) ∷ postRange purpose H m ∷ startRange (s .word) H ∷ []) (t ∷ postField purpose m ∷ (b ∷ f) ∷ []))
-rowLine purpose H s (t ∷ m ∷ f ∷ g ∷ fs) = wrong badForm
+rowLine purpose H s (t ∷ m ∷ f ∷ g ∷ fs) = bad badForm
 
 -- a split: its header, its types and maps by number, the signatures of its procedures, its rows in step order
 pub record Split : Type 0 where
@@ -201,7 +201,7 @@ pub record Split : Type 0 where
   pub rows : List Row
 
 -- 21, 22, 40, 50 and 23 line by line, for the procedures and the steps of a program
-unfoldable pub split : Purpose → Program → List ℕ → Out Split
+unfoldable pub split : Purpose → Program → List ℕ → Result Split
 split purpose P text = do
   top ← begin splitSheet (lines text)
   (H, p₁) ← readLine splitSheet (headerLine purpose) top
@@ -210,7 +210,7 @@ split purpose P text = do
   (signatures, p₄) ← readLines splitSheet (replicate (length (P .procedures)) (signatureLine H)) p₃
   (rows, p₅) ← readLines splitSheet (map (rowLine purpose H) (P .steps)) p₄
   done ← end splitSheet p₅
-  on (record { header = H; types = types; maps = maps; signatures = signatures; rows = rows })
+  ok (record { header = H; types = types; maps = maps; signatures = signatures; rows = rows })
 
 -- the type line and the map with a number. `Int` and the empty map past the last are never seen: 22 refuses such a number
 module _ (S : Split) where

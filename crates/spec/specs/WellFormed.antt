@@ -6,7 +6,7 @@ use mathlib.Core.Bool.{true, false}
 use Prim.Native.Nat.{ℕ, _+_, _≤_, _<_}
 use lib.ListN.{length, replicate}
 use Rattle.spec.specs.Text.{Line, closed, lines, Field, fields}
-use Rattle.spec.specs.Reading.{Seen, right}
+use Rattle.spec.specs.Reading.{LineResult, good}
 use Rattle.spec.specs.Words.{role, binding}
 use Rattle.spec.specs.Expression.{Step, Expr, leaf, unary, binary, size, Item, step, proc, stepsAmong, Procedure, among}
 use Rattle.spec.specs.Program.{Program, programLimit, countLine, itemLines}
@@ -19,12 +19,12 @@ use Rattle.spec.specs.declared.Word.the-variants.{Leaf, Unary, Binary}
 
 -- Shows reads ls as rest: the lines ls begin with a closed line for each way of reading, each line shows its entry of as,
 -- and rest is behind them
-pub data Shows {A : Type 0} : List (List Field → Seen A) → List Line → List A → List Line → Type 0 where
-  nothing : {rest : List Line} → Shows [] rest [] rest
-  line : {read : List Field → Seen A} {reads : List (List Field → Seen A)} {l : List ℕ} {ls rest : List Line} {a : A} {as′ : List A}
-      → read (fields l) ≡ right a
-      → Shows reads ls as′ rest
-      → Shows (read ∷ reads) (closed l ∷ ls) (a ∷ as′) rest
+pub data Parses {A : Type 0} : List (List Field → LineResult A) → List Line → List A → List Line → Type 0 where
+  nothing : {rest : List Line} → Parses [] rest [] rest
+  line : {read : List Field → LineResult A} {reads : List (List Field → LineResult A)} {l : List ℕ} {ls rest : List Line} {a : A} {as′ : List A}
+      → read (fields l) ≡ good a
+      → Parses reads ls as′ rest
+      → Parses (read ∷ reads) (closed l ∷ ls) (a ∷ as′) rest
 
 -- ------------------------------------------------------------------ the expression
 
@@ -110,8 +110,8 @@ pub record WellFormedProgram (text : List ℕ) (P : Program) : Type 0 where
   pub lined : lines text ≡ closed first ∷ others
   pub heading : ProgramHeading
   pub counted : countLine (fields first)
-      ≡ right (record { heading = heading; steps = length (P .steps); procedures = length (P .procedures) })
-  pub listed : Shows (itemLines heading firstItemLine (length (P .steps) + length (P .procedures))) others (listing (P .procedures) (P .root)) []
+      ≡ good (record { heading = heading; steps = length (P .steps); procedures = length (P .procedures) })
+  pub listed : Parses (itemLines heading firstItemLine (length (P .steps) + length (P .procedures))) others (listing (P .procedures) (P .root)) []
   pub stepped : P .steps ≡ stepsAmong (listing (P .procedures) (P .root))
   pub numbering : NumberedFrom 0 (P .procedures) (P .root)
   pub boundOnce : Distinct (allBinders (P .procedures) (P .root))
@@ -126,11 +126,11 @@ pub record WellFormedSplit (purpose : Purpose) (P : Program) (text : List ℕ) (
   pub afterMaps : List Line
   pub afterSignatures : List Line
   pub lined : lines text ≡ closed first ∷ others
-  pub headed : headerLine purpose (fields first) ≡ right (S .header)
-  pub typed : Shows (typeLines (S .header) 0 (S .header .types)) others (S .types) afterTypes
-  pub mapped : Shows (replicate (S .header .maps) (mapLine (S .header))) afterTypes (S .maps) afterMaps
-  pub signed : Shows (replicate (length (P .procedures)) (signatureLine (S .header))) afterMaps (S .signatures) afterSignatures
-  pub rowed : Shows (map (rowLine purpose (S .header)) (P .steps)) afterSignatures (S .rows) []
+  pub headed : headerLine purpose (fields first) ≡ good (S .header)
+  pub typed : Parses (typeLines (S .header) 0 (S .header .types)) others (S .types) afterTypes
+  pub mapped : Parses (replicate (S .header .maps) (mapLine (S .header))) afterTypes (S .maps) afterMaps
+  pub signed : Parses (replicate (length (P .procedures)) (signatureLine (S .header))) afterMaps (S .signatures) afterSignatures
+  pub rowed : Parses (map (rowLine purpose (S .header)) (P .steps)) afterSignatures (S .rows) []
 
 -- "both sheets are well formed", and what they say
 pub record WellFormedSheets (purpose : Purpose) (programText splitText : List ℕ) (P : Program) (S : Split) : Type 0 where

@@ -146,7 +146,7 @@ pub enum Refusal {
 
 // What one of the stages of an answer says: nothing is to be refused, or the first thing that is.
 pub enum Ruling {
-    Met,
+    Holds,
     Refused(Refusal),
 }
 

@@ -4,7 +4,7 @@ use mathlib.Core.Path.{subst as along}
 use mathlib.Core.List.{List}
 use Prim.Native.Nat.{ℕ}
 use native.Mathlib.Omega.{arith}
-use Rattle.spec.specs.Reading.{Out, stop, on}
+use Rattle.spec.specs.Reading.{Result, refuse, ok}
 use Rattle.spec.specs.Split.{Split}
 use Rattle.spec.specs.declared.Refusal.{Refusal}
 use Rattle.workspace.specs.Holds.{HoldsSplit}
@@ -14,23 +14,23 @@ use Rattle.spec.specs.declared.Header.{Header}
 use Rattle.split.specs.declared.Sheet.{Sheet}
 use Rattle.split.specs.declared.Sheet.the-variants as sheet
 
-pub split-refused-by : {x : Refusal} (w : List ℕ) (h : Sheet) (o : Out Split) → SheetAnswer o w h → h ≡ sheet.Refused x → o ≡ stop x
-split-refused-by {x = x} w (sheet.Refused y) o a e = let same : y ≡ x = cc in a ∙ ap stop same
+pub split-refused-by : {x : Refusal} (w : List ℕ) (h : Sheet) (o : Result Split) → SheetAnswer o w h → h ≡ sheet.Refused x → o ≡ refuse x
+split-refused-by {x = x} w (sheet.Refused y) o a e = let same : y ≡ x = cc in a ∙ ap refuse same
 split-refused-by w (sheet.Read h) o a e = let clash : _≡_ {A = ℕ} 0 1 = cc in absurd (omega arith)
 
-pub split-read-by : {k : Header} (w : List ℕ) (h : Sheet) (o : Out Split) → SheetAnswer o w h → h ≡ sheet.Read k
-    → (S : Split) × (o ≡ on S) × (S .header ≡ k) × HoldsSplit w S × Small k
+pub split-read-by : {k : Header} (w : List ℕ) (h : Sheet) (o : Result Split) → SheetAnswer o w h → h ≡ sheet.Read k
+    → (S : Split) × (o ≡ ok S) × (S .header ≡ k) × HoldsSplit w S × Small k
 split-read-by w (sheet.Refused y) o a e = let clash : _≡_ {A = ℕ} 0 1 = cc in absurd (omega arith)
 split-read-by {k = k} w (sheet.Read h) o a e = let same : h ≡ k = cc in along (λ z. SheetAnswer o w (sheet.Read z)) same a
 
-pub denominator-told : (S : Split) (h : Header) → S .header ≡ h → h .denominator ≡ S .header .denominator
-denominator-told S h e = sym (ap (λ H. H .denominator) e)
+pub denominator-decodes : (S : Split) (h : Header) → S .header ≡ h → h .denominator ≡ S .header .denominator
+denominator-decodes S h e = sym (ap (λ H. H .denominator) e)
 
-pub locations-told : (S : Split) (h : Header) → S .header ≡ h → h .locations ≡ S .header .locations
-locations-told S h e = sym (ap (λ H. H .locations) e)
+pub locations-decodes : (S : Split) (h : Header) → S .header ≡ h → h .locations ≡ S .header .locations
+locations-decodes S h e = sym (ap (λ H. H .locations) e)
 
-pub types-told : (S : Split) (h : Header) → S .header ≡ h → h .types ≡ S .header .types
-types-told S h e = sym (ap (λ H. H .types) e)
+pub types-decodes : (S : Split) (h : Header) → S .header ≡ h → h .types ≡ S .header .types
+types-decodes S h e = sym (ap (λ H. H .types) e)
 
-pub start-told : (S : Split) (h : Header) → S .header ≡ h → h .start .0 ≡ S .header .start .0
-start-told S h e = sym (ap (λ H. H .start .0) e)
+pub start-decodes : (S : Split) (h : Header) → S .header ≡ h → h .start .0 ≡ S .header .start .0
+start-decodes S h e = sym (ap (λ H. H .start .0) e)

@@ -5,7 +5,7 @@ use mathlib.Core.List.{List, map}
 use Prim.Native.Nat.{ℕ, _+_, _≤_}
 use native.Mathlib.Omega.{arith}
 use lib.ListN.{length, replicate, length-map}
-use Rattle.spec.specs.Reading.{splitSheet, Out, _>>=_, Place, readLines, end}
+use Rattle.spec.specs.Reading.{splitSheet, Result, _>>=_, Place, readLines, end}
 use Rattle.spec.specs.Expression.{Step}
 use Rattle.spec.specs.Split.{Map, Row, Split, typeLines, mapLine, signatureLine, rowLine}
 use Rattle.spec.specs.declared.Signature.{Signature}
@@ -33,10 +33,10 @@ module _ (purpose : Purpose) {text : List ℕ} {c : Cursor} {h : Header} {n k : 
     abbrev H : Header
     H = h
 
-    abbrev whole : Out Split
+    abbrev whole : Result Split
     whole = body purpose H k (stepsFrom w 0 n) (placeAt text c)
 
-    abbrev types-out : Out (List TypeLine × Place)
+    abbrev types-out : Result (List TypeLine × Place)
     types-out = readLines splitSheet (typeLines H 0 (h .types)) (placeAt text c)
 
     changed-one : ChangedWithin rowTypesAt workSize w w₁
@@ -60,7 +60,7 @@ module _ (purpose : Purpose) {text : List ℕ} {c : Cursor} {h : Header} {n k : 
         whole = read-types .changed .long ∙ pre .storing .whole;
       }
 
-      abbrev maps-out : Out (List Map × Place)
+      abbrev maps-out : Result (List Map × Place)
       maps-out = readLines splitSheet (replicate (h .maps) (mapLine H)) (placeAt text c₂)
 
       module _ {w₂ : List ℕ} {maps : LinesRead} (read-maps : MapsRead text c₂ h w₁ w₂ maps) where
@@ -95,7 +95,7 @@ module _ (purpose : Purpose) {text : List ℕ} {c : Cursor} {h : Header} {n k : 
             few = pre .fewProcedures;
           }
 
-          abbrev signatures-out : Out (List Signature × Place)
+          abbrev signatures-out : Result (List Signature × Place)
           signatures-out = readLines splitSheet (replicate k (signatureLine H)) (placeAt text c₃)
 
           module _ {u : List ℕ} {signatures : LinesRead} (read-signatures : SignaturesRead text c₃ h k v u signatures) where
@@ -124,7 +124,7 @@ module _ (purpose : Purpose) {text : List ℕ} {c : Cursor} {h : Header} {n k : 
                 few = pre .fewSteps;
               }
 
-              abbrev rows-out : Out (List Row × Place)
+              abbrev rows-out : Result (List Row × Place)
               rows-out = readLines splitSheet (map (rowLine purpose H) (stepsFrom u 0 n)) (placeAt text c₄)
 
               module _ {w₃ : List ℕ} {rows : LinesRead} (read-rows : RowsRead purpose text c₄ h n u w₃ rows) where

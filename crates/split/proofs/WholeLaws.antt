@@ -6,7 +6,7 @@ use Prim.Native.Nat.{ℕ, _<_}
 use native.Mathlib.Omega.{arith}
 use lib.ListN.{length}
 use Rattle.spec.specs.Text.{lines}
-use Rattle.spec.specs.Reading.{splitSheet, Out, stop, on, _>>=_, form, readLine, begin}
+use Rattle.spec.specs.Reading.{splitSheet, Result, refuse, ok, _>>=_, form, readLine, begin}
 use Rattle.spec.specs.Expression.{Step}
 use Rattle.spec.specs.Program.{Program}
 use Rattle.spec.specs.Split.{Split, headerLine, split}
@@ -36,7 +36,7 @@ module _ {text : List ℕ} {n k : ℕ} {w : List ℕ} (pre : Readable text n k w
   top-rest : rest text top ≡ text
   top-rest = ap (rest text) is ∙ start-rest text
 
-  empty-begin : textEnded (rest text top) ≡ true → begin splitSheet (lines text) ≡ stop (SplitForm 1)
+  empty-begin : textEnded (rest text top) ≡ true → begin splitSheet (lines text) ≡ refuse (SplitForm 1)
   unfolding form
   empty-begin e = begin-at-none splitSheet text (sym top-rest ∙ left-none (rest text top) e)
 
@@ -51,7 +51,7 @@ module _ {text : List ℕ} {n k : ℕ} {w : List ℕ} (pre : Readable text n k w
       some = some-left;
     }
 
-    top-place : begin splitSheet (lines text) ≡ on (placeAt text top)
+    top-place : begin splitSheet (lines text) ≡ ok (placeAt text top)
     top-place = begin-at-some splitSheet text (subst (λ (t : List ℕ). 0 < length t) top-rest (left-some (rest text top) some-left)) ∙ rw is
 
     module _ (answer : HeaderLine) (header : HeaderAnswer text (readLine splitSheet (headerLine purpose) (placeAt text top)) answer) where
@@ -74,7 +74,7 @@ module _ {text : List ℕ} {n k : ℕ} {w : List ℕ} (pre : Readable text n k w
         }
 
         module _ {w′ : List ℕ} {lines′ : LinesRead} (read : BodyRead purpose h n k (placeAt text c) w w′ lines′) where
-          abbrev out : Out Split
+          abbrev out : Result Split
           out = body purpose h k (stepsFrom w 0 n) (placeAt text c)
 
           of-program : (P : Program) → HoldsSteps w (P .steps) → length (P .steps) ≡ n → length (P .procedures) ≡ k → split purpose P text ≡ out

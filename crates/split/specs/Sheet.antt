@@ -3,7 +3,7 @@ use mathlib.Core.Path.{_≡_}
 use mathlib.Core.List.{List, map}
 use Prim.Native.Nat.{ℕ, _≤_}
 use lib.ListN.{length, replicate}
-use Rattle.spec.specs.Reading.{splitSheet, Out, stop, on, _>>=_, Place, readLines, end}
+use Rattle.spec.specs.Reading.{splitSheet, Result, refuse, ok, _>>=_, Place, readLines, end}
 use Rattle.spec.specs.Expression.{Step}
 use Rattle.spec.specs.Program.{Program}
 use Rattle.spec.specs.Split.{Split, typeLines, mapLine, signatureLine, rowLine, split}
@@ -36,31 +36,31 @@ pub record StoringBody (text : List ℕ) (c : Cursor) (h : Header) (steps proced
   pub fewProcedures : procedures ≤ 16
 
 -- the lines behind the header, for k procedures and these steps
-unfoldable pub body : Purpose → Header → (k : ℕ) → List Step → Place → Out Split
+unfoldable pub body : Purpose → Header → (k : ℕ) → List Step → Place → Result Split
 body purpose H k steps p₁ = do
   (types, p₂) ← readLines splitSheet (typeLines H 0 (H .types)) p₁
   (maps, p₃) ← readLines splitSheet (replicate (H .maps) (mapLine H)) p₂
   (signatures, p₄) ← readLines splitSheet (replicate k (signatureLine H)) p₃
   (rows, p₅) ← readLines splitSheet (map (rowLine purpose H) steps) p₄
   done ← end splitSheet p₅
-  on (record { header = H; types = types; maps = maps; signatures = signatures; rows = rows })
+  ok (record { header = H; types = types; maps = maps; signatures = signatures; rows = rows })
 
-abbrev pub EndAnswer : Out (Unit {0}) → LinesRead → Type 0
-EndAnswer out (lines-read.Refused r) = out ≡ stop r
-EndAnswer out (lines-read.Read c) = out ≡ on tt
+abbrev pub EndAnswer : Result (Unit {0}) → LinesRead → Type 0
+EndAnswer out (lines-read.Refused r) = out ≡ refuse r
+EndAnswer out (lines-read.Read c) = out ≡ ok tt
 
-abbrev pub BodyAnswer : Header → Out Split → (w′ : List ℕ) → LinesRead → Type 0
-BodyAnswer H out w′ (lines-read.Refused r) = out ≡ stop r
-BodyAnswer H out w′ (lines-read.Read c) = (S : Split) × (out ≡ on S) × (S .header ≡ H) × HoldsSplit w′ S
+abbrev pub BodyAnswer : Header → Result Split → (w′ : List ℕ) → LinesRead → Type 0
+BodyAnswer H out w′ (lines-read.Refused r) = out ≡ refuse r
+BodyAnswer H out w′ (lines-read.Read c) = (S : Split) × (out ≡ ok S) × (S .header ≡ H) × HoldsSplit w′ S
 
 pub record BodyRead (purpose : Purpose) (H : Header) (n k : ℕ) (from : Place) (w w′ : List ℕ) (answer : LinesRead) : Type 0 where
   pub answered : BodyAnswer H (body purpose H k (stepsFrom w 0 n) from) w′ answer
   pub changed : ChangedWithin rowTypesAt workSize w w′
 
 -- a refusal is that of document 01; else the header is that of the split, which the work space holds
-abbrev pub SheetAnswer : Out Split → (w′ : List ℕ) → Sheet → Type 0
-SheetAnswer out w′ (sheet.Refused r) = out ≡ stop r
-SheetAnswer out w′ (sheet.Read h) = (S : Split) × (out ≡ on S) × (S .header ≡ h) × HoldsSplit w′ S × Small h
+abbrev pub SheetAnswer : Result Split → (w′ : List ℕ) → Sheet → Type 0
+SheetAnswer out w′ (sheet.Refused r) = out ≡ refuse r
+SheetAnswer out w′ (sheet.Read h) = (S : Split) × (out ≡ ok S) × (S .header ≡ h) × HoldsSplit w′ S × Small h
 
 -- reading a split sheet, to check or to fill, for the n steps of a program that the work space holds and its k procedures: only places
 -- from the rows on change

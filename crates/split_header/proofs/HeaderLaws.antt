@@ -11,7 +11,7 @@ use lib.Seq.{length-take-le}
 use borrow.Author.Tests.{leb-true, leb-false, lt-leb}
 use Rattle.spec.specs.Choice.{if_then_else_}
 use Rattle.spec.specs.Text.{bytes, same, Field, lookUp, lines}
-use Rattle.spec.specs.Reading.{splitSheet, stop, on, Seen, right, wrong, badForm, badRange, seen, inRange, allInRange, numerals, ranged, numbers, form, passed, nextLine, readLine}
+use Rattle.spec.specs.Reading.{splitSheet, refuse, ok, LineResult, good, bad, badForm, badRange, seen, inRange, allInRange, numerals, ranged, numbers, form, passed, nextLine, readLine}
 use Rattle.spec.specs.Split.{headings, headerRanges, mapsOf, mapsIn, startOf, headerOf, headed, headerLine}
 use Rattle.spec.specs.declared.Header.{Header}
 use Rattle.spec.specs.declared.Heading.{Heading}
@@ -131,10 +131,10 @@ module _ (h : Heading) (ns : List ℕ) (n : ℕ) (l t m : ℕ) where
   abbrev after : List ℕ
   after = ns ++ drop n places
 
-  pub header-told : n ≡ numeralsOf h → length ns ≡ numeralsOf h → l ≡ getD after 1 0 → t ≡ getD after 2 0 → m ≡ getD after 3 0
+  pub header-decodes : n ≡ numeralsOf h → length ns ≡ numeralsOf h → l ≡ getD after 1 0 → t ≡ getD after 2 0 → m ≡ getD after 3 0
       → headerOf h ns ≡ (record { heading = h; denominator = getD after 0 0; locations = l; types = t; maps = m; start = record { 0 = getD after 4 0 } })
   unfolding inPlaces
-  header-told all e el et em =
+  header-decodes all e el et em =
       filled (numbers-of h ns e) ∙ ap (λ (k : ℕ). inPlaces h (ns ++ drop k places)) (sym all) ∙ sym (rw (el, et, em))
 
 -- ------------------------------------------------------------------ the ranges
@@ -149,20 +149,20 @@ header-small h e =
     record { locations = in-to _ _ _ locations .1; types = in-to _ _ _ types .1; maps = in-to _ _ _ maps .1 }
 
 -- the numbers behind a heading are in their ranges where the header that they make is
-fits-told : {h : Heading} {ns : List ℕ} → NumbersOf h ns → allInRange (headerRanges h (mapsOf ns)) ns ≡ headerFits (headerOf h ns)
+fits-decodes : {h : Heading} {ns : List ℕ} → NumbersOf h ns → allInRange (headerRanges h (mapsOf ns)) ns ≡ headerFits (headerOf h ns)
 unfolding headerRanges mapsOf headerOf startOf headerFits
-fits-told (four d l t m) = first-map-fits d l t m
-fits-told (five d l t m r) = refl
-fits-told (five-3 d l t m r) = refl
+fits-decodes (four d l t m) = first-map-fits d l t m
+fits-decodes (five d l t m r) = refl
+fits-decodes (five-3 d l t m r) = refl
 
 -- ------------------------------------------------------------------ the numbers, as they are stored
 
 -- what the numbers behind a heading come to
-unfoldable judged : Heading → List ℕ → Seen (List ℕ)
-judged h ns = if allInRange (headerRanges h (mapsOf ns)) ns then right ns else wrong badRange
+unfoldable judged : Heading → List ℕ → LineResult (List ℕ)
+judged h ns = if allInRange (headerRanges h (mapsOf ns)) ns then good ns else bad badRange
 
 -- an M that is out of its range
-many-maps : (a b c d r : ℕ) → 512 < d → judged C2 (a ∷ b ∷ c ∷ d ∷ r ∷ []) ≡ wrong badRange
+many-maps : (a b c d r : ℕ) → 512 < d → judged C2 (a ∷ b ∷ c ∷ d ∷ r ∷ []) ≡ bad badRange
 unfolding judged headerRanges allInRange inRange
 many-maps a b c d r h = simp (lt-leb d 512 h, and-false)
 
@@ -174,7 +174,7 @@ named-judged a b c d r = go (leb d 4294967295) refl
     go true e =
         unfold judged headerRanges mapsOf in
         stored-judged (headerRanges C2 d) (omega arith, (omega arith, (omega arith, (omega arith, (leb-true d 4294967295 e, tt))))) (a ∷ b ∷ c ∷ d ∷ r ∷ []) refl
-        ∙ ap (λ (m : ℕ). if allInRange (headerRanges C2 m) (stored a ∷ stored b ∷ stored c ∷ stored d ∷ stored r ∷ []) then right (stored a ∷ stored b ∷ stored c ∷ stored d ∷ stored r ∷ []) else wrong badRange) (sym (kept d e))
+        ∙ ap (λ (m : ℕ). if allInRange (headerRanges C2 m) (stored a ∷ stored b ∷ stored c ∷ stored d ∷ stored r ∷ []) then good (stored a ∷ stored b ∷ stored c ∷ stored d ∷ stored r ∷ []) else bad badRange) (sym (kept d e))
     go false e =
         let far = leb-false d 4294967295 e in
         let is = cut d e in
@@ -192,7 +192,7 @@ header-by-stored h ms l = ap (seen (headerOf h)) (judged-stored (numbers-of h ms
 
 -- ------------------------------------------------------------------ the line
 
-header-alone : (o : Option Heading) → headed o [] ≡ wrong badForm
+header-alone : (o : Option Heading) → headed o [] ≡ bad badForm
 unfolding headed headerRanges seen numbers numerals ranged
 header-alone none = refl
 header-alone (some C) = refl
@@ -206,30 +206,30 @@ as-many C2 m = refl
 as-many C3 m = refl
 
 -- the fields behind a heading show what their numerals come to
-heading-shows : (h : Heading) (fs : List Field) → headed (some h) fs ≡ many (numeralsOf h) (λ ns. seen (headerOf h) (judged h ns)) (wrong badForm) (numerals fs)
+heading-shows : (h : Heading) (fs : List Field) → headed (some h) fs ≡ many (numeralsOf h) (λ ns. seen (headerOf h) (judged h ns)) (bad badForm) (numerals fs)
 unfolding headed numbers ranged mapsIn many judged
 heading-shows h fs = go (numerals fs)
   where
-    counts : (x : Bool) (ns : List ℕ) → seen (headerOf h) (if x then judged h ns else wrong badForm) ≡ (if x then seen (headerOf h) (judged h ns) else wrong badForm)
+    counts : (x : Bool) (ns : List ℕ) → seen (headerOf h) (if x then judged h ns else bad badForm) ≡ (if x then seen (headerOf h) (judged h ns) else bad badForm)
     counts true ns = refl
     counts false ns = unfold seen in refl
 
-    go : (o : Option (List ℕ)) → seen (headerOf h) (ranged (headerRanges h (mapsIn o)) o) ≡ many (numeralsOf h) (λ ns. seen (headerOf h) (judged h ns)) (wrong badForm) o
+    go : (o : Option (List ℕ)) → seen (headerOf h) (ranged (headerRanges h (mapsIn o)) o) ≡ many (numeralsOf h) (λ ns. seen (headerOf h) (judged h ns)) (bad badForm) o
     go none = unfold seen in refl
     go (some ns) =
-        ap (λ (n : ℕ). seen (headerOf h) (if eqb (length ns) n then judged h ns else wrong badForm)) (as-many h (mapsOf ns))
+        ap (λ (n : ℕ). seen (headerOf h) (if eqb (length ns) n then judged h ns else bad badForm)) (as-many h (mapsOf ns))
         ∙ counts (eqb (length ns) (numeralsOf h)) ns
 
 module _ (purpose : Purpose) (text : List ℕ) (c : Cursor) (some-left : 0 < length (rest text c)) where
   -- no comma behind the first field
-  pub no-comma : (endOf (rest text c) ≡ Comma → ⊥) → readLine splitSheet (headerLine purpose) (placeAt text c) ≡ stop (SplitForm (c .line + 1))
+  pub no-comma : (endOf (rest text c) ≡ Comma → ⊥) → readLine splitSheet (headerLine purpose) (placeAt text c) ≡ refuse (SplitForm (c .line + 1))
   unfolding form headerLine
   no-comma n =
       next-at splitSheet text (headerLine purpose) c
       ∙ first-alone splitSheet (headerLine purpose) (c .line) (rest text c) some-left n (header-alone (lookUp (headings purpose) (firstField (rest text c))))
 
   -- no heading
-  pub no-header : lookUp (headings purpose) (firstField (rest text c)) ≡ none → readLine splitSheet (headerLine purpose) (placeAt text c) ≡ stop (SplitForm (c .line + 1))
+  pub no-header : lookUp (headings purpose) (firstField (rest text c)) ≡ none → readLine splitSheet (headerLine purpose) (placeAt text c) ≡ refuse (SplitForm (c .line + 1))
   unfolding form headerLine headed
   no-header e =
       next-at splitSheet text (headerLine purpose) c
@@ -239,15 +239,15 @@ module _ (purpose : Purpose) (text : List ℕ) (c : Cursor) (some-left : 0 < len
       (p : Placed text c) (comma : endOf (rest text c) ≡ Comma) (d : Cursor) (is : behindField text c ≡ d)
       (h : Heading) (known : lookUp (headings purpose) (firstField (rest text c)) ≡ some h)
     where
-      shows : (fs : List Field) → headerLine purpose (firstField (rest text c) ∷ fs) ≡ many (numeralsOf h) (λ ns. seen (headerOf h) (judged h ns)) (wrong badForm) (numerals fs)
+      shows : (fs : List Field) → headerLine purpose (firstField (rest text c) ∷ fs) ≡ many (numeralsOf h) (λ ns. seen (headerOf h) (judged h ns)) (bad badForm) (numerals fs)
       unfolding headerLine
       shows fs = ap (λ (o : Option Heading). headed o fs) known ∙ heading-shows h fs
 
-      pub header-form : numbersAt text d (numeralsOf h) ≡ none → readLine splitSheet (headerLine purpose) (placeAt text c) ≡ stop (SplitForm (c .line + 1))
+      pub header-form : numbersAt text d (numeralsOf h) ≡ none → readLine splitSheet (headerLine purpose) (placeAt text c) ≡ refuse (SplitForm (c .line + 1))
       unfolding form
       header-form n =
           next-at splitSheet text (headerLine purpose) c
-          ∙ many-form splitSheet (headerLine purpose) (c .line) (numeralsOf h) (λ ns. seen (headerOf h) (judged h ns)) (wrong badForm) text c (firstField (rest text c)) d (comma-line text c d p comma is) shows refl some-left n
+          ∙ many-form splitSheet (headerLine purpose) (c .line) (numeralsOf h) (λ ns. seen (headerOf h) (judged h ns)) (bad badForm) text c (firstField (rest text c)) d (comma-line text c d p comma is) shows refl some-left n
 
       module _
           (ns : List ℕ) (e : Cursor) (found : numbersAt text d (numeralsOf h) ≡ some (ns, rest text e))
@@ -256,25 +256,25 @@ module _ (purpose : Purpose) (text : List ℕ) (c : Cursor) (some-left : 0 < len
           reads : (nextLine splitSheet (headerLine purpose) (c .line) (lines (rest text c)) ≡ passed splitSheet (c .line + 1) (lines (rest text e)) (seen (headerOf h) (judged h ns)))
               × (length ns ≡ numeralsOf h)
           reads =
-              many-read splitSheet (headerLine purpose) (c .line) (numeralsOf h) (λ ns. seen (headerOf h) (judged h ns)) (wrong badForm) text c (firstField (rest text c)) d (comma-line text c d p comma is) shows
+              many-read splitSheet (headerLine purpose) (c .line) (numeralsOf h) (λ ns. seen (headerOf h) (judged h ns)) (bad badForm) text c (firstField (rest text c)) d (comma-line text c d p comma is) shows
               (λ ms l. header-by-stored h ms l) ns (rest text e) found
 
           fits : allInRange (headerRanges h (mapsOf ns)) ns ≡ headerFits H
-          fits = fits-told (numbers-of h ns (reads .1)) ∙ ap headerFits told
+          fits = fits-decodes (numbers-of h ns (reads .1)) ∙ ap headerFits told
 
-          judged-as : {x : Bool} → headerFits H ≡ x → judged h ns ≡ (if x then right ns else wrong badRange)
+          judged-as : {x : Bool} → headerFits H ≡ x → judged h ns ≡ (if x then good ns else bad badRange)
           unfolding judged
-          judged-as q = ap (λ (x : Bool). if x then right ns else wrong badRange) (fits ∙ q)
+          judged-as q = ap (λ (x : Bool). if x then good ns else bad badRange) (fits ∙ q)
 
-          pub header-range : headerFits H ≡ false → readLine splitSheet (headerLine purpose) (placeAt text c) ≡ stop (SplitRange (c .line + 1))
+          pub header-range : headerFits H ≡ false → readLine splitSheet (headerLine purpose) (placeAt text c) ≡ refuse (SplitRange (c .line + 1))
           unfolding seen
           header-range q =
               next-at splitSheet text (headerLine purpose) c ∙ reads .0
               ∙ shows-range (c .line + 1) (lines (rest text e)) (ap (seen (headerOf h)) (judged-as q))
 
-          pub header-on : headerFits H ≡ true → e .line ≡ d .line + 1 → readLine splitSheet (headerLine purpose) (placeAt text c) ≡ on (H, placeAt text e)
+          pub header-on : headerFits H ≡ true → e .line ≡ d .line + 1 → readLine splitSheet (headerLine purpose) (placeAt text c) ≡ ok (H, placeAt text e)
           unfolding seen
           header-on q l =
               next-at splitSheet text (headerLine purpose) c ∙ reads .0
-              ∙ shows-entry text c e H (ap (seen (headerOf h)) (judged-as q) ∙ ap right told)
+              ∙ shows-entry text c e H (ap (seen (headerOf h)) (judged-as q) ∙ ap good told)
               (l ∙ ap (λ (k : ℕ). k + 1) (comma-kept text c d p comma is))

@@ -5,7 +5,7 @@ use mathlib.Core.Bool.{Bool, false}
 use mathlib.Core.Option.{Option, none, some}
 use Prim.Native.Nat.{ℕ, _+_}
 use lib.ListN.{length}
-use Rattle.spec.specs.Reading.{Out, stop, on, Place, allInRange}
+use Rattle.spec.specs.Reading.{Result, refuse, ok, Place, allInRange}
 use Rattle.spec.specs.Split.{headerRanges, headerOf}
 use Rattle.spec.specs.declared.Header.{Header}
 use Rattle.spec.specs.declared.Heading.{Heading}
@@ -46,6 +46,6 @@ NumbersAnswer text c h found-header.Malformed = numbersAt text c (numeralsOf h) 
 NumbersAnswer text c h (found-header.Read H d) =
     (ns : List ℕ) × (numbersAt text c (numeralsOf h) ≡ some (ns, rest text d)) × (headerOf h ns ≡ H) × Placed text d × (d .line ≡ c .line + 1)
 
-abbrev pub HeaderAnswer : List ℕ → Out (Header × Place) → HeaderLine → Type 0
-HeaderAnswer text out (header-line.Refused r) = out ≡ stop r
-HeaderAnswer text out (header-line.Read h c) = (out ≡ on (h, placeAt text c)) × Placed text c × Small h
+abbrev pub HeaderAnswer : List ℕ → Result (Header × Place) → HeaderLine → Type 0
+HeaderAnswer text out (header-line.Refused r) = out ≡ refuse r
+HeaderAnswer text out (header-line.Read h c) = (out ≡ ok (h, placeAt text c)) × Placed text c × Small h

@@ -10,7 +10,7 @@ use lib.ListN.{length}
 use borrow.Author.Tests.{eq-eqb}
 use Rattle.spec.specs.Choice.{if_then_else_}
 use Rattle.spec.specs.Text.{bytes, Field, digitLimit, digits, leadingZero, value, numeral}
-use Rattle.spec.specs.Reading.{Seen, right, wrong, badForm, badRange, seen, insist, Range, below, inRange, allInRange, withNumeral, numerals, ranged, numbers}
+use Rattle.spec.specs.Reading.{LineResult, good, bad, badForm, badRange, seen, ensure, Range, below, inRange, allInRange, withNumeral, numerals, ranged, numbers}
 use Rattle.spec.specs.Split.{Row, rowOf, startGiven, startRange, mayBeEmpty, emptyFault, postRange, postField, rowLine}
 use Rattle.spec.specs.declared.Header.{Header}
 use Rattle.spec.specs.Words.{takesStart}
@@ -34,7 +34,7 @@ three H w = below (H .types) ∷ below (H .maps) ∷ startRange w H ∷ []
 -- ------------------------------------------------------------------ fields that are no numerals
 
 -- a field that is no numeral
-no-numerals : (rs : List Range) (fs : List Field) → numerals fs ≡ none → numbers rs fs ≡ wrong badForm
+no-numerals : (rs : List Range) (fs : List Field) → numerals fs ≡ none → numbers rs fs ≡ bad badForm
 unfolding numbers ranged
 no-numerals rs fs e = rw e
 
@@ -52,29 +52,29 @@ not-behind f fs e = ap (withNumeral (numeral f)) e ∙ go (numeral f)
 
 module _ (purpose : Purpose) (H : Header) (w : Word) where
   -- a line whose numerals are not, with a start or without
-  two-bad : (f m : Field) → numerals (f ∷ postField purpose m ∷ []) ≡ none → wordLine purpose H w (f ∷ m ∷ [] ∷ []) ≡ wrong badForm
-  unfolding wordLine rowLine seen insist
+  two-bad : (f m : Field) → numerals (f ∷ postField purpose m ∷ []) ≡ none → wordLine purpose H w (f ∷ m ∷ [] ∷ []) ≡ bad badForm
+  unfolding wordLine rowLine seen ensure
   two-bad f m e = rw (no-numerals (below (H .types) ∷ postRange purpose H m ∷ []) (f ∷ postField purpose m ∷ []) e)
 
-  three-bad : (f m : Field) (b : ℕ) (s : Field) → numerals (f ∷ postField purpose m ∷ (b ∷ s) ∷ []) ≡ none → wordLine purpose H w (f ∷ m ∷ (b ∷ s) ∷ []) ≡ wrong badForm
+  three-bad : (f m : Field) (b : ℕ) (s : Field) → numerals (f ∷ postField purpose m ∷ (b ∷ s) ∷ []) ≡ none → wordLine purpose H w (f ∷ m ∷ (b ∷ s) ∷ []) ≡ bad badForm
   unfolding wordLine rowLine seen
   three-bad f m b s e = rw (no-numerals (below (H .types) ∷ postRange purpose H m ∷ startRange w H ∷ []) (f ∷ postField purpose m ∷ (b ∷ s) ∷ []) e)
 
-  pub first-alone : (f : Field) → wordLine purpose H w (f ∷ []) ≡ wrong badForm
+  pub first-alone : (f : Field) → wordLine purpose H w (f ∷ []) ≡ bad badForm
   unfolding wordLine rowLine
   first-alone f = refl
 
   module _ (f : Field) where
-    pub second-alone : (m : Field) → wordLine purpose H w (f ∷ m ∷ []) ≡ wrong badForm
+    pub second-alone : (m : Field) → wordLine purpose H w (f ∷ m ∷ []) ≡ bad badForm
     unfolding wordLine rowLine
     second-alone m = refl
 
-    pub fourth-bad : (m s t : Field) (fs : List Field) → wordLine purpose H w (f ∷ m ∷ s ∷ t ∷ fs) ≡ wrong badForm
+    pub fourth-bad : (m s t : Field) (fs : List Field) → wordLine purpose H w (f ∷ m ∷ s ∷ t ∷ fs) ≡ bad badForm
     unfolding wordLine rowLine
     fourth-bad m s t fs = refl
 
     -- no numeral in front
-    pub first-bad : numeral f ≡ none → (fs : List Field) → wordLine purpose H w (f ∷ fs) ≡ wrong badForm
+    pub first-bad : numeral f ≡ none → (fs : List Field) → wordLine purpose H w (f ∷ fs) ≡ bad badForm
     first-bad e [] = first-alone f
     first-bad e (m ∷ []) = second-alone m
     first-bad e (m ∷ [] ∷ []) = two-bad f m (not-first f (postField purpose m ∷ []) e)
@@ -82,14 +82,14 @@ module _ (purpose : Purpose) (H : Header) (w : Word) where
     first-bad e (m ∷ s ∷ t ∷ fs) = fourth-bad m s t fs
 
     module _ (m : Field) where
-      pub second-bad : numeral (postField purpose m) ≡ none → (fs : List Field) → wordLine purpose H w (f ∷ m ∷ fs) ≡ wrong badForm
+      pub second-bad : numeral (postField purpose m) ≡ none → (fs : List Field) → wordLine purpose H w (f ∷ m ∷ fs) ≡ bad badForm
       second-bad e [] = second-alone m
       second-bad e ([] ∷ []) = two-bad f m (not-behind f (postField purpose m ∷ []) (not-first (postField purpose m) [] e))
       second-bad e ((b ∷ s) ∷ []) = three-bad f m b s (not-behind f (postField purpose m ∷ (b ∷ s) ∷ []) (not-first (postField purpose m) ((b ∷ s) ∷ []) e))
       second-bad e (s ∷ t ∷ fs) = fourth-bad m s t fs
 
       -- neither empty nor a numeral
-      pub third-bad : (s : Field) → numeral s ≡ none → (s ≡ [] → ⊥) → (fs : List Field) → wordLine purpose H w (f ∷ m ∷ s ∷ fs) ≡ wrong badForm
+      pub third-bad : (s : Field) → numeral s ≡ none → (s ≡ [] → ⊥) → (fs : List Field) → wordLine purpose H w (f ∷ m ∷ s ∷ fs) ≡ bad badForm
       third-bad [] e n fs = absurd (n refl)
       third-bad (b ∷ s) e n [] =
           three-bad f m b s (not-behind f (postField purpose m ∷ (b ∷ s) ∷ []) (not-behind (postField purpose m) ((b ∷ s) ∷ []) (not-first (b ∷ s) [] e)))
@@ -97,7 +97,7 @@ module _ (purpose : Purpose) (H : Header) (w : Word) where
 
 -- ------------------------------------------------------------------ fields that are numerals
 
-seen-row : (make : List ℕ → Row) (x : Bool) (ns : List ℕ) → seen make (if x then right ns else wrong badRange) ≡ (if x then right (make ns) else wrong badRange)
+seen-row : (make : List ℕ → Row) (x : Bool) (ns : List ℕ) → seen make (if x then good ns else bad badRange) ≡ (if x then good (make ns) else bad badRange)
 unfolding seen
 seen-row make true ns = refl
 seen-row make false ns = refl
@@ -109,8 +109,8 @@ start-few w n = go (takesStart w)
     go true = omega arith
     go false = omega arith
 
-unfoldable judged : List Range → List ℕ → Seen (List ℕ)
-judged rs ns = if allInRange rs ns then right ns else wrong badRange
+unfoldable judged : List Range → List ℕ → LineResult (List ℕ)
+judged rs ns = if allInRange rs ns then good ns else bad badRange
 
 -- as many numerals as ranges
 all-spelled : (rs : List Range) (fs : List Field) (ns : List ℕ) → AllNarrow rs → numerals fs ≡ some ns → length ns ≡ length rs
@@ -132,7 +132,7 @@ unfolding stored
 zero-stored = refl
 
 -- a second number that is in no range
-second-out : (r₁ r₂ : Range) (rs : List Range) (a b : ℕ) (ns : List ℕ) → inRange r₂ b ≡ false → judged (r₁ ∷ r₂ ∷ rs) (a ∷ b ∷ ns) ≡ wrong badRange
+second-out : (r₁ r₂ : Range) (rs : List Range) (a b : ℕ) (ns : List ℕ) → inRange r₂ b ≡ false → judged (r₁ ∷ r₂ ∷ rs) (a ∷ b ∷ ns) ≡ bad badRange
 unfolding judged allInRange
 second-out r₁ r₂ rs a b ns e = simp (e, and-false)
 
@@ -141,7 +141,7 @@ module _
     (H : Header) (few : (H .types ≤ 64) × (H .maps ≤ 512)) (f : Field) (a b : ℕ) (first : Spells f a)
     (rs : List Range) (narrow : AllNarrow rs) (fs : List Field) (ns : List ℕ) (behind : numerals fs ≡ some ns) (many : length ns ≡ length rs)
   where
-    abbrev handed : Seen (List ℕ)
+    abbrev handed : LineResult (List ℕ)
     handed = judged (below (H .types) ∷ below (H .maps) ∷ rs) (a ∷ b ∷ map stored ns)
 
     with-post : (count : ℕ) → count ≤ 512 → (m : Field) (k : ℕ) → numeral m ≡ some k
@@ -169,19 +169,19 @@ module _
   where
     -- an empty s: form and ranges first, then whether it may be
     pub row-empty : wordLine purpose H w (f ∷ m ∷ [] ∷ [])
-        ≡ insist (mayBeEmpty (H .heading) w) (emptyFault w) (if allInRange (two H) (a ∷ b ∷ []) then right (rowOf none (a ∷ b ∷ [])) else wrong badRange)
+        ≡ ensure (mayBeEmpty (H .heading) w) (emptyFault w) (if allInRange (two H) (a ∷ b ∷ []) then good (rowOf none (a ∷ b ∷ [])) else bad badRange)
     unfolding wordLine rowLine numerals judged
     row-empty =
-        ap (λ (x : Seen (List ℕ)). insist (mayBeEmpty (H .heading) w) (emptyFault w) (seen (rowOf none) x)) (row-handed H few f a b first [] tt [] [] refl refl purpose m second)
-        ∙ ap (insist (mayBeEmpty (H .heading) w) (emptyFault w)) (seen-row (rowOf none) (allInRange (two H) (a ∷ b ∷ [])) (a ∷ b ∷ []))
+        ap (λ (x : LineResult (List ℕ)). ensure (mayBeEmpty (H .heading) w) (emptyFault w) (seen (rowOf none) x)) (row-handed H few f a b first [] tt [] [] refl refl purpose m second)
+        ∙ ap (ensure (mayBeEmpty (H .heading) w) (emptyFault w)) (seen-row (rowOf none) (allInRange (two H) (a ∷ b ∷ [])) (a ∷ b ∷ []))
 
     -- a number
     pub row-given : (s : Field) (n : ℕ) → Spells s n → wordLine purpose H w (f ∷ m ∷ s ∷ [])
-        ≡ (if allInRange (three H w) (a ∷ b ∷ n ∷ []) then right (rowOf (some (record { 0 = n })) (a ∷ b ∷ n ∷ [])) else wrong badRange)
+        ≡ (if allInRange (three H w) (a ∷ b ∷ n ∷ []) then good (rowOf (some (record { 0 = n })) (a ∷ b ∷ n ∷ [])) else bad badRange)
     unfolding wordLine rowLine numerals withNumeral startGiven startRange judged
     row-given [] n third = let z : _≡_ {A = ℕ} 0 1 = unfold numeral in cc in absurd (omega arith)
     row-given (x ∷ s) n (k, e, q) =
         let limit = start-few w (H .maps) in
         ap (seen (λ ns. rowOf (some (startGiven ns)) ns)) (row-handed H few f a b first (startRange w H ∷ []) (omega arith, tt) ((x ∷ s) ∷ []) (k ∷ []) (rw e) refl purpose m second)
         ∙ seen-row (λ ns. rowOf (some (startGiven ns)) ns) (allInRange (three H w) (a ∷ b ∷ stored k ∷ [])) (a ∷ b ∷ stored k ∷ [])
-        ∙ ap (λ (n : ℕ). if allInRange (three H w) (a ∷ b ∷ n ∷ []) then right (rowOf (some (record { 0 = n })) (a ∷ b ∷ n ∷ [])) else wrong badRange) (sym q)
+        ∙ ap (λ (n : ℕ). if allInRange (three H w) (a ∷ b ∷ n ∷ []) then good (rowOf (some (record { 0 = n })) (a ∷ b ∷ n ∷ [])) else bad badRange) (sym q)

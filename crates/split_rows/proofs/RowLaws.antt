@@ -7,7 +7,7 @@ use Prim.Native.Nat.{ℕ, _+_, _≤_, _<_}
 use lib.ListN.{length}
 use Rattle.spec.specs.Choice.{if_then_else_}
 use Rattle.spec.specs.Text.{lines, Field}
-use Rattle.spec.specs.Reading.{splitSheet, Out, stop, Place, Seen, right, wrong, badRange, insist, below, inRange, allInRange, passed, readLine}
+use Rattle.spec.specs.Reading.{splitSheet, Result, refuse, Place, LineResult, good, bad, badRange, ensure, below, inRange, allInRange, passed, readLine}
 use Rattle.spec.specs.Split.{Row, rowOf, startRange, mayBeEmpty, emptyFault}
 use Rattle.spec.specs.declared.Header.{Header}
 use Rattle.spec.specs.declared.Purpose.{Purpose}
@@ -27,12 +27,12 @@ use Rattle.split_fields.proofs.FieldsInTurn.{shown, behind-field, field-wrong, 
 use Rattle.split_fields.proofs.LineLaws.{shows-range, shows-entry, comma-line, comma-placed, comma-kept}
 use Rattle.split_starts.specs.declared.RowStart.{RowStart}
 use Rattle.split_starts.specs.declared.RowStart.the-variants as row-start
-use Rattle.split_starts.specs.Starts.{startTold, emptyRefusal}
+use Rattle.split_starts.specs.Starts.{startDecoded, emptyRefusal}
 use Rattle.split_starts.proofs.StartLaws.{shows-empty}
 use Rattle.split_rows.specs.declared.rows.Row.{Row as RowNumbers}
 use Rattle.split_rows.specs.declared.rows.RowRead.{RowRead}
 use Rattle.split_rows.specs.declared.rows.RowRead.the-variants as row-read
-use Rattle.split_rows.specs.Lines.{rowTold, wordLine, rowMade, startRanged, rowRanged}
+use Rattle.split_rows.specs.Lines.{rowDecoded, wordLine, rowMade, startRanged, rowRanged}
 use Rattle.split_rows.specs.Answers.{RowAnswer}
 use Rattle.split_rows.proofs.RowFields.{two, three, first-alone, second-alone, fourth-bad, first-bad, second-bad, third-bad, row-empty, row-given}
 
@@ -82,10 +82,10 @@ three-tested H w a b n = go (inRange (below (H .types)) a) (inRange (below (H .m
     go false y z = refl
 
 module _ (purpose : Purpose) (H : Header) (w : Word) {text : List ℕ} {c : Cursor} (p : Placed text c) (some-left : 0 < length (rest text c)) where
-  abbrev out : Out (Row × Place)
+  abbrev out : Result (Row × Place)
   out = readLine splitSheet (wordLine purpose H w) (placeAt text c)
 
-  pub row-first : LeadingAnswer text c leading.Malformed → out ≡ stop (SplitForm (c .line + 1))
+  pub row-first : LeadingAnswer text c leading.Malformed → out ≡ refuse (SplitForm (c .line + 1))
   row-first h =
       let f = firstField (rest text c) in
       at-cursor (wordLine purpose H w) text c some-left
@@ -95,7 +95,7 @@ module _ (purpose : Purpose) (H : Header) (w : Word) {text : List ℕ} {c : Curs
       h
 
   module _ {a : ℕ} {c₂ : Cursor} (lead : LeadingAnswer text c (leading.Value a c₂)) where
-    abbrev behind-one : List Field → Seen Row
+    abbrev behind-one : List Field → LineResult Row
     behind-one fs = wordLine purpose H w (firstField (rest text c) ∷ fs)
 
     second-placed : Placed text c₂
@@ -107,7 +107,7 @@ module _ (purpose : Purpose) (H : Header) (w : Word) {text : List ℕ} {c : Curs
         ∙ ap (shown (wordLine purpose H w) (c .line + 1)) (comma-line text c c₂ p (lead .1) (lead .2))
         ∙ behind-field (wordLine purpose H w) (c .line + 1) (firstField (rest text c)) (lineAt (rest text c₂))
 
-    pub row-second : PostAnswer purpose text c₂ leading.Malformed → out ≡ stop (SplitForm (c .line + 1))
+    pub row-second : PostAnswer purpose text c₂ leading.Malformed → out ≡ refuse (SplitForm (c .line + 1))
     row-second h =
         let f = firstField (rest text c) in
         let g = firstField (rest text c₂) in
@@ -118,7 +118,7 @@ module _ (purpose : Purpose) (H : Header) (w : Word) {text : List ℕ} {c : Curs
         h
 
     module _ (b : ℕ) {c₃ : Cursor} (lead₂ : PostAnswer purpose text c₂ (leading.Value b c₃)) where
-      abbrev behind-two : List Field → Seen Row
+      abbrev behind-two : List Field → LineResult Row
       behind-two fs = wordLine purpose H w (firstField (rest text c) ∷ firstField (rest text c₂) ∷ fs)
 
       third-placed : Placed text c₃
@@ -130,7 +130,7 @@ module _ (purpose : Purpose) (H : Header) (w : Word) {text : List ℕ} {c : Curs
           ∙ ap (shown behind-one (c .line + 1)) (comma-line text c₂ c₃ second-placed (lead₂ .1) (lead₂ .2))
           ∙ behind-field behind-one (c .line + 1) (firstField (rest text c₂)) (lineAt (rest text c₃))
 
-      pub row-third : StartAnswer text c₃ start.Malformed → out ≡ stop (SplitForm (c .line + 1))
+      pub row-third : StartAnswer text c₃ start.Malformed → out ≡ refuse (SplitForm (c .line + 1))
       row-third h =
           let f = firstField (rest text c) in
           let g = firstField (rest text c₂) in
@@ -157,22 +157,22 @@ module _ (purpose : Purpose) (H : Header) (w : Word) {text : List ℕ} {c : Curs
             ∙ ap (λ (k : ℕ). k + 1) (comma-kept text c₂ c₃ second-placed (lead₂ .1) (lead₂ .2) ∙ comma-kept text c c₂ p (lead .1) (lead .2))
 
         -- the row, once its numbers are tested
-        given-judged : (row : RowNumbers) (x y : Bool) → behind-two (firstField (rest text c₃) ∷ []) ≡ (if x && y then right (rowTold row) else wrong badRange)
+        given-judged : (row : RowNumbers) (x y : Bool) → behind-two (firstField (rest text c₃) ∷ []) ≡ (if x && y then good (rowDecoded row) else bad badRange)
             → RowAnswer text out (if x then (if y then row-read.Read row d else row-read.Refused (SplitRange (c .line + 1))) else row-read.Refused (SplitRange (c .line + 1)))
-        given-judged row true true e = (row-closed ∙ shows-entry text c d (rowTold row) e last-line, last-placed)
+        given-judged row true true e = (row-closed ∙ shows-entry text c d (rowDecoded row) e last-line, last-placed)
         given-judged row true false e = row-closed ∙ shows-range (c .line + 1) (lines (rest text d)) e
         given-judged row false y e = row-closed ∙ shows-range (c .line + 1) (lines (rest text d)) e
 
-        empty-judged : (row : RowNumbers) (x y : Bool) → behind-two (firstField (rest text c₃) ∷ []) ≡ insist y (emptyFault w) (if x then right (rowTold row) else wrong badRange)
+        empty-judged : (row : RowNumbers) (x y : Bool) → behind-two (firstField (rest text c₃) ∷ []) ≡ ensure y (emptyFault w) (if x then good (rowDecoded row) else bad badRange)
             → RowAnswer text out (if x then (if y then row-read.Read row d else row-read.Refused (emptyRefusal w (c .line + 1))) else row-read.Refused (SplitRange (c .line + 1)))
-        unfolding insist
-        empty-judged row true true e = (row-closed ∙ shows-entry text c d (rowTold row) e last-line, last-placed)
+        unfolding ensure
+        empty-judged row true true e = (row-closed ∙ shows-entry text c d (rowDecoded row) e last-line, last-placed)
         empty-judged row true false e = row-closed ∙ shows-empty (c .line + 1) (lines (rest text d)) w e
         empty-judged row false y e = row-closed ∙ shows-range (c .line + 1) (lines (rest text d)) e
 
       pub row-without : (H .types ≤ 64) × (H .maps ≤ 512) → (d : Cursor) → StartAnswer text c₃ (start.Empty d)
           → (row : RowNumbers) → row ≡ rowMade a b row-start.Empty → (answer : RowRead) → answer ≡ rowRanged (c .line + 1) row w H d → RowAnswer text out answer
-      unfolding rowRanged startRanged rowMade rowTold startTold rowOf
+      unfolding rowRanged startRanged rowMade rowDecoded startDecoded rowOf
       row-without few d h row is answer q =
           let f = firstField (rest text c) in
           let g = firstField (rest text c₂) in
@@ -182,10 +182,10 @@ module _ (purpose : Purpose) (H : Header) (w : Word) {text : List ℕ} {c : Curs
 
       pub row-with-start : (H .types ≤ 64) × (H .maps ≤ 512) → (n : ℕ) (d : Cursor) → StartAnswer text c₃ (start.Given n d)
           → (row : RowNumbers) → row ≡ rowMade a b (row-start.Given (record { 0 = n })) → (answer : RowRead) → answer ≡ rowRanged (c .line + 1) row w H d → RowAnswer text out answer
-      unfolding rowRanged startRanged rowMade rowTold startTold rowOf
+      unfolding rowRanged startRanged rowMade rowDecoded startDecoded rowOf
       row-with-start few n d h row is answer q =
           let made = rowMade a b (row-start.Given (record { 0 = n })) in
           subst (RowAnswer text out) (sym (q ∙ ap (λ (r : RowNumbers). rowRanged (c .line + 1) r w H d) is))
           (given-judged d (h .1) (h .2) made (allInRange (two H) (a ∷ b ∷ [])) (inRange (startRange w H) n)
           (row-given purpose H few w (firstField (rest text c)) (firstField (rest text c₂)) a b (lead .0) (lead₂ .0) (firstField (rest text c₃)) n (h .0)
-          ∙ ap (λ (x : Bool). if x then right (rowTold made) else wrong badRange) (three-tested H w a b n)))
+          ∙ ap (λ (x : Bool). if x then good (rowDecoded made) else bad badRange) (three-tested H w a b n)))

@@ -8,7 +8,7 @@ use native.Mathlib.Omega.{arith}
 use lib.ListN.{length, getD}
 use Rattle.spec.specs.Choice.{if_then_else_}
 use Rattle.spec.specs.Text.{Field, lines}
-use Rattle.spec.specs.Reading.{splitSheet, stop, on, right, wrong, badRange, seen, Range, below, inRange, allInRange, numbers, form, passed, readLine}
+use Rattle.spec.specs.Reading.{splitSheet, refuse, ok, good, bad, badRange, seen, Range, below, inRange, allInRange, numbers, form, passed, readLine}
 use Rattle.spec.specs.Split.{signatureOf, signatureLine}
 use Rattle.spec.specs.declared.Header.{Header}
 use Rattle.spec.specs.declared.Refusal.the-variants.{SplitForm, SplitRange}
@@ -43,7 +43,7 @@ module _ (H : Header) (text : List ℕ) (c : Cursor) where
   unfolding signatureLine
   shows fs = refl
 
-  pub signature-form : 0 < length (rest text c) → numbersAt text c 4 ≡ none → readLine splitSheet (signatureLine H) (placeAt text c) ≡ stop (SplitForm (c .line + 1))
+  pub signature-form : 0 < length (rest text c) → numbersAt text c 4 ≡ none → readLine splitSheet (signatureLine H) (placeAt text c) ≡ refuse (SplitForm (c .line + 1))
   unfolding form seen
   signature-form l e =
       next-at splitSheet text (signatureLine H) c
@@ -52,24 +52,24 @@ module _ (H : Header) (text : List ℕ) (c : Cursor) where
   module _ (few : (H .types ≤ 64) × (H .maps ≤ 512)) (ns : List ℕ) (d : Cursor) (h : LineRead text c 4 ns d) where
     reads : readLine splitSheet (signatureLine H) (placeAt text c)
         ≡ passed splitSheet (c .line + 1) (lines (rest text d))
-        (seen signatureOf (if allInRange (pair H) (getD ns 0 0 ∷ getD ns 1 0 ∷ []) && allInRange (pair H) (getD ns 2 0 ∷ getD ns 3 0 ∷ []) then right ns else wrong badRange))
+        (seen signatureOf (if allInRange (pair H) (getD ns 0 0 ∷ getD ns 1 0 ∷ []) && allInRange (pair H) (getD ns 2 0 ∷ getD ns 3 0 ∷ []) then good ns else bad badRange))
     unfolding numbersFrom
     reads =
         next-at splitSheet text (signatureLine H) c
         ∙ numerals-read splitSheet (signatureLine H) (c .line) (both H) (seen signatureOf) text c shows (omega arith, (omega arith, (omega arith, (omega arith, tt)))) ns (rest text d) (h .numbers)
-        ∙ ap (λ (x : Bool). passed splitSheet (c .line + 1) (lines (rest text d)) (seen signatureOf (if x then right ns else wrong badRange)))
+        ∙ ap (λ (x : Bool). passed splitSheet (c .line + 1) (lines (rest text d)) (seen signatureOf (if x then good ns else bad badRange)))
         (ap (allInRange (both H)) (one-by-one 4 ns (h .long)) ∙ four-tested H (getD ns 0 0) (getD ns 1 0) (getD ns 2 0) (getD ns 3 0))
 
-    pub first-out : allInRange (pair H) (getD ns 0 0 ∷ getD ns 1 0 ∷ []) ≡ false → readLine splitSheet (signatureLine H) (placeAt text c) ≡ stop (SplitRange (c .line + 1))
+    pub first-out : allInRange (pair H) (getD ns 0 0 ∷ getD ns 1 0 ∷ []) ≡ false → readLine splitSheet (signatureLine H) (placeAt text c) ≡ refuse (SplitRange (c .line + 1))
     unfolding seen
     first-out e = reads ∙ shows-range (c .line + 1) (lines (rest text d)) (rw e)
 
     module _ (e : allInRange (pair H) (getD ns 0 0 ∷ getD ns 1 0 ∷ []) ≡ true) where
-      pub second-out : allInRange (pair H) (getD ns 2 0 ∷ getD ns 3 0 ∷ []) ≡ false → readLine splitSheet (signatureLine H) (placeAt text c) ≡ stop (SplitRange (c .line + 1))
+      pub second-out : allInRange (pair H) (getD ns 2 0 ∷ getD ns 3 0 ∷ []) ≡ false → readLine splitSheet (signatureLine H) (placeAt text c) ≡ refuse (SplitRange (c .line + 1))
       unfolding seen
       second-out f = reads ∙ shows-range (c .line + 1) (lines (rest text d)) (rw (e, f))
 
       pub signature-on : allInRange (pair H) (getD ns 2 0 ∷ getD ns 3 0 ∷ []) ≡ true
-          → readLine splitSheet (signatureLine H) (placeAt text c) ≡ on (signatureOf ns, placeAt text d)
+          → readLine splitSheet (signatureLine H) (placeAt text c) ≡ ok (signatureOf ns, placeAt text d)
       unfolding seen
       signature-on f = reads ∙ shows-entry text c d (signatureOf ns) (rw (e, f)) (h .line)

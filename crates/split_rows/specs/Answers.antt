@@ -3,7 +3,7 @@
 use mathlib.Core.Path.{_≡_}
 use mathlib.Core.List.{List}
 use Prim.Native.Nat.{ℕ}
-use Rattle.spec.specs.Reading.{Out, stop, on, Place}
+use Rattle.spec.specs.Reading.{Result, refuse, ok, Place}
 use Rattle.spec.specs.Split.{Row}
 use Rattle.spec.specs.declared.Signature.{Signature}
 use Rattle.lexer.specs.Cursors.{Placed, placeAt}
@@ -15,17 +15,17 @@ use Rattle.split_rows.specs.declared.rows.RowRead.{RowRead}
 use Rattle.split_rows.specs.declared.rows.RowRead.the-variants as row-read
 use Rattle.split_rows.specs.declared.signatures.SignatureRead.{SignatureRead}
 use Rattle.split_rows.specs.declared.signatures.SignatureRead.the-variants as signature-read
-use Rattle.split_rows.specs.Lines.{rowTold}
+use Rattle.split_rows.specs.Lines.{rowDecoded}
 
 -- a cursor where a row or a signature may stand
 pub record AtRow (text : List ℕ) (c : Cursor) (h : Header) : Type 0 where
   pub reading : SplitCursor text c
   pub small : Small h
 
-abbrev pub SignatureAnswer : List ℕ → Out (Signature × Place) → SignatureRead → Type 0
-SignatureAnswer text out (signature-read.Refused r) = out ≡ stop r
-SignatureAnswer text out (signature-read.Read g c) = (out ≡ on (g, placeAt text c)) × Placed text c
+abbrev pub SignatureAnswer : List ℕ → Result (Signature × Place) → SignatureRead → Type 0
+SignatureAnswer text out (signature-read.Refused r) = out ≡ refuse r
+SignatureAnswer text out (signature-read.Read g c) = (out ≡ ok (g, placeAt text c)) × Placed text c
 
-abbrev pub RowAnswer : List ℕ → Out (Row × Place) → RowRead → Type 0
-RowAnswer text out (row-read.Refused r) = out ≡ stop r
-RowAnswer text out (row-read.Read row c) = (out ≡ on (rowTold row, placeAt text c)) × Placed text c
+abbrev pub RowAnswer : List ℕ → Result (Row × Place) → RowRead → Type 0
+RowAnswer text out (row-read.Refused r) = out ≡ refuse r
+RowAnswer text out (row-read.Read row c) = (out ≡ ok (rowDecoded row, placeAt text c)) × Placed text c

@@ -3,7 +3,7 @@ use mathlib.Core.List.{List, [], _∷_}
 use Prim.Native.Nat.{ℕ}
 use Rattle.spec.specs.Choice.{if_then_else_}
 use Rattle.spec.specs.Text.{Field}
-use Rattle.spec.specs.Reading.{Seen, below, inRange, allInRange}
+use Rattle.spec.specs.Reading.{LineResult, below, inRange, allInRange}
 use Rattle.spec.specs.Split.{Row, startRange, mayBeEmpty, rowLine}
 use Rattle.spec.specs.declared.Signature.{Signature}
 use Rattle.spec.specs.declared.Header.{Header}
@@ -13,20 +13,20 @@ use Rattle.spec.specs.declared.Word.{Word}
 use Rattle.lexer.specs.declared.Cursor.{Cursor}
 use Rattle.split_starts.specs.declared.RowStart.{RowStart}
 use Rattle.split_starts.specs.declared.RowStart.the-variants as row-start
-use Rattle.split_starts.specs.Starts.{startTold, emptyRefusal}
+use Rattle.split_starts.specs.Starts.{startDecoded, emptyRefusal}
 use Rattle.split_rows.specs.declared.rows.Row.{Row as RowNumbers}
 use Rattle.split_rows.specs.declared.rows.RowRead.{RowRead}
 use Rattle.split_rows.specs.declared.rows.RowRead.the-variants as row-read
 
 -- ------------------------------------------------------------------ what the code reads, as document 01 has it
 
-unfoldable pub rowTold : RowNumbers → Row
-rowTold r = record { type = r .typed; post = r .post; start = startTold (r .start) }
+unfoldable pub rowDecoded : RowNumbers → Row
+rowDecoded r = record { type = r .typed; post = r .post; start = startDecoded (r .start) }
 
 -- ------------------------------------------------------------------ rows
 
 -- the row of a step with this word
-unfoldable pub wordLine : Purpose → Header → Word → List Field → Seen Row
+unfoldable pub wordLine : Purpose → Header → Word → List Field → LineResult Row
 wordLine purpose H w fs = rowLine purpose H (record { word = w; value = 0; line = 0 }) fs
 
 unfoldable pub rowMade : (typed post : ℕ) → RowStart → RowNumbers

@@ -1,3 +1,3 @@
-pub mod Turns
+pub mod LoopSteps
 pub mod Stores
 pub mod Loops

@@ -3,7 +3,7 @@ use mathlib.Core.Path.{_≡_}
 use mathlib.Core.List.{List, [], map}
 use Prim.Native.Nat.{ℕ, _+_, _*_, _<_, _≤_}
 use lib.ListN.{length, getD, set, replicate}
-use Rattle.spec.specs.Reading.{splitSheet, Out, stop, on, Place, readLines}
+use Rattle.spec.specs.Reading.{splitSheet, Result, refuse, ok, Place, readLines}
 use Rattle.spec.specs.Split.{Map, Row, typeLines, mapLine, signatureLine, rowLine}
 use Rattle.spec.specs.declared.Signature.{Signature}
 use Rattle.spec.specs.declared.Purpose.{Purpose}
@@ -71,12 +71,12 @@ pub record StoringSignatures (text : List ℕ) (c : Cursor) (h : Header) (proced
   pub few : procedures ≤ 16
 
 -- n lines read one after the other: what they say is in the work space
-abbrev pub LinesAnswer : {A : Type 0} → (n : ℕ) → (Stored : List A → Type 0) → List ℕ → Out (List A × Place) → LinesRead → Type 0
-LinesAnswer n Stored text out (lines-read.Refused r) = out ≡ stop r
+abbrev pub LinesAnswer : {A : Type 0} → (n : ℕ) → (Stored : List A → Type 0) → List ℕ → Result (List A × Place) → LinesRead → Type 0
+LinesAnswer n Stored text out (lines-read.Refused r) = out ≡ refuse r
 LinesAnswer n Stored text out (lines-read.Read c) =
-    (entries : List _) × (out ≡ on (entries, placeAt text c)) × (length entries ≡ n) × Stored entries × Placed text c
+    (entries : List _) × (out ≡ ok (entries, placeAt text c)) × (length entries ≡ n) × Stored entries × Placed text c
 
-pub record LinesStored {A : Type 0} (a b n : ℕ) (Stored : List ℕ → List A → Type 0) (text : List ℕ) (out : Out (List A × Place)) (w w′ : List ℕ) (answer : LinesRead) : Type 0 where
+pub record LinesStored {A : Type 0} (a b n : ℕ) (Stored : List ℕ → List A → Type 0) (text : List ℕ) (out : Result (List A × Place)) (w w′ : List ℕ) (answer : LinesRead) : Type 0 where
   pub answered : LinesAnswer n (Stored w′) text out answer
   pub changed : ChangedWithin a b w w′
 

@@ -16,13 +16,13 @@ ghost use Prim.Native.Nat.{_+_, _<_};
 ghost use lib.ListN.{length, set};
 ghost use Rattle.workspace.specs.Layout.{rowTypesAt, postsAt, startsAt, workSize};
 ghost use Rattle.workspace.specs.Holds.{startNumber};
-ghost use Rattle.split_starts.specs.Starts.{startTold};
+ghost use Rattle.split_starts.specs.Starts.{startDecoded};
 ghost use Rattle.split_sections.specs.Stored.{StoringRows, RowsRead};
 
 // Stores a row in the three columns of rows.
 fn store_row(work: &mut [u32], k: usize, row: Row)
     requires { ⌜ (length (now work) ≡ workSize) × (k < 256) ⌝ }
-    ensures { λ _. ⌜ now (work .exit) ≡ set (set (set (now (work .entry)) (rowTypesAt + k) (row .typed .0)) (postsAt + k) (row .post .0)) (startsAt + k) (startNumber (startTold (row .start))) ⌝ }
+    ensures { λ _. ⌜ now (work .exit) ≡ set (set (set (now (work .entry)) (rowTypesAt + k) (row .typed .0)) (postsAt + k) (row .post .0)) (startsAt + k) (startNumber (startDecoded (row .start))) ⌝ }
 {
     let typed = row.typed;
     let post = row.post;

@@ -5,7 +5,7 @@ use mathlib.Core.Bool.{Bool, true, false, not}
 use Prim.Native.Nat.{ℕ}
 use Rattle.spec.specs.Choice.{if_then_else_}
 use Rattle.spec.specs.Text.{Line}
-use Rattle.spec.specs.Reading.{splitSheet, stop, Seen, wrong, noStart, noKept, faulty, passed}
+use Rattle.spec.specs.Reading.{splitSheet, refuse, LineResult, bad, noStart, noKept, faulty, passed}
 use Rattle.spec.specs.Split.{mayBeEmpty, emptyFault}
 use Rattle.spec.specs.Words.{takesStart, keepsBack}
 use Rattle.spec.specs.declared.Heading.{Heading}
@@ -41,10 +41,10 @@ unfolding emptyRefusal
 start-refused w line e = sym (rw e)
 
 -- an empty s that may not be, as the line shows it
-pub shows-empty : {A : Type 0} (k : ℕ) (l : List Line) (w : Word) {s : Seen A} → s ≡ wrong (emptyFault w) → passed splitSheet k l s ≡ stop (emptyRefusal w k)
+pub shows-empty : {A : Type 0} (k : ℕ) (l : List Line) (w : Word) {s : LineResult A} → s ≡ bad (emptyFault w) → passed splitSheet k l s ≡ refuse (emptyRefusal w k)
 unfolding faulty passed emptyFault emptyRefusal
 shows-empty {A = A} k l w e = go (keepsBack w) e
   where
-    go : (x : Bool) {s : Seen A} → s ≡ wrong (if x then noKept else noStart) → passed splitSheet k l s ≡ stop (if x then NoKept k else NoStart k)
+    go : (x : Bool) {s : LineResult A} → s ≡ bad (if x then noKept else noStart) → passed splitSheet k l s ≡ refuse (if x then NoKept k else NoStart k)
     go true e = rw e
     go false e = rw e

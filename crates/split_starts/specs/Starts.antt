@@ -11,9 +11,9 @@ use Rattle.split_starts.specs.declared.RowStart.{RowStart}
 use Rattle.split_starts.specs.declared.RowStart.the-variants as row-start
 
 -- what a row says of its s, as document 01 has it
-unfoldable pub startTold : RowStart → Option MapNumber
-startTold (row-start.Given m) = some m
-startTold row-start.Empty = none
+unfoldable pub startDecoded : RowStart → Option MapNumber
+startDecoded (row-start.Given m) = some m
+startDecoded row-start.Empty = none
 
 -- how many of the maps can be the s of a step with this word
 abbrev pub startLimit : Word → (maps : ℕ) → ℕ

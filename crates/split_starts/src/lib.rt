@@ -10,7 +10,7 @@ ghost use mathlib.Core.Path.{_≡_};
 ghost use Rattle.spec.specs.Split.{mayBeEmpty};
 ghost use Rattle.spec.specs.Words.{takesStart, keepsBack};
 ghost use Rattle.workspace.specs.Holds.{startNumber};
-ghost use Rattle.split_starts.specs.Starts.{startTold, startLimit, emptyRefusal};
+ghost use Rattle.split_starts.specs.Starts.{startDecoded, startLimit, emptyRefusal};
 
 // What a row says of the map that a body starts with or a call keeps back: which, or nothing.
 pub enum RowStart {
@@ -78,7 +78,7 @@ pub fn empty_refusal(word: Word, line: u32) -> Refusal
 
 // The number that stands for a start in the work space.
 pub fn start_number(start: RowStart) -> u32
-    ensures { λ r. ⌜ r ≡ startNumber (startTold start) ⌝ }
+    ensures { λ r. ⌜ r ≡ startNumber (startDecoded start) ⌝ }
 {
     match start {
         RowStart::Given(m) => m.0,

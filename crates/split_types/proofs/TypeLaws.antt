@@ -8,7 +8,7 @@ use native.Mathlib.Omega.{arith}
 use lib.ListN.{length, getD}
 use Rattle.spec.specs.Choice.{if_then_else_}
 use Rattle.spec.specs.Text.{Field, lines}
-use Rattle.spec.specs.Reading.{splitSheet, stop, right, wrong, badForm, badRange, seen, Range, _to_, below, allInRange, numerals, ranged, numbers, form, faulty, passed, nextLine, readLine}
+use Rattle.spec.specs.Reading.{splitSheet, refuse, good, bad, badForm, badRange, seen, Range, _to_, below, allInRange, numerals, ranged, numbers, form, faulty, passed, nextLine, readLine}
 use Rattle.spec.specs.Split.{refOf, lockOf, outRange, tidOf, semOf, rwlockOf, typeLine}
 use Rattle.spec.specs.declared.Header.{Header}
 use Rattle.spec.specs.declared.Heading.{Heading}
@@ -31,7 +31,7 @@ use Rattle.split_types.specs.declared.types.TypeRead.{TypeRead}
 use Rattle.split_types.specs.declared.types.TypeRead.the-variants as type-read
 use Rattle.split_types.specs.declared.types.TypeSeen.{TypeSeen}
 use Rattle.split_types.specs.declared.types.TypeSeen.the-variants as type-seen
-use Rattle.split_types.specs.Lines.{rangedType, lockSeen, typeSeen, typeTold}
+use Rattle.split_types.specs.Lines.{rangedType, lockSeen, typeSeen, typeDecoded}
 use Rattle.split_types.specs.Answers.{TypeAnswer}
 use Rattle.vocabulary.proofs.TypeLines.{ofKind, type-line as kind-line}
 use Rattle.lexer.proofs.Sheets.{next-at}
@@ -47,7 +47,7 @@ out-narrow C2 maps few = omega arith
 out-narrow C3 maps few = omega arith
 
 module _ (H : Header) (own : ℕ) where
-  kind-alone : (k : TypeWord) → ofKind H own [] k ≡ wrong badForm
+  kind-alone : (k : TypeWord) → ofKind H own [] k ≡ bad badForm
   unfolding ofKind seen numbers numerals ranged
   kind-alone kind.Int = refl
   kind-alone kind.Ref = refl
@@ -57,11 +57,11 @@ module _ (H : Header) (own : ℕ) where
   kind-alone kind.Rwlock = refl
   kind-alone kind.Unknown = refl
 
-seen-ranged : (rs : List Range) (f : List ℕ → TypeLine) (ns : List ℕ) → seen f (if allInRange rs ns then right ns else wrong badRange) ≡ typeTold (rangedType rs f ns)
-unfolding seen rangedType typeTold
+seen-ranged : (rs : List Range) (f : List ℕ → TypeLine) (ns : List ℕ) → seen f (if allInRange rs ns then good ns else bad badRange) ≡ typeDecoded (rangedType rs f ns)
+unfolding seen rangedType typeDecoded
 seen-ranged rs f ns = go (allInRange rs ns)
   where
-    go : (x : Bool) → seen f (if x then right ns else wrong badRange) ≡ typeTold (if x then type-seen.Right (f ns) else type-seen.BadRange)
+    go : (x : Bool) → seen f (if x then good ns else bad badRange) ≡ typeDecoded (if x then type-seen.Right (f ns) else type-seen.BadRange)
     go true = refl
     go false = refl
 
@@ -74,7 +74,7 @@ typeAnswer type-seen.BadForm k d = type-read.Refused (SplitForm k)
 typeAnswer type-seen.BadRange k d = type-read.Refused (SplitRange k)
 
 module _ (H : Header) (own : ℕ) (text : List ℕ) (c : Cursor) (some-left : 0 < length (rest text c)) where
-  pub no-comma : (endOf (rest text c) ≡ Comma → ⊥) → readLine splitSheet (typeLine H own) (placeAt text c) ≡ stop (SplitForm (c .line + 1))
+  pub no-comma : (endOf (rest text c) ≡ Comma → ⊥) → readLine splitSheet (typeLine H own) (placeAt text c) ≡ refuse (SplitForm (c .line + 1))
   unfolding form
   no-comma n =
       let f = firstField (rest text c) in
@@ -86,23 +86,23 @@ module _ (H : Header) (own : ℕ) (text : List ℕ) (c : Cursor) (some-left : 0 
     as-kind k e fs = kind-line H own (firstField (rest text c)) fs ∙ ap (ofKind H own fs) e
 
     module _ (rs : List Range) (g : List ℕ → TypeLine) (shows : (fs : List Field) → typeLine H own (firstField (rest text c) ∷ fs) ≡ seen g (numbers rs fs)) where
-      known-form : numbersAt text d (length rs) ≡ none → nextLine splitSheet (typeLine H own) (c .line) (lines (rest text c)) ≡ stop (SplitForm (c .line + 1))
+      known-form : numbersAt text d (length rs) ≡ none → nextLine splitSheet (typeLine H own) (c .line) (lines (rest text c)) ≡ refuse (SplitForm (c .line + 1))
       unfolding form seen
       known-form e =
           tail-form splitSheet (typeLine H own) (c .line) rs (seen g) text c (firstField (rest text c)) d (comma-line text c d p comma is) shows refl some-left e
 
       known-read : AllNarrow rs → (ns r : List ℕ) → numbersAt text d (length rs) ≡ some (ns, r)
-          → nextLine splitSheet (typeLine H own) (c .line) (lines (rest text c)) ≡ passed splitSheet (c .line + 1) (lines r) (typeTold (rangedType rs g ns))
+          → nextLine splitSheet (typeLine H own) (c .line) (lines (rest text c)) ≡ passed splitSheet (c .line + 1) (lines r) (typeDecoded (rangedType rs g ns))
       known-read narrow ns r e =
           tail-read splitSheet (typeLine H own) (c .line) rs (seen g) text c (firstField (rest text c)) d (comma-line text c d p comma is) shows narrow ns r e
           ∙ ap (passed splitSheet (c .line + 1) (lines r)) (seen-ranged rs g ns)
 
-    unknown : typeWordOf (firstField (rest text c)) ≡ kind.Unknown → nextLine splitSheet (typeLine H own) (c .line) (lines (rest text c)) ≡ stop (SplitForm (c .line + 1))
+    unknown : typeWordOf (firstField (rest text c)) ≡ kind.Unknown → nextLine splitSheet (typeLine H own) (c .line) (lines (rest text c)) ≡ refuse (SplitForm (c .line + 1))
     unfolding form ofKind
     unknown e = first-wrong splitSheet (typeLine H own) (c .line) (rest text c) some-left (as-kind kind.Unknown e)
 
     kind-form : (k : TypeWord) → typeWordOf (firstField (rest text c)) ≡ k → numbersAt text d 2 ≡ none
-        → nextLine splitSheet (typeLine H own) (c .line) (lines (rest text c)) ≡ stop (SplitForm (c .line + 1))
+        → nextLine splitSheet (typeLine H own) (c .line) (lines (rest text c)) ≡ refuse (SplitForm (c .line + 1))
     unfolding ofKind
     kind-form kind.Int e n = known-form ((0 to 0) ∷ (0 to 0) ∷ []) (λ ns. type-line.Int) (as-kind kind.Int e) n
     kind-form kind.Ref e n = known-form (below (H .locations) ∷ below own ∷ []) refOf (as-kind kind.Ref e) n
@@ -113,8 +113,8 @@ module _ (H : Header) (own : ℕ) (text : List ℕ) (c : Cursor) (some-left : 0 
     kind-form kind.Unknown e n = unknown e
 
     kind-read : (H .locations ≤ 16) × (H .maps ≤ 512) × (own < 64) → (k : TypeWord) → typeWordOf (firstField (rest text c)) ≡ k → (ns r : List ℕ) → numbersAt text d 2 ≡ some (ns, r)
-        → nextLine splitSheet (typeLine H own) (c .line) (lines (rest text c)) ≡ passed splitSheet (c .line + 1) (lines r) (typeTold (typeSeen k H own ns))
-    unfolding ofKind typeSeen lockSeen typeTold faulty passed form
+        → nextLine splitSheet (typeLine H own) (c .line) (lines (rest text c)) ≡ passed splitSheet (c .line + 1) (lines r) (typeDecoded (typeSeen k H own ns))
+    unfolding ofKind typeSeen lockSeen typeDecoded faulty passed form
     kind-read few kind.Int e ns r n = known-read ((0 to 0) ∷ (0 to 0) ∷ []) (λ ns. type-line.Int) (as-kind kind.Int e) (omega arith, (omega arith, tt)) ns r n
     kind-read few kind.Ref e ns r n = known-read (below (H .locations) ∷ below own ∷ []) refOf (as-kind kind.Ref e) (omega arith, (omega arith, tt)) ns r n
     kind-read few kind.Lock e ns r n = known-read (below (H .maps) ∷ outRange (H .heading) (H .maps) ∷ []) (lockOf (H .heading)) (as-kind kind.Lock e) (omega arith, (out-narrow (H .heading) (H .maps) (few .1), tt)) ns r n
@@ -123,23 +123,23 @@ module _ (H : Header) (own : ℕ) (text : List ℕ) (c : Cursor) (some-left : 0 
     kind-read few kind.Rwlock e ns r n = known-read (below (H .maps) ∷ below (H .maps) ∷ []) rwlockOf (as-kind kind.Rwlock e) (omega arith, (omega arith, tt)) ns r n
     kind-read few kind.Unknown e ns r n = unknown e
 
-    pub type-form : numbersAt text d 2 ≡ none → readLine splitSheet (typeLine H own) (placeAt text c) ≡ stop (SplitForm (c .line + 1))
+    pub type-form : numbersAt text d 2 ≡ none → readLine splitSheet (typeLine H own) (placeAt text c) ≡ refuse (SplitForm (c .line + 1))
     type-form n = next-at splitSheet text (typeLine H own) c ∙ kind-form (typeWordOf (firstField (rest text c))) refl n
 
     -- the word and the numbers are read: what they come to
     module _ (few : (H .locations ≤ 16) × (H .maps ≤ 512) × (own < 64)) (k : TypeWord) (word : k ≡ typeWordOf (firstField (rest text c))) (ns : List ℕ) (e : Cursor) (h : LineRead text d 2 ns e)
         (s : TypeSeen) (told : s ≡ typeSeen k H own (getD ns 0 0 ∷ getD ns 1 0 ∷ [])) where
       reads : readLine splitSheet (typeLine H own) (placeAt text c)
-          ≡ passed splitSheet (c .line + 1) (lines (rest text e)) (typeTold s)
+          ≡ passed splitSheet (c .line + 1) (lines (rest text e)) (typeDecoded s)
       unfolding numbersFrom
       reads =
           next-at splitSheet text (typeLine H own) c ∙ kind-read few k (sym word) ns (rest text e) (h .numbers)
-          ∙ ap (λ (l : List ℕ). passed splitSheet (c .line + 1) (lines (rest text e)) (typeTold (typeSeen k H own l))) (one-by-one 2 ns (h .long))
-          ∙ ap (λ (x : TypeSeen). passed splitSheet (c .line + 1) (lines (rest text e)) (typeTold x)) (sym told)
+          ∙ ap (λ (l : List ℕ). passed splitSheet (c .line + 1) (lines (rest text e)) (typeDecoded (typeSeen k H own l))) (one-by-one 2 ns (h .long))
+          ∙ ap (λ (x : TypeSeen). passed splitSheet (c .line + 1) (lines (rest text e)) (typeDecoded x)) (sym told)
 
       pub type-answered : (x : TypeSeen) → s ≡ x → TypeAnswer text (readLine splitSheet (typeLine H own) (placeAt text c)) (typeAnswer x (c .line + 1) e)
-      unfolding typeTold typeAnswer
+      unfolding typeDecoded typeAnswer
       type-answered (type-seen.Right t) q =
-          (reads ∙ shows-entry text c e t (ap typeTold q) (h .line ∙ ap (λ (k : ℕ). k + 1) (comma-kept text c d p comma is)), h .placed)
-      type-answered type-seen.BadForm q = reads ∙ shows-form (c .line + 1) (lines (rest text e)) (ap typeTold q)
-      type-answered type-seen.BadRange q = reads ∙ shows-range (c .line + 1) (lines (rest text e)) (ap typeTold q)
+          (reads ∙ shows-entry text c e t (ap typeDecoded q) (h .line ∙ ap (λ (k : ℕ). k + 1) (comma-kept text c d p comma is)), h .placed)
+      type-answered type-seen.BadForm q = reads ∙ shows-form (c .line + 1) (lines (rest text e)) (ap typeDecoded q)
+      type-answered type-seen.BadRange q = reads ∙ shows-range (c .line + 1) (lines (rest text e)) (ap typeDecoded q)

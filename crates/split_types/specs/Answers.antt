@@ -3,7 +3,7 @@
 use mathlib.Core.Path.{_≡_}
 use mathlib.Core.List.{List}
 use Prim.Native.Nat.{ℕ, _<_}
-use Rattle.spec.specs.Reading.{Out, stop, on, Place}
+use Rattle.spec.specs.Reading.{Result, refuse, ok, Place}
 use Rattle.spec.specs.Split.{Map}
 use Rattle.spec.specs.declared.TypeLine.{TypeLine}
 use Rattle.lexer.specs.Cursors.{Placed, placeAt}
@@ -22,11 +22,11 @@ pub record AtType (text : List ℕ) (c : Cursor) (h : Header) (own : ℕ) : Type
   pub small : Small h
   pub numbered : own < 64
 
-abbrev pub TypeAnswer : List ℕ → Out (TypeLine × Place) → TypeRead → Type 0
-TypeAnswer text out (type-read.Refused r) = out ≡ stop r
-TypeAnswer text out (type-read.Read t c) = (out ≡ on (t, placeAt text c)) × Placed text c
+abbrev pub TypeAnswer : List ℕ → Result (TypeLine × Place) → TypeRead → Type 0
+TypeAnswer text out (type-read.Refused r) = out ≡ refuse r
+TypeAnswer text out (type-read.Read t c) = (out ≡ ok (t, placeAt text c)) × Placed text c
 
 -- a map line, with what its lent slice holds afterwards: its numbers, or whatever a refused line leaves
-abbrev pub MapAnswer : List ℕ → (into : List ℕ) → Out (Map × Place) → LinesRead → Type 0
-MapAnswer text into out (lines-read.Refused r) = out ≡ stop r
-MapAnswer text into out (lines-read.Read c) = (out ≡ on (into, placeAt text c)) × Placed text c
+abbrev pub MapAnswer : List ℕ → (into : List ℕ) → Result (Map × Place) → LinesRead → Type 0
+MapAnswer text into out (lines-read.Refused r) = out ≡ refuse r
+MapAnswer text into out (lines-read.Read c) = (out ≡ ok (into, placeAt text c)) × Placed text c

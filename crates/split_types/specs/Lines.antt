@@ -4,7 +4,7 @@ use Prim.Native.Nat.{ℕ}
 use lib.ListN.{replicate}
 use Rattle.spec.specs.Choice.{if_then_else_}
 use Rattle.spec.specs.Text.{Field}
-use Rattle.spec.specs.Reading.{Seen, right, wrong, badForm, badRange, Range, _to_, below, allInRange, numbers}
+use Rattle.spec.specs.Reading.{LineResult, good, bad, badForm, badRange, Range, _to_, below, allInRange, numbers}
 use Rattle.spec.specs.Split.{Map, refOf, lockOf, outRange, tidOf, semOf, rwlockOf}
 use Rattle.spec.specs.declared.Header.{Header}
 use Rattle.spec.specs.declared.Heading.{Heading}
@@ -33,10 +33,10 @@ typeSeen kind.Sem H own ns = rangedType (below (H .maps) ∷ (0 to 0) ∷ []) se
 typeSeen kind.Rwlock H own ns = rangedType (below (H .maps) ∷ below (H .maps) ∷ []) rwlockOf ns
 typeSeen kind.Unknown H own ns = type-seen.BadForm
 
-unfoldable pub typeTold : TypeSeen → Seen TypeLine
-typeTold (type-seen.Right t) = right t
-typeTold type-seen.BadForm = wrong badForm
-typeTold type-seen.BadRange = wrong badRange
+unfoldable pub typeDecoded : TypeSeen → LineResult TypeLine
+typeDecoded (type-seen.Right t) = good t
+typeDecoded type-seen.BadForm = bad badForm
+typeDecoded type-seen.BadRange = bad badRange
 
 -- ------------------------------------------------------------------ maps
 
@@ -45,5 +45,5 @@ unfoldable pub cells : ℕ → List Range
 cells n = replicate n (0 to 1000000000)
 
 -- a line of so many numbers of a map
-unfoldable pub cellLine : ℕ → List Field → Seen Map
+unfoldable pub cellLine : ℕ → List Field → LineResult Map
 cellLine n fs = numbers (cells n) fs

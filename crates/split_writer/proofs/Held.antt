@@ -32,10 +32,10 @@ in-order-entries f (x ∷ xs) d i (suc n) l e =
     λ k. here k ∷ behind k
 
 -- the number of a start that is a map, or of the empty map
-start-told : (o : Option MapNumber) → ((m : MapNumber) → o ≡ some m → m .0 < emptyMap) → startStored (startNumber o) ≡ o
+start-decodes : (o : Option MapNumber) → ((m : MapNumber) → o ≡ some m → m .0 < emptyMap) → startStored (startNumber o) ≡ o
 unfolding startStored startNumber
-start-told none few = refl
-start-told (some m) few = rw (ne-eqb (m .0) emptyMap (λ e. omega (arith, few m refl)))
+start-decodes none few = refl
+start-decodes (some m) few = rw (ne-eqb (m .0) emptyMap (λ e. omega (arith, few m refl)))
 
 module _ {w : List ℕ} {header : Header} {procedures steps : ℕ} {S : Split} (K : HoldsSheet w header procedures steps S) where
   type-held : (t : ℕ) → t < length (S .types) → typeStored w t ≡ getD (S .types) t Int
@@ -71,7 +71,7 @@ module _ {w : List ℕ} {header : Header} {procedures steps : ℕ} {S : Split} (
       let number = column w startsAt (λ (q : Row). startNumber (q .start)) (S .rows) noRow i (K .split .starts) h in
       let few : (m : MapNumber) → r .start ≡ some m → m .0 < emptyMap =
       λ m e. omega (arith, K .inRange .rowStart i noRow m h e, K .inRange .mapsCounted, K .inRange .mapsFew) in
-      let start = ap startStored number ∙ start-told (r .start) few in
+      let start = ap startStored number ∙ start-decodes (r .start) few in
       λ k. record { type = record { 0 = typed k }; post = record { 0 = left k }; start = start k }
 
   pub split-held : splitIn header procedures steps w ≡ S

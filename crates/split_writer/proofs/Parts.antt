@@ -19,7 +19,7 @@ use Rattle.spec.specs.declared.TypeLine.{TypeLine}
 use Rattle.spec.specs.declared.TypeLine.the-variants.{Int, Ref, Lock, Tid, Sem, Rwlock}
 use Rattle.workspace.specs.Layout.{rowTypesAt, postsAt, startsAt, sigBeforesAt, sigArgumentsAt, sigAftersAt, sigResultsAt, mapsAt, stride, emptyMap}
 use Rattle.written.specs.Text.{decimal, line, text}
-use Rattle.written.specs.Sheet.{headingName, headerNumbers, headerFields, outNumber, typeFields, mapFields, signatureFields, postShown, startShown, rowFields, splitLines, written}
+use Rattle.written.specs.Sheet.{headingName, headerNumbers, headerFields, outNumber, typeFields, mapFields, signatureFields, postShown, startShown, rowFields, splitLines, sheetText}
 use Rattle.written.proofs.Lines.{text-append}
 use Rattle.split_writer.specs.Stored.{inOrder, typeStored, mapIn, signatureIn, startStored, rowIn, splitIn}
 
@@ -121,11 +121,11 @@ module _ (w : List ℕ) (i : ℕ) {t m s : ℕ} (typed : t ≡ getD w (rowTypesA
 
 -- ------------------------------------------------------------------ the sheet
 
-pub sheet-parts : (H : Header) (procedures steps : ℕ) (w : List ℕ) → written (splitIn H procedures steps w)
+pub sheet-parts : (H : Header) (procedures steps : ℕ) (w : List ℕ) → sheetText (splitIn H procedures steps w)
     ≡ text (headerFields H ∷ []) ++ (text (map (typeFields (H .heading)) (inOrder (typeStored w) 0 (H .types)))
     ++ (text (map mapFields (inOrder (mapIn (H .locations) w) 0 (H .maps)))
     ++ (text (map signatureFields (inOrder (signatureIn w) 0 procedures)) ++ text (map (rowFields Check) (inOrder (rowIn w) 0 steps)))))
-unfolding written splitLines splitIn
+unfolding sheetText splitLines splitIn
 sheet-parts H procedures steps w =
     let T = map (typeFields (H .heading)) (inOrder (typeStored w) 0 (H .types)) in
     let M = map mapFields (inOrder (mapIn (H .locations) w) 0 (H .maps)) in

@@ -8,8 +8,8 @@ use Rattle.spec.specs.Split.{Split}
 use Rattle.spec.specs.Ranges.{InRange}
 use Rattle.workspace.specs.Holds.{HoldsSplit}
 use Rattle.spec.specs.declared.Header.{Header}
-use Rattle.writer.specs.Buffer.{Written}
-use Rattle.written.specs.Sheet.{written}
+use Rattle.writer.specs.Buffer.{WrittenAt}
+use Rattle.written.specs.Sheet.{sheetText}
 
 -- the work space w holds the split S, its numbers in range, with this header, a line for each of so many procedures and a row for each
 -- of so many steps
@@ -29,4 +29,4 @@ pub record HoldsSome (w : List ℕ) (header : Header) (procedures steps : ℕ) :
 
 -- the sheet of whichever split the work space holds is written at the front of the buffer, and the answer is its length
 unfoldable pub SheetWritten : (w : List ℕ) (header : Header) (procedures steps : ℕ) (before after : List ℕ) (answer : ℕ) → Type 0
-SheetWritten w header procedures steps before after answer = (S : Split) → HoldsSheet w header procedures steps S → Written before after 0 (written S) answer
+SheetWritten w header procedures steps before after answer = (S : Split) → HoldsSheet w header procedures steps S → WrittenAt before after 0 (sheetText S) answer

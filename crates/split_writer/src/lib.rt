@@ -25,7 +25,7 @@ ghost use Prim.Native.Nat.{_*_, _+_, _≤_, _<_};
 ghost use lib.ListN.{length};
 ghost use Rattle.workspace.specs.Layout.{startsAt, mapsAt, stride};
 ghost use Rattle.written.specs.Text.{decimal, line, text};
-ghost use Rattle.writer.specs.Buffer.{Written};
+ghost use Rattle.writer.specs.Buffer.{WrittenAt};
 ghost use Rattle.written.specs.Sheet.{headerFields, outNumber, typeFields, mapFields, signatureFields, rowFields};
 ghost use Rattle.spec.specs.declared.Purpose.the-variants.{Check};
 ghost use Rattle.split_writer.specs.Stored.{inOrder, typeStored, mapIn, signatureIn, rowIn};
@@ -34,7 +34,7 @@ ghost use Rattle.split_writer.specs.Contract.{HoldsSome, SheetWritten};
 // Writes the header.
 fn write_header(buffer: &mut [u8], header: Header) -> usize
     requires { ⌜ (header .locations < 4294967296) × (header .types < 4294967296) × (header .maps < 4294967296) ⌝ }
-    ensures { λ r. ⌜ Written (now (buffer .entry)) (now (buffer .exit)) 0 (text (headerFields header ∷ [])) r ⌝ }
+    ensures { λ r. ⌜ WrittenAt (now (buffer .entry)) (now (buffer .exit)) 0 (text (headerFields header ∷ [])) r ⌝ }
 {
     let locations = header.locations as u32;
     let types = header.types as u32;
@@ -77,7 +77,7 @@ fn out_number(heading: Heading, out: MapNumber) -> u32
 
 // Writes a type line by its parts: its word with the comma, and two numbers.
 fn write_word(buffer: &mut [u8], at: usize, word: &[u8], first: u32, second: u32) -> usize
-    ensures { λ r. ⌜ Written (now (buffer .entry)) (now (buffer .exit)) at (now (word .entry) ++ line (map decimal (first ∷ second ∷ [])) []) r ⌝ }
+    ensures { λ r. ⌜ WrittenAt (now (buffer .entry)) (now (buffer .exit)) at (now (word .entry) ++ line (map decimal (first ∷ second ∷ [])) []) r ⌝ }
 {
     let named = write_bytes(buffer, at, word);
     write_numbers(buffer, named, &[first, second])
@@ -85,7 +85,7 @@ fn write_word(buffer: &mut [u8], at: usize, word: &[u8], first: u32, second: u32
 
 // Writes a type line of a sheet with this heading.
 fn write_type(buffer: &mut [u8], at: usize, heading: Heading, of: TypeLine) -> usize
-    ensures { λ r. ⌜ Written (now (buffer .entry)) (now (buffer .exit)) at (text (typeFields heading of ∷ [])) r ⌝ }
+    ensures { λ r. ⌜ WrittenAt (now (buffer .entry)) (now (buffer .exit)) at (text (typeFields heading of ∷ [])) r ⌝ }
 {
     match of {
         TypeLine::Int => write_word(buffer, at, b"int,", 0, 0),
@@ -103,7 +103,7 @@ fn write_type(buffer: &mut [u8], at: usize, heading: Heading, of: TypeLine) -> u
 // Writes the lines of so many types of a sheet with this heading.
 fn write_types(buffer: &mut [u8], at: usize, work: &[u32], heading: Heading, types: usize) -> usize
     requires { ⌜ types < 4294967296 ⌝ }
-    ensures { λ r. ⌜ Written (now (buffer .entry)) (now (buffer .exit)) at (text (map (typeFields heading) (inOrder (typeStored (now (work .entry))) 0 types))) r ⌝ }
+    ensures { λ r. ⌜ WrittenAt (now (buffer .entry)) (now (buffer .exit)) at (text (map (typeFields heading) (inOrder (typeStored (now (work .entry))) 0 types))) r ⌝ }
 {
     let mut to = at;
     let mut t = 0;
@@ -119,7 +119,7 @@ fn write_types(buffer: &mut [u8], at: usize, work: &[u32], heading: Heading, typ
 // Writes the lines of so many maps, each with a number for each location.
 fn write_maps(buffer: &mut [u8], at: usize, work: &[u32], locations: usize, maps: usize) -> usize
     requires { ⌜ (1 ≤ locations) × (locations ≤ 16) × (mapsAt + stride * maps ≤ length (now work)) ⌝ }
-    ensures { λ r. ⌜ Written (now (buffer .entry)) (now (buffer .exit)) at (text (map mapFields (inOrder (mapIn locations (now (work .entry))) 0 maps))) r ⌝ }
+    ensures { λ r. ⌜ WrittenAt (now (buffer .entry)) (now (buffer .exit)) at (text (map mapFields (inOrder (mapIn locations (now (work .entry))) 0 maps))) r ⌝ }
 {
     let mut to = at;
     let mut m = 0;
@@ -135,7 +135,7 @@ fn write_maps(buffer: &mut [u8], at: usize, work: &[u32], locations: usize, maps
 // Writes the line of a procedure.
 fn write_signature(buffer: &mut [u8], at: usize, work: &[u32], f: usize) -> usize
     requires { ⌜ f < 4294967296 ⌝ }
-    ensures { λ r. ⌜ Written (now (buffer .entry)) (now (buffer .exit)) at (text (signatureFields (signatureIn (now (work .entry)) f) ∷ [])) r ⌝ }
+    ensures { λ r. ⌜ WrittenAt (now (buffer .entry)) (now (buffer .exit)) at (text (signatureFields (signatureIn (now (work .entry)) f) ∷ [])) r ⌝ }
 {
     let before = MapNumber(workspace::at(work, SIG_BEFORES + f));
     let argument = TypeNumber(workspace::at(work, SIG_ARGUMENTS + f));
@@ -147,7 +147,7 @@ fn write_signature(buffer: &mut [u8], at: usize, work: &[u32], f: usize) -> usiz
 // Writes the lines of so many procedures.
 fn write_signatures(buffer: &mut [u8], at: usize, work: &[u32], procedures: usize) -> usize
     requires { ⌜ procedures < 4294967296 ⌝ }
-    ensures { λ r. ⌜ Written (now (buffer .entry)) (now (buffer .exit)) at (text (map signatureFields (inOrder (signatureIn (now (work .entry))) 0 procedures))) r ⌝ }
+    ensures { λ r. ⌜ WrittenAt (now (buffer .entry)) (now (buffer .exit)) at (text (map signatureFields (inOrder (signatureIn (now (work .entry))) 0 procedures))) r ⌝ }
 {
     let mut to = at;
     let mut f = 0;
@@ -161,7 +161,7 @@ fn write_signatures(buffer: &mut [u8], at: usize, work: &[u32], procedures: usiz
 // Writes the row of a step.
 fn write_row(buffer: &mut [u8], at: usize, work: &[u32], step: usize) -> usize
     requires { ⌜ startsAt + step < length (now work) ⌝ }
-    ensures { λ r. ⌜ Written (now (buffer .entry)) (now (buffer .exit)) at (text (rowFields Check (rowIn (now (work .entry)) step) ∷ [])) r ⌝ }
+    ensures { λ r. ⌜ WrittenAt (now (buffer .entry)) (now (buffer .exit)) at (text (rowFields Check (rowIn (now (work .entry)) step) ∷ [])) r ⌝ }
 {
     let of = TypeNumber(workspace::at(work, ROW_TYPES + step));
     let post = MapNumber(workspace::at(work, POSTS + step));
@@ -177,7 +177,7 @@ fn write_row(buffer: &mut [u8], at: usize, work: &[u32], step: usize) -> usize
 // Writes the rows of so many steps.
 fn write_rows(buffer: &mut [u8], at: usize, work: &[u32], steps: usize) -> usize
     requires { ⌜ startsAt + steps ≤ length (now work) ⌝ }
-    ensures { λ r. ⌜ Written (now (buffer .entry)) (now (buffer .exit)) at (text (map (rowFields Check) (inOrder (rowIn (now (work .entry))) 0 steps))) r ⌝ }
+    ensures { λ r. ⌜ WrittenAt (now (buffer .entry)) (now (buffer .exit)) at (text (map (rowFields Check) (inOrder (rowIn (now (work .entry))) 0 steps))) r ⌝ }
 {
     let mut to = at;
     let mut step = 0;

@@ -5,13 +5,13 @@ use mathlib.Core.Bool.{true, false}
 use mathlib.Core.List.{List, [], _∷_, _++_}
 use mathlib.Core.Option.{none, some}
 use Prim.Native.Nat.{ℕ, _+_}
-use Rattle.spec.specs.Reading.{on, _>>=_}
+use Rattle.spec.specs.Reading.{ok, _>>=_}
 use Rattle.spec.specs.Expression.{Expr, leaf, unary, binary, Procedure}
 use Rattle.spec.specs.Split.{Map, Split}
 use Rattle.spec.specs.declared.Signature.{Signature}
 use Rattle.spec.specs.Conditions.{Condition, T, F, A, Env, conditionsBy, conditionsOf, procedureConditions}
-use Rattle.spec.specs.Sites.{NumberedCondition, numbered, judge, firstFalse, isType, only}
-use Rattle.spec.specs.Verdict.{four, returned}
+use Rattle.spec.specs.StepContexts.{NumberedCondition, numbered, judge, firstFalse, isType, only}
+use Rattle.spec.specs.Verdict.{numbers4, returned}
 use Rattle.spec.specs.declared.Purpose.{Purpose}
 use Rattle.spec.specs.declared.Purpose.the-variants.{Check, Fill}
 use Rattle.spec.specs.declared.LeafWord.the-variants.{Var, Int, Newtid, Newlock, Newsem, Newrwlock}
@@ -85,8 +85,8 @@ module _ (line : ℕ) where
   no-types-asked i (F o ∷ cs) h = no-types-asked (i + 1) cs h
   no-types-asked i (A b p ∷ cs) h = no-types-asked (i + 1) cs h
 
-  no-types-counted : (i : ℕ) (cs : List Condition) → NoTypes cs → onTypes (firstFalseFrom line i cs) ≡ on tt
-  unfolding NoTypes refusesTypes onTypes firstFalseFrom numbered firstFalse judge _>>=_ returned four
+  no-types-counted : (i : ℕ) (cs : List Condition) → NoTypes cs → onTypes (firstFalseFrom line i cs) ≡ ok tt
+  unfolding NoTypes refusesTypes onTypes firstFalseFrom numbered firstFalse judge _>>=_ returned numbers4
   no-types-counted i [] h = refl
   no-types-counted i (T b ∷ cs) h = absurd h
   no-types-counted i (F none ∷ cs) h = no-types-counted (i + 1) cs h
@@ -95,7 +95,7 @@ module _ (line : ℕ) where
   no-types-counted i (A false p ∷ cs) h = refl
 
   types-counted : (i : ℕ) (cs : List Condition) → TypesFirst cs → onTypes (firstFalseFrom line i cs) ≡ firstFalse (only isType (numbered line i cs))
-  unfolding TypesFirst refusesTypes onTypes firstFalseFrom numbered firstFalse judge only isType _>>=_ returned four
+  unfolding TypesFirst refusesTypes onTypes firstFalseFrom numbered firstFalse judge only isType _>>=_ returned numbers4
   types-counted i [] h = refl
   types-counted i (T true ∷ cs) h = types-counted (i + 1) cs h
   types-counted i (T false ∷ cs) h = refl

@@ -2,7 +2,7 @@
 use mathlib.Core.Path.{_≡_, refl, sym}
 use mathlib.Core.Bool.{Bool, true, false}
 use Rattle.spec.specs.Choice.{if_then_else_}
-use Rattle.spec.specs.Reading.{Out, stop, on, _>>=_}
+use Rattle.spec.specs.Reading.{Result, refuse, ok, _>>=_}
 use Rattle.spec.specs.declared.Purpose.{Purpose}
 use Rattle.spec.specs.declared.Purpose.the-variants.{Check, Fill}
 use Rattle.spec.specs.declared.Refusal.{Refusal}
@@ -11,16 +11,16 @@ use Rattle.conditions.specs.Outcome.{both}
 use Rattle.step_walk.specs.Walk.{refusesTypes, onTypes, counted, stops}
 
 -- conditions that are met refuse nothing
-pub met-stops-nothing : (purpose : Purpose) → false ≡ stops (counted purpose (on tt))
+pub met-stops-nothing : (purpose : Purpose) → false ≡ stops (counted purpose (ok tt))
 unfolding counted stops onTypes
 met-stops-nothing Check = refl
 met-stops-nothing Fill = refl
 
 -- a refusal that counts or does not: when filling, one on types does
-abbrev countedIf : Bool → Refusal → Out (Unit {0})
-countedIf s r = if s then stop r else on tt
+abbrev countedIf : Bool → Refusal → Result (Unit {0})
+countedIf s r = if s then refuse r else ok tt
 
-pub types-stop : (r : Refusal) → refusesTypes r ≡ stops (onTypes (stop r))
+pub types-stop : (r : Refusal) → refusesTypes r ≡ stops (onTypes (refuse r))
 unfolding onTypes
 types-stop r = either (refusesTypes r)
   where
@@ -28,20 +28,20 @@ types-stop r = either (refusesTypes r)
     either true = unfold stops in refl
     either false = unfold stops in refl
 
-stays : (r : Refusal) (s : Bool) → stops (countedIf s r) ≡ true → countedIf s r ≡ stop r
+stays : (r : Refusal) (s : Bool) → stops (countedIf s r) ≡ true → countedIf s r ≡ refuse r
 unfolding stops
 stays r true h = refl
 stays r false h = true-is-not-false (sym h)
 
 -- an outcome that counts as a refusal is the first of two, one that does not is not
-pub refusal-stops : (purpose : Purpose) (o b : Out (Unit {0})) → stops (counted purpose o) ≡ true → both (counted purpose o) b ≡ o
+pub refusal-stops : (purpose : Purpose) (o b : Result (Unit {0})) → stops (counted purpose o) ≡ true → both (counted purpose o) b ≡ o
 unfolding counted stops both onTypes _>>=_
-refusal-stops Check (stop r) b h = refl
-refusal-stops Check (on a) b h = true-is-not-false (sym h)
-refusal-stops Fill (stop r) b h = rw (stays r (refusesTypes r) h)
-refusal-stops Fill (on a) b h = true-is-not-false (sym h)
+refusal-stops Check (refuse r) b h = refl
+refusal-stops Check (ok a) b h = true-is-not-false (sym h)
+refusal-stops Fill (refuse r) b h = rw (stays r (refusesTypes r) h)
+refusal-stops Fill (ok a) b h = true-is-not-false (sym h)
 
-pub no-refusal-goes-on : (o b : Out (Unit {0})) → stops o ≡ false → both o b ≡ b
+pub no-refusal-goes-on : (o b : Result (Unit {0})) → stops o ≡ false → both o b ≡ b
 unfolding stops both _>>=_
-no-refusal-goes-on (stop r) b h = true-is-not-false h
-no-refusal-goes-on (on a) b h = refl
+no-refusal-goes-on (refuse r) b h = true-is-not-false h
+no-refusal-goes-on (ok a) b h = refl

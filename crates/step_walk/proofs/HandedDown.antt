@@ -10,7 +10,7 @@ use Rattle.spec.specs.Program.{Program}
 use Rattle.spec.specs.Split.{Map, Split}
 use Rattle.spec.specs.Conditions.{Env, post, bodyStart}
 use Rattle.spec.specs.Words.{preOfPart, preOfSecond}
-use Rattle.spec.specs.Sites.{claimsAt}
+use Rattle.spec.specs.StepContexts.{claimsAt}
 use Rattle.spec.specs.Ranges.{InRange}
 use Rattle.spec.specs.declared.MapNumber.{MapNumber}
 use Rattle.spec.specs.declared.Purpose.{Purpose}

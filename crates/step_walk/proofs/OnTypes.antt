@@ -6,7 +6,7 @@ use Prim.Native.Nat.{ℕ}
 use types.Run.{OneOf, miss}
 use denote.Enum.Declared.{tagOf}
 use Rattle.spec.proofs.Refusal as refusal
-use Rattle.spec.specs.Verdict.{four, returned}
+use Rattle.spec.specs.Verdict.{numbers4, returned}
 use Rattle.spec.specs.declared.Refusal.{Refusal}
 use Rattle.spec.specs.declared.Refusal.the-variants.{ShortWorkspace, LongProgram, ProgramForm, ProgramRange, ProgramLines, Unbound, Rebound, LongSplit, SplitForm, SplitRange, SplitLines, NoStart, OverOne, TypeFalse, FlowFalse, AccessFalse, NoAfterMaps, TooLarge, TooManyMaps, LockTakesLess, Freelock, NoProcedure, NoKept}
 use Rattle.step_walk.specs.Walk.{refusesTypes}
@@ -16,7 +16,7 @@ abbrev others : List ℕ
 others = 0 ∷ 1 ∷ 2 ∷ 3 ∷ 4 ∷ 5 ∷ 6 ∷ 7 ∷ 8 ∷ 9 ∷ 10 ∷ 11 ∷ 12 ∷ 14 ∷ 15 ∷ 16 ∷ 17 ∷ 18 ∷ 19 ∷ 20 ∷ 21 ∷ 22 ∷ []
 
 pub not-on-types : (r : Refusal) → OneOf others (tagOf refusal.the-type r) → refusesTypes r ≡ false
-unfolding refusesTypes returned four
+unfolding refusesTypes returned numbers4
 not-on-types ShortWorkspace h = refl
 not-on-types LongProgram h = refl
 not-on-types (ProgramForm k) h = refl

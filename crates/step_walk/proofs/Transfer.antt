@@ -7,13 +7,13 @@ use mathlib.Core.List.{List}
 use Prim.Native.Nat.{ℕ, suc, _+_, _<_, _≤_}
 use native.Mathlib.Omega.{arith}
 use lib.ListN.{length}
-use Rattle.spec.specs.Reading.{Out}
+use Rattle.spec.specs.Reading.{Result}
 use Rattle.spec.specs.Expression.{Position, Expr, leaf, unary, binary, size, indexOf}
 use Rattle.spec.specs.Program.{Program}
 use Rattle.spec.specs.Split.{Map, Row, Split}
 use Rattle.spec.specs.Conditions.{Env, type, post, bodyStart}
 use Rattle.spec.specs.Words.{role, binding, preOfPart, preOfSecond}
-use Rattle.spec.specs.Sites.{sites, claims}
+use Rattle.spec.specs.StepContexts.{stepContexts, claims}
 use Rattle.spec.specs.Ranges.{InRange}
 use Rattle.spec.specs.declared.MapNumber.{MapNumber}
 use Rattle.spec.specs.declared.Purpose.{Purpose}
@@ -40,7 +40,7 @@ use Rattle.step_walk.proofs.Claims.{firstAsked, claims-first, claims-on
 use Rattle.step_walk.proofs.HandedDown.{preNumber, partNumber, secondNumber, step-counted, leaf-passes, unary-passes, binary-passes, part-stands, second-stands}
 
 -- the walk over the steps of a program, with its split's locations and denominator
-abbrev walkOf : Purpose → Split → List ℕ → (k n : ℕ) → Out (Unit {0})
+abbrev walkOf : Purpose → Split → List ℕ → (k n : ℕ) → Result (Unit {0})
 walkOf purpose S w k n = walk purpose (S .header .locations) (S .header .denominator) w k n
 
 -- ------------------------------------------------------------------ the walk through an expression
@@ -51,7 +51,7 @@ module _ (purpose : Purpose) (S : Split) (P : Program) (R : InRange P S) (few : 
     pub after : List ℕ
     pub changed : ChangedWithin presAt (presAt + (k + size e)) w after
     pub walks : walkOf purpose S w k (size e + m)
-        ≡ both (firstAsked purpose (claims S (sites S Γ pre e))) (walkOf purpose S after (k + size e) m)
+        ≡ both (firstAsked purpose (claims S (stepContexts S Γ pre e))) (walkOf purpose S after (k + size e) m)
 
   walk-first : (w : List ℕ) (k n m : ℕ) → n ≡ suc m
       → walkOf purpose S w k n
@@ -93,7 +93,7 @@ module _ (purpose : Purpose) (S : Split) (P : Program) (R : InRange P S) (few : 
 
       unary-walked : (m : ℕ) → Walked (passOn w k) (k + 1) m Γ (preOfPart x pre (post S (unary x l v e₁))) e₁
           → Walked w k m Γ pre (unary x l v e₁)
-      unfolding size sites
+      unfolding size stepContexts
       unary-walked m t = record {
         after = t .after;
         changed =
@@ -162,7 +162,7 @@ module _ (purpose : Purpose) (S : Split) (P : Program) (R : InRange P S) (few : 
       binary-walked : (m : ℕ) (t : Walked (passOn w k) (k + 1) (size e₂ + m) Γ pre e₁)
           → Walked (t .after) (k + 1 + size e₁) m Γ₂ pre₂ e₂
           → Walked w k m Γ pre (binary x l v e₁ e₂)
-      unfolding size sites
+      unfolding size stepContexts
       binary-walked m t u = record {
         after = u .after;
         changed =
@@ -187,7 +187,7 @@ module _ (purpose : Purpose) (S : Split) (P : Program) (R : InRange P S) (few : 
 
   walked : {w : List ℕ} {k : ℕ} {inside : List (ℕ × ℕ)} {vars : List ℕ} {Γ : Env} {pre : Map} (e : Expr) (m : ℕ)
       → Ready S P R few w k inside vars Γ pre e → Walked w k m Γ pre e
-  unfolding size sites
+  unfolding size stepContexts
   walked {w} {k} {inside} {vars} {Γ} {pre} (leaf x l v) m r = record {
     after = w;
     changed = changed-nothing presAt _ w;
@@ -204,11 +204,11 @@ module _ (purpose : Purpose) (S : Split) (P : Program) (R : InRange P S) (few : 
   pub expression-shown : {w : List ℕ} {k : ℕ} {inside : List (ℕ × ℕ)} {vars : List ℕ} {Γ : Env} {pre : Map} (e : Expr)
       → HoldsSplit w S → presAt + 256 ≤ length w → Here w (length (P .procedures)) k inside vars e → Scoped S Γ inside vars
       → (m : MapNumber) → Stands w S m pre → k + size e ≤ length (S .rows) → (n : ℕ) → n ≡ size e
-      → walkOf purpose S (putPre w k m) k n ≡ firstAsked purpose (claims S (sites S Γ pre e))
+      → walkOf purpose S (putPre w k m) k n ≡ firstAsked purpose (claims S (stepContexts S Γ pre e))
   unfolding walk
   expression-shown {w} {k} {Γ = Γ} {pre = pre} e H long at C m p h n sized =
       let whole : n ≡ size e + 0 = omega arith in
       rw whole
       (walked e 0
       (again (put-within w k m) H long at C m p (put-at w k m (omega (arith, size-positive e, few)) long) h) .walks
-      ∙ both-met (firstAsked purpose (claims S (sites S Γ pre e))))
+      ∙ both-met (firstAsked purpose (claims S (stepContexts S Γ pre e))))

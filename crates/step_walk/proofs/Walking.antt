@@ -9,7 +9,7 @@ use lib.ListN.{length, set}
 use lib.Seq.{getD-set-same, getD-set-other}
 use borrow.Author.Tests.{lt-ltb, ltb-true}
 use Rattle.spec.specs.Choice.{if_then_else_}
-use Rattle.spec.specs.Reading.{on}
+use Rattle.spec.specs.Reading.{ok}
 use Rattle.spec.specs.Words.{preOfPart, preOfSecond}
 use Rattle.spec.specs.declared.MapNumber.{MapNumber}
 use Rattle.spec.specs.declared.Purpose.{Purpose}
@@ -32,7 +32,7 @@ module _ (purpose : Purpose) (locations denominator : ℕ) (w : List ℕ) (k n :
       let e : n - k ≡ suc (n - (k + 1)) = omega arith in
       rw e
 
-  pub walk-end : n ≤ k → walk purpose locations denominator w k (n - k) ≡ on tt
+  pub walk-end : n ≤ k → walk purpose locations denominator w k (n - k) ≡ ok tt
   unfolding walk
   walk-end h =
       let e : n - k ≡ 0 = omega arith in

@@ -1,6 +1,6 @@
 -- The claims that are asked for.
 use mathlib.Core.List.{List}
-use Rattle.spec.specs.Sites.{NumberedCondition, isType, only}
+use Rattle.spec.specs.StepContexts.{NumberedCondition, isType, only}
 use Rattle.spec.specs.declared.Purpose.{Purpose}
 use Rattle.spec.specs.declared.Purpose.the-variants.{Check, Fill}
 

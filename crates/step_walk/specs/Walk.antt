@@ -5,7 +5,7 @@ use Prim.Native.Nat.{ℕ, zero, suc, _+_}
 use lib.Dec.{eqb, ltb}
 use lib.ListN.{set}
 use Rattle.spec.specs.Choice.{if_then_else_}
-use Rattle.spec.specs.Reading.{Out, stop, on}
+use Rattle.spec.specs.Reading.{Result, refuse, ok}
 use Rattle.spec.specs.Words.{preOfPart, preOfSecond}
 use Rattle.spec.specs.Verdict.{returned}
 use Rattle.spec.specs.declared.MapNumber.{MapNumber}
@@ -25,19 +25,19 @@ unfoldable pub refusesTypes : Refusal → Bool
 refusesTypes r = eqb (returned (Refuse r) .number) 31
 
 -- what an outcome says of types
-unfoldable pub onTypes : Out (Unit {0}) → Out (Unit {0})
-onTypes (stop r) = if refusesTypes r then stop r else on tt
-onTypes (on a) = on tt
+unfoldable pub onTypes : Result (Unit {0}) → Result (Unit {0})
+onTypes (refuse r) = if refusesTypes r then refuse r else ok tt
+onTypes (ok a) = ok tt
 
 -- what counts of the outcome of a step or a `proc` line: when filling, what it says of types
-unfoldable pub counted : Purpose → Out (Unit {0}) → Out (Unit {0})
+unfoldable pub counted : Purpose → Result (Unit {0}) → Result (Unit {0})
 counted Check o = o
 counted Fill o = onTypes o
 
 -- whether an outcome is a refusal
-unfoldable pub stops : Out (Unit {0}) → Bool
-stops (stop r) = true
-stops (on a) = false
+unfoldable pub stops : Result (Unit {0}) → Bool
+stops (refuse r) = true
+stops (ok a) = false
 
 -- the map before step i is m
 unfoldable pub putPre : (w : List ℕ) → (i : ℕ) → MapNumber → List ℕ
@@ -56,7 +56,7 @@ passOn w k =
     (record { 0 = cell w (postsAt + 1) k }) (record { 0 = cell w startsAt k }) (cell w (endsAt + 1) k)
 
 -- n steps from step k on
-unfoldable pub walk : Purpose → (locations denominator : ℕ) → (w : List ℕ) → (k n : ℕ) → Out (Unit {0})
-walk purpose locations denominator w k zero = on tt
+unfoldable pub walk : Purpose → (locations denominator : ℕ) → (w : List ℕ) → (k n : ℕ) → Result (Unit {0})
+walk purpose locations denominator w k zero = ok tt
 walk purpose locations denominator w k (suc n) =
     both (counted purpose (stepOutcome w locations denominator k)) (walk purpose locations denominator (passOn w k) (k + 1) n)

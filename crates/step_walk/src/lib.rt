@@ -43,7 +43,7 @@ pub fn refuses(purpose: Purpose, r: Ruling) -> bool
     ensures { λ ok. ⌜ ok ≡ stops (counted purpose (outcome r)) ⌝ }
 {
     match r {
-        Ruling::Met => false,
+        Ruling::Holds => false,
         Ruling::Refused(refusal) => match purpose {
             Purpose::Check => true,
             Purpose::Fill => on_types(refusal),
@@ -142,5 +142,5 @@ pub fn check_steps(
         pass_on(work, k);
         k += 1;
     }
-    Ruling::Met
+    Ruling::Holds
 }

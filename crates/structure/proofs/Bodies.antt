@@ -9,7 +9,7 @@ use native.Mathlib.Omega.{arith}
 use lib.Dec.{ltb}
 use lib.ListN.{length, getD, set, length-map}
 use Rattle.spec.specs.Choice.{if_then_else_}
-use Rattle.spec.specs.Reading.{Out, stop, on, _>>=_}
+use Rattle.spec.specs.Reading.{Result, refuse, ok, _>>=_}
 use Rattle.spec.specs.Expression.{Step, Expr, size, stepsAmong, Procedure, among, scopeStep, scope, scopes}
 use Rattle.spec.specs.WellFormed.{prefix, listing, NumberedFrom}
 use Rattle.spec.proofs.Listing.{prefix-length}
@@ -53,24 +53,24 @@ unfoldable pub allSize : List Procedure → (root : Expr) → ℕ
 allSize [] root = size root
 allSize (p ∷ ps) root = size (p .body) + allSize ps root
 
-abbrev pub AllWalked : (w : List ℕ) (n count m f k : ℕ) (ps : List Procedure) (root : Expr) (t : List ℕ) → Out (List ℕ) → Type 0
-AllWalked w n count m f k ps root t (stop r) = scopesBehind w n count m f t ≡ stop r
-AllWalked w n count m f k ps root t (on b) = scopesBehind w n count m f t ≡ on (allLets f k ps root)
+abbrev pub AllWalked : (w : List ℕ) (n count m f k : ℕ) (ps : List Procedure) (root : Expr) (t : List ℕ) → Result (List ℕ) → Type 0
+AllWalked w n count m f k ps root t (refuse r) = scopesBehind w n count m f t ≡ refuse r
+AllWalked w n count m f k ps root t (ok b) = scopesBehind w n count m f t ≡ ok (allLets f k ps root)
 
 -- ------------------------------------------------------------------ steps that are passed
 
-passed : (count : ℕ) (w : List ℕ) (k s : ℕ) (ls t b : List ℕ) (x : Gone count w 0 k s ls t b) → scopesFrom w count (s + 0) k t ≡ on (ls, x .table)
+passed : (count : ℕ) (w : List ℕ) (k s : ℕ) (ls t b : List ℕ) (x : Gone count w 0 k s ls t b) → scopesFrom w count (s + 0) k t ≡ ok (ls, x .table)
 unfolding scopesFrom
-passed count w k s ls t b x = x .goes ∙ after-on ls [] (x .table) ∙ ap (λ l. on (l, x .table)) (append-nil ls)
+passed count w k s ls t b x = x .goes ∙ after-on ls [] (x .table) ∙ ap (λ l. ok (l, x .table)) (append-nil ls)
 
-root-walked : (count n f k : ℕ) (w : List ℕ) (root : Expr) (t : List ℕ) (o : Out (List ℕ)) → firstAt w f ≡ k → k + size root ≡ n
+root-walked : (count n f k : ℕ) (w : List ℕ) (root : Expr) (t : List ℕ) (o : Result (List ℕ)) → firstAt w f ≡ k → k + size root ≡ n
     → Walked count w 0 k (size root) (lets k [] root) t o → AllWalked w n count 0 f k [] root t o
 unfolding scopesBehind followed withFront allLets
-root-walked count n f k w root t (stop r) p e x =
+root-walked count n f k w root t (refuse r) p e x =
     let q : n - k ≡ size root + 0 = omega arith in rw (p, q, x) refl
-root-walked count n f k w root t (on b) p e x =
+root-walked count n f k w root t (ok b) p e x =
     let q : n - k ≡ size root + 0 = omega arith in
-    rw (p, q, passed count w k (size root) (lets k [] root) t b x) (ap on (append-nil (lets k [] root)))
+    rw (p, q, passed count w k (size root) (lets k [] root) t b x) (ap ok (append-nil (lets k [] root)))
 
 -- ------------------------------------------------------------------ a body, and what is behind it
 
@@ -82,23 +82,23 @@ module _ (w : List ℕ) (n count m f k : ℕ) (p : Procedure) (ps : List Procedu
   abbrev ls : List ℕ
   ls = lets k ((p .parameter, procMark + f) ∷ []) (p .body)
 
-  behind : (b : List ℕ) (x : Gone count w 0 k (size (p .body)) ls t₁ b) (o : Out (List ℕ))
+  behind : (b : List ℕ) (x : Gone count w 0 k (size (p .body)) ls t₁ b) (o : Result (List ℕ))
       → AllWalked w n count m (f + 1) (k + size (p .body)) ps root (x .table) o → AllWalked w n count (suc m) f k (p ∷ ps) root t o
   unfolding scopesBehind followed withFront allLets
-  behind b x (stop r) y = rw (q, passed count w k (size (p .body)) ls t₁ b x, y) refl
-  behind b x (on b₂) y = rw (q, passed count w k (size (p .body)) ls t₁ b x, y) refl
+  behind b x (refuse r) y = rw (q, passed count w k (size (p .body)) ls t₁ b x, y) refl
+  behind b x (ok b₂) y = rw (q, passed count w k (size (p .body)) ls t₁ b x, y) refl
 
-  body-then : (o : Out (List ℕ)) (more : List ℕ → Out (List ℕ)) → Walked count w 0 k (size (p .body)) ls t₁ o
+  body-then : (o : Result (List ℕ)) (more : List ℕ → Result (List ℕ)) → Walked count w 0 k (size (p .body)) ls t₁ o
       → ((b : List ℕ) (x : Gone count w 0 k (size (p .body)) ls t₁ b) → AllWalked w n count m (f + 1) (k + size (p .body)) ps root (x .table) (more b))
       → AllWalked w n count (suc m) f k (p ∷ ps) root t (o >>= more)
   unfolding scopesBehind followed _>>=_
-  body-then (stop r) more x y = rw (q, x) refl
-  body-then (on b) more x y = behind b x (more b) (y b x)
+  body-then (refuse r) more x y = rw (q, x) refl
+  body-then (ok b) more x y = behind b x (more b) (y b x)
 
 module _ (w : List ℕ) (n count m f k : ℕ) (p : Procedure) (ps : List Procedure) (root : Expr) (t bound : List ℕ)
     (h₁ : firstAt w f ≡ k) (h₂ : firstAt w (f + 1) ≡ k + size (p .body)) (hl : getD w (procLinesAt + f) 0 ≡ p .line)
     (hv : getD w (procVarsAt + f) 0 ≡ p .parameter) (bind : among (p .parameter) bound ≡ ltb (getD t (p .parameter) noMark) noMark) where
-  rebound : among (p .parameter) bound ≡ true → bodyScopes w count f t ≡ stop (Rebound (p .line))
+  rebound : among (p .parameter) bound ≡ true → bodyScopes w count f t ≡ refuse (Rebound (p .line))
   unfolding bodyScopes
   rebound e = rw (hv, sym bind ∙ e, hl) refl
 
@@ -108,7 +108,7 @@ module _ (w : List ℕ) (n count m f k : ℕ) (p : Procedure) (ps : List Procedu
       let d : k + size (p .body) - k ≡ size (p .body) + 0 = omega arith in
       rw (hv, sym bind ∙ e, h₁, h₂, d) refl
 
-  body-walked : (o : List ℕ → Out (List ℕ)) (more : List ℕ → Out (List ℕ))
+  body-walked : (o : List ℕ → Result (List ℕ)) (more : List ℕ → Result (List ℕ))
       → (among (p .parameter) bound ≡ false
       → Walked count w 0 k (size (p .body)) (lets k ((p .parameter, procMark + f) ∷ []) (p .body)) (set t (p .parameter) (procMark + f)) (o (p .parameter ∷ bound)))
       → (among (p .parameter) bound ≡ false → (b : List ℕ)
@@ -116,7 +116,7 @@ module _ (w : List ℕ) (n count m f k : ℕ) (p : Procedure) (ps : List Procedu
       → AllWalked w n count m (f + 1) (k + size (p .body)) ps root (x .table) (more b))
       → (y : Bool) → among (p .parameter) bound ≡ y
       → AllWalked w n count (suc m) f k (p ∷ ps) root t
-      ((if y then stop (Rebound (p .line)) else on (p .parameter ∷ bound)) >>= λ b. o b >>= more)
+      ((if y then refuse (Rebound (p .line)) else ok (p .parameter ∷ bound)) >>= λ b. o b >>= more)
   unfolding scopesBehind followed _>>=_
   body-walked o more x₁ x₂ true e = rw (rebound e) refl
   body-walked o more x₁ x₂ false e = body-then w n count m f k p ps root t (fresh e) (o (p .parameter ∷ bound)) more (x₁ e) (x₂ e)

@@ -3,4 +3,4 @@ pub mod ScopeLoop
 pub mod Tables
 pub mod Walk
 pub mod Bodies
-pub mod Arranged
+pub mod Resolved

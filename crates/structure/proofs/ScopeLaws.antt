@@ -6,7 +6,7 @@ use Prim.Native.Nat.{ℕ, suc, zero, _+_, _-_, _<_, _≤_}
 use native.Mathlib.Omega.{arith}
 use native.Mathlib.Nat.{not-suc-le-zero, le-of-suc-le-suc}
 use lib.ListN.{length, getD, set, replicate, length-set, length-append}
-use Rattle.spec.specs.Reading.{Out, stop, on}
+use Rattle.spec.specs.Reading.{Result, refuse, ok}
 use Rattle.spec.specs.declared.Refusal.{Refusal}
 use Rattle.workspace.specs.Layout.{valuesAt, letsAt, workSize}
 use Rattle.workspace.specs.Region.{Region, ChangedWithin}
@@ -33,25 +33,25 @@ replicate-any (suc n) (suc v) x = replicate-any n v x
 -- ------------------------------------------------------------------ the steps so far
 
 -- numbers stored for the steps in front
-unfoldable pub after : List ℕ → Out Passing → Out Passing
+unfoldable pub after : List ℕ → Result Passing → Result Passing
 after [] o = o
 after (x ∷ xs) o = storing x (after xs o)
 
-pub after-append : (xs ys : List ℕ) (o : Out Passing) → after xs (after ys o) ≡ after (xs ++ ys) o
+pub after-append : (xs ys : List ℕ) (o : Result Passing) → after xs (after ys o) ≡ after (xs ++ ys) o
 unfolding after
 after-append [] ys o = refl
 after-append (x ∷ xs) ys o = ap (storing x) (after-append xs ys o)
 
-after-snoc : (xs : List ℕ) (x : ℕ) (o : Out Passing) → after xs (storing x o) ≡ after (xs ++ (x ∷ [])) o
+after-snoc : (xs : List ℕ) (x : ℕ) (o : Result Passing) → after xs (storing x o) ≡ after (xs ++ (x ∷ [])) o
 unfolding after
 after-snoc xs x o = after-append xs (x ∷ []) o
 
-pub after-stop : (xs : List ℕ) (r : Refusal) → after xs (stop r) ≡ stop r
+pub after-stop : (xs : List ℕ) (r : Refusal) → after xs (refuse r) ≡ refuse r
 unfolding after storing
 after-stop [] r = refl
 after-stop (y ∷ xs) r = ap (storing y) (after-stop xs r)
 
-pub after-on : (xs ys t : List ℕ) → after xs (on (ys, t)) ≡ on (xs ++ ys, t)
+pub after-on : (xs ys t : List ℕ) → after xs (ok (ys, t)) ≡ ok (xs ++ ys, t)
 unfolding after storing
 after-on [] ys t = refl
 after-on (y ∷ xs) ys t = ap (storing y) (after-on xs ys t)
@@ -81,15 +81,15 @@ start count from to w t h l m = record {
 }
 
 module _ (count from to : ℕ) (w₀ w t₀ t : List ℕ) (k : ℕ) (s : ScopesSoFar count from to w₀ w t₀ t k) where
-  pub finish : to ≤ k → PartScoped count from to w₀ w t₀ t outcome.Met
+  pub finish : to ≤ k → PartScoped count from to w₀ w t₀ t outcome.Holds
   unfolding scopesFrom
   finish h =
       let e : to - k ≡ 0 = omega arith in
-      let f : scopesFrom w₀ count (to - from) from t₀ ≡ on (s .stored, t) =
+      let f : scopesFrom w₀ count (to - from) from t₀ ≡ ok (s .stored, t) =
       s .rest
       ∙ ap (λ m. after (s .stored) (scopesFrom w₀ count m k t)) e
       ∙ after-on (s .stored) [] t
-      ∙ ap (λ l. on (l, t)) (append-nil (s .stored)) in
+      ∙ ap (λ l. ok (l, t)) (append-nil (s .stored)) in
       record { found = rw f (refl, (s .held, refl)); changed = s .changed; tableLong = s .long }
 
   module _ (v b : ℕ) (j : Judged) (hw : length w₀ ≡ workSize) (hn : to ≤ 256) (h : k < to) (hv : v ≡ getD w (valuesAt + k) 0)
@@ -104,7 +104,7 @@ module _ (count from to : ℕ) (w₀ w t₀ t : List ℕ) (k : ℕ) (s : ScopesS
     pub refuses : (x : Refusal) → j ≡ Refused x → PartScoped count from to w₀ w t₀ t (outcome.Refused x)
     unfolding continued
     refuses x p =
-        let f : scopesFrom w₀ count (to - from) from t₀ ≡ stop x =
+        let f : scopesFrom w₀ count (to - from) from t₀ ≡ refuse x =
         s .rest
         ∙ ap (after (s .stored)) (step ∙ ap (continued (λ u. scopesFrom w₀ count (to - (k + 1)) (k + 1) u) k t v) p)
         ∙ after-stop (s .stored) x in

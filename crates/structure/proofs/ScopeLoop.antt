@@ -10,7 +10,7 @@ use lib.Dec.{ltb}
 use lib.ListN.{length, getD, set, length-set, length-append}
 use borrow.Author.Tests.{le-ltb, lt-ltb}
 use Rattle.spec.specs.Choice.{if_then_else_}
-use Rattle.spec.specs.Reading.{Out, stop, on}
+use Rattle.spec.specs.Reading.{Result, refuse, ok}
 use Rattle.spec.specs.declared.Refusal.{Refusal}
 use Rattle.spec.specs.declared.Refusal.the-variants.{Rebound}
 use Rattle.workspace.specs.Layout.{valuesAt, letsAt, procLinesAt, procVarsAt, procFirstsAt, procMark}
@@ -48,7 +48,7 @@ module _ (count f : ℕ) (w t : List ℕ) (v b : ℕ) (hv : v ≡ getD w (procVa
 
 -- ------------------------------------------------------------------ what is judged stays
 
-continued-same : (g h : List ℕ → Out Passing) → ((u : List ℕ) → g u ≡ h u) → (k : ℕ) (t : List ℕ) (v : ℕ) (j : Judged) → continued g k t v j ≡ continued h k t v j
+continued-same : (g h : List ℕ → Result Passing) → ((u : List ℕ) → g u ≡ h u) → (k : ℕ) (t : List ℕ) (v : ℕ) (j : Judged) → continued g k t v j ≡ continued h k t v j
 unfolding continued
 continued-same g h e k t v Bind = ap (storing 0) (e (set t v k))
 continued-same g h e k t v (Store x) = ap (storing x) (e t)
@@ -67,16 +67,16 @@ module _ (w w′ : List ℕ) (c : ChangedWithin (letsAt + 0) (letsAt + 256) w w�
 -- ------------------------------------------------------------------ how much is stored
 
 -- as much as there are steps, if none is refused
-abbrev Sized : ℕ → Out Passing → Type 0
-Sized m (stop r) = Unit {0}
-Sized m (on p) = length (p .0) ≡ m
+abbrev Sized : ℕ → Result Passing → Type 0
+Sized m (refuse r) = Unit {0}
+Sized m (ok p) = length (p .0) ≡ m
 
-sized-storing : (m x : ℕ) (o : Out Passing) → Sized m o → Sized (suc m) (storing x o)
+sized-storing : (m x : ℕ) (o : Result Passing) → Sized m o → Sized (suc m) (storing x o)
 unfolding storing
-sized-storing m x (stop r) s = tt
-sized-storing m x (on p) s = omega (arith, s)
+sized-storing m x (refuse r) s = tt
+sized-storing m x (ok p) s = omega (arith, s)
 
-sized-continued : (m : ℕ) (g : List ℕ → Out Passing) → ((u : List ℕ) → Sized m (g u)) → (k : ℕ) (t : List ℕ) (v : ℕ) (j : Judged) → Sized (suc m) (continued g k t v j)
+sized-continued : (m : ℕ) (g : List ℕ → Result Passing) → ((u : List ℕ) → Sized m (g u)) → (k : ℕ) (t : List ℕ) (v : ℕ) (j : Judged) → Sized (suc m) (continued g k t v j)
 unfolding continued
 sized-continued m g s k t v Bind = sized-storing m 0 (g (set t v k)) (s (set t v k))
 sized-continued m g s k t v (Store x) = sized-storing m x (g t) (s t)
@@ -90,15 +90,15 @@ scopes-sized w count (suc m) k t =
 
 -- ------------------------------------------------------------------ numbers in front
 
-front-none : (o : Out (List ℕ)) → withFront [] o ≡ o
+front-none : (o : Result (List ℕ)) → withFront [] o ≡ o
 unfolding withFront
-front-none (stop r) = refl
-front-none (on ys) = refl
+front-none (refuse r) = refl
+front-none (ok ys) = refl
 
-front-append : (xs ys : List ℕ) (o : Out (List ℕ)) → withFront xs (withFront ys o) ≡ withFront (xs ++ ys) o
+front-append : (xs ys : List ℕ) (o : Result (List ℕ)) → withFront xs (withFront ys o) ≡ withFront (xs ++ ys) o
 unfolding withFront
-front-append xs ys (stop r) = refl
-front-append xs ys (on zs) = ap on (sym (append-assoc xs ys zs))
+front-append xs ys (refuse r) = refl
+front-append xs ys (ok zs) = ap ok (sym (append-assoc xs ys zs))
 
 -- ------------------------------------------------------------------ the bodies so far
 
@@ -118,7 +118,7 @@ body-kept w w′ c count f t h l =
     )
     refl
 
-sized-choice : (m : ℕ) (b : Bool) (r : Refusal) (o : Out Passing) → Sized m o → Sized m (if b then stop r else o)
+sized-choice : (m : ℕ) (b : Bool) (r : Refusal) (o : Result Passing) → Sized m o → Sized m (if b then refuse r else o)
 sized-choice m true r o s = tt
 sized-choice m false r o s = s
 
@@ -158,7 +158,7 @@ bodies-start n count w s = record {
   rest = ap (λ m. scopesBehind w n count m 0 unbound) (sym (sub-zero count)) ∙ sym (front-none (scopesBehind w n count (count - 0) 0 unbound));
 }
 
-no-refusal : {x : Refusal} {o : Ruling} → o ≡ outcome.Refused x → o ≡ outcome.Met → ⊥
+no-refusal : {x : Refusal} {o : Ruling} → o ≡ outcome.Refused x → o ≡ outcome.Holds → ⊥
 no-refusal p q = let z : _≡_ {A = ℕ} 0 1 = cc in omega arith
 
 same-refusal : {x y : Refusal} {o : Ruling} → o ≡ outcome.Refused x → o ≡ outcome.Refused y → x ≡ y
@@ -194,17 +194,17 @@ module _ (n count : ℕ) (w₀ w t : List ℕ) (f : ℕ) (d : Scopable n count w
       further = changed-then (letsAt + 0) (letsAt + 256) (s .changed)
           (changed-wider (letsAt + 0) (letsAt + 256) (omega arith) (omega (arith, kept (f + 1), near)) (x .changed))
 
-      abbrev Found : Out Passing → Type 0
+      abbrev Found : Result Passing → Type 0
       Found o = Answers (λ (p : Passing). Region w′ (letsAt + firstAt w f) (p .0) × (t′ ≡ p .1)) r o
 
       found-first : Found (bodyScopes w₀ count f t)
       found-first = subst Found (body-kept w₀ w (s .changed) count f t turn near) (x .found)
 
-      refused-by : (y : Refusal) → r ≡ outcome.Refused y → (o : Out Passing) → bodyScopes w₀ count f t ≡ o → Found o → scopesBehind w₀ n count count 0 unbound ≡ stop y
+      refused-by : (y : Refusal) → r ≡ outcome.Refused y → (o : Result Passing) → bodyScopes w₀ count f t ≡ o → Found o → scopesBehind w₀ n count count 0 unbound ≡ refuse y
       unfolding followed withFront
-      refused-by y p (stop z) q a =
-          s .rest ∙ ap (withFront (s .stored)) (one-more ∙ ap (λ o. followed o (λ u. scopesBehind w₀ n count (count - (f + 1)) (f + 1) u)) q) ∙ ap stop (same-refusal a p)
-      refused-by y p (on z) q a = absurd (no-refusal p (a .0))
+      refused-by y p (refuse z) q a =
+          s .rest ∙ ap (withFront (s .stored)) (one-more ∙ ap (λ o. followed o (λ u. scopesBehind w₀ n count (count - (f + 1)) (f + 1) u)) q) ∙ ap refuse (same-refusal a p)
+      refused-by y p (ok z) q a = absurd (no-refusal p (a .0))
 
       pub body-refuses : (y : Refusal) → r ≡ outcome.Refused y → Scoped n count w₀ w′ (outcome.Refused y)
       body-refuses y p = record {
@@ -212,11 +212,11 @@ module _ (n count : ℕ) (w₀ w t : List ℕ) (f : ℕ) (d : Scopable n count w
         changed = further;
       }
 
-      passed-by : r ≡ outcome.Met → (o : Out Passing) → bodyScopes w₀ count f t ≡ o → Found o → Sized (firstAt w₀ (f + 1) - firstAt w₀ f) o
+      passed-by : r ≡ outcome.Holds → (o : Result Passing) → bodyScopes w₀ count f t ≡ o → Found o → Sized (firstAt w₀ (f + 1) - firstAt w₀ f) o
           → BodiesSoFar n count w₀ w′ t′ (f + 1)
       unfolding followed
-      passed-by p (stop z) q a m = absurd (no-refusal a p)
-      passed-by p (on z) q a m = record {
+      passed-by p (refuse z) q a m = absurd (no-refusal a p)
+      passed-by p (ok z) q a m = record {
         few = omega arith;
         long = x .tableLong ∙ s .long;
         stored = s .stored ++ (z .0);
@@ -232,7 +232,7 @@ module _ (n count : ℕ) (w₀ w t : List ℕ) (f : ℕ) (d : Scopable n count w
             ∙ ap (λ u. withFront (s .stored ++ (z .0)) (scopesBehind w₀ n count (count - (f + 1)) (f + 1) u)) (sym (a .1 .1));
       }
 
-      pub body-passes : r ≡ outcome.Met → BodiesSoFar n count w₀ w′ t′ (f + 1)
+      pub body-passes : r ≡ outcome.Holds → BodiesSoFar n count w₀ w′ t′ (f + 1)
       body-passes p = passed-by p (bodyScopes w₀ count f t) refl found-first (body-sized w₀ count f t)
 
   module _ (l : count ≤ f) (root : ℕ) (e : root ≡ firstAt w count) where
@@ -245,22 +245,22 @@ module _ (n count : ℕ) (w₀ w t : List ℕ) (f : ℕ) (d : Scopable n count w
     pub root-below : root ≤ n
     root-below = omega (arith, root-at, d .last)
 
-    root-rest : scopesBehind w₀ n count (count - f) f t ≡ followed (scopesFrom w₀ count (n - root) root t) (λ u. on [])
+    root-rest : scopesBehind w₀ n count (count - f) f t ≡ followed (scopesFrom w₀ count (n - root) root t) (λ u. ok [])
     unfolding scopesBehind
     root-rest = let z : count - f ≡ 0 = omega arith in rw (z, all, root-at) refl
 
     module _ (w′ t′ : List ℕ) (r : Ruling) (x : PartScoped count root n w w′ t t′ r) where
-      abbrev RootFound : Out Passing → Type 0
+      abbrev RootFound : Result Passing → Type 0
       RootFound o = Answers (λ (p : Passing). Region w′ (letsAt + root) (p .0) × (t′ ≡ p .1)) r o
 
       root-found : RootFound (scopesFrom w₀ count (n - root) root t)
       root-found = subst RootFound (scopes-kept w₀ w (s .changed) count (n - root) root t (omega (arith, root-below, d .few))) (x .found)
 
-      root-by : (o : Out Passing) → scopesFrom w₀ count (n - root) root t ≡ o → RootFound o → Answers (Region w′ letsAt) r (scopesBehind w₀ n count count 0 unbound)
+      root-by : (o : Result Passing) → scopesFrom w₀ count (n - root) root t ≡ o → RootFound o → Answers (Region w′ letsAt) r (scopesBehind w₀ n count count 0 unbound)
       unfolding followed withFront
-      root-by (stop z) q a = rw (s .rest ∙ ap (withFront (s .stored)) (root-rest ∙ ap (λ o. followed o (λ u. on [])) q)) a
-      root-by (on z) q a =
-          rw (s .rest ∙ ap (withFront (s .stored)) (root-rest ∙ ap (λ o. followed o (λ u. on [])) q)) (
+      root-by (refuse z) q a = rw (s .rest ∙ ap (withFront (s .stored)) (root-rest ∙ ap (λ o. followed o (λ u. ok [])) q)) a
+      root-by (ok z) q a =
+          rw (s .rest ∙ ap (withFront (s .stored)) (root-rest ∙ ap (λ o. followed o (λ u. ok [])) q)) (
             a .0,
             region-append (s .stored) (z .0 ++ [])
                 (region-kept (x .changed) (inl (omega (arith, s .counted, root-at, ap (λ g. firstAt w₀ g) all))) (s .held))

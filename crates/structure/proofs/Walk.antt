@@ -10,7 +10,7 @@ use lib.Dec.{leb, ltb}
 use lib.ListN.{length, getD, set}
 use borrow.Author.Tests.{le-leb, lt-leb, lt-ltb, le-ltb, ltb-true, ltb-false}
 use Rattle.spec.specs.Choice.{if_then_else_}
-use Rattle.spec.specs.Reading.{Out, stop, on, _>>=_}
+use Rattle.spec.specs.Reading.{Result, refuse, ok, _>>=_}
 use Rattle.spec.specs.Expression.{Position, Expr, leaf, unary, binary, size, among, scopeStep, scope}
 use Rattle.spec.specs.Words.{calls, role, binding, largestValue}
 use Rattle.spec.specs.declared.Refusal.the-variants.{Unbound, Rebound, NoProcedure}
@@ -36,7 +36,7 @@ use Rattle.structure.proofs.Tables.{endAt, names, Right, Bound, Extends
 
 -- of a sheet with `count` procedures
 module _ (count : ℕ) where
-  joined : (xs ys : List ℕ) (o : Out Passing) → storing 0 (after xs (after ys o)) ≡ after (0 ∷ (xs ++ ys)) o
+  joined : (xs ys : List ℕ) (o : Result Passing) → storing 0 (after xs (after ys o)) ≡ after (0 ∷ (xs ++ ys)) o
   unfolding after
   joined xs ys o = ap (storing 0) (after-append xs ys o)
 
@@ -50,9 +50,9 @@ module _ (count : ℕ) where
     pub bind : Bound table bound
     pub goes : scopesFrom w count (s + m) k t ≡ after ls (scopesFrom w count m (k + s) table)
 
-  abbrev pub Walked : List ℕ → (m k s : ℕ) → (ls t : List ℕ) → Out (List ℕ) → Type 0
-  Walked w m k s ls t (stop r) = scopesFrom w count (s + m) k t ≡ stop r
-  Walked w m k s ls t (on bound) = Gone w m k s ls t bound
+  abbrev pub Walked : List ℕ → (m k s : ℕ) → (ls t : List ℕ) → Result (List ℕ) → Type 0
+  Walked w m k s ls t (refuse r) = scopesFrom w count (s + m) k t ≡ refuse r
+  Walked w m k s ls t (ok bound) = Gone w m k s ls t bound
 
   -- ------------------------------------------------------------------ one step
 
@@ -107,7 +107,7 @@ module _ (count : ℕ) where
           let till : k < scopeTill w b = omega (arith, r .3) in
           step-use ∙ rw (← q, lt-leb noMark b low, le-ltb k (scopeFrom w b) from, lt-leb (scopeTill w b) k till, r .0) refl
 
-      outside : (i b : ℕ) → b ≡ getD t v noMark → Right w k hi false i b → scopesFrom w count (suc m) k t ≡ stop (Unbound (l .line))
+      outside : (i b : ℕ) → b ≡ getD t v noMark → Right w k hi false i b → scopesFrom w count (suc m) k t ≡ refuse (Unbound (l .line))
       unfolding continued stepLineAt
       outside i b q r =
           let o : (noMark ≤ b) ⊎ ((k < scopeFrom w b) ⊎ (scopeTill w b ≤ k)) =
@@ -117,7 +117,7 @@ module _ (count : ℕ) where
           (ap (judgeVar w k) (sym q) ∙ var-refused w k b o ∙ ap (λ i. Refused (Unbound i)) (h .line))
 
       walk-use : (y : Bool) → Right w k hi y (letIn ins v) (getD t v noMark)
-          → Walked w m k 1 (letIn ins v ∷ []) t (if y then on bound else stop (Unbound (l .line)))
+          → Walked w m k 1 (letIn ins v ∷ []) t (if y then ok bound else refuse (Unbound (l .line)))
       unfolding after
       walk-use true r = record {
         table = t;
@@ -131,11 +131,11 @@ module _ (count : ℕ) where
   -- ------------------------------------------------------------------ a step and its parts
 
   -- a step for which 0 is stored, and then its one part
-  walk-one : (w : List ℕ) (m k s : ℕ) (ls t : List ℕ) (o : Out (List ℕ)) → scopesFrom w count (suc s + m) k t ≡ storing 0 (scopesFrom w count (s + m) (k + 1) t)
+  walk-one : (w : List ℕ) (m k s : ℕ) (ls t : List ℕ) (o : Result (List ℕ)) → scopesFrom w count (suc s + m) k t ≡ storing 0 (scopesFrom w count (s + m) (k + 1) t)
       → Walked w m (k + 1) s ls t o → Walked w m k (suc s) (0 ∷ ls) t o
   unfolding storing after
-  walk-one w m k s ls t (stop r) p x = p ∙ ap (storing 0) x
-  walk-one w m k s ls t (on bound) p x =
+  walk-one w m k s ls t (refuse r) p x = p ∙ ap (storing 0) x
+  walk-one w m k s ls t (ok bound) p x =
       let q : k + 1 + s ≡ k + suc s = omega arith in
       record {
         table = x .table;
@@ -149,11 +149,11 @@ module _ (count : ℕ) where
   module _ (w : List ℕ) (m k s₁ s₂ : ℕ) (ls₁ ls₂ t t₀ : List ℕ)
       (p : scopesFrom w count (suc (s₁ + s₂) + m) k t ≡ storing 0 (scopesFrom w count (s₁ + (s₂ + m)) (k + 1) t₀))
       (x₀ : Extends w (k + suc (s₁ + s₂)) t t₀) where
-    behind : (b₁ : List ℕ) (x₁ : Gone w (s₂ + m) (k + 1) s₁ ls₁ t₀ b₁) (o : Out (List ℕ)) → Walked w m (k + 1 + s₁) s₂ ls₂ (x₁ .table) o
+    behind : (b₁ : List ℕ) (x₁ : Gone w (s₂ + m) (k + 1) s₁ ls₁ t₀ b₁) (o : Result (List ℕ)) → Walked w m (k + 1 + s₁) s₂ ls₂ (x₁ .table) o
         → Walked w m k (suc (s₁ + s₂)) (0 ∷ (ls₁ ++ ls₂)) t o
     unfolding storing
-    behind b₁ x₁ (stop r) x₂ = p ∙ ap (storing 0) (x₁ .goes ∙ ap (after ls₁) x₂ ∙ after-stop ls₁ r)
-    behind b₁ x₁ (on b₂) x₂ =
+    behind b₁ x₁ (refuse r) x₂ = p ∙ ap (storing 0) (x₁ .goes ∙ ap (after ls₁) x₂ ∙ after-stop ls₁ r)
+    behind b₁ x₁ (ok b₂) x₂ =
         let q : k + 1 + s₁ + s₂ ≡ k + suc (s₁ + s₂) = omega arith in
         let y₂ : Extends w (k + suc (s₁ + s₂)) (x₁ .table) (x₂ .table) = subst (λ i. Extends w i (x₁ .table) (x₂ .table)) q (x₂ .extends) in
         let y₁ : Extends w (k + suc (s₁ + s₂)) t₀ (x₂ .table) =
@@ -167,12 +167,12 @@ module _ (count : ℕ) where
               ∙ ap (λ i. after (0 ∷ (ls₁ ++ ls₂)) (scopesFrom w count m i (x₂ .table))) q;
         }
 
-    walk-two : (o₁ : Out (List ℕ)) (more : List ℕ → Out (List ℕ)) → Walked w (s₂ + m) (k + 1) s₁ ls₁ t₀ o₁
+    walk-two : (o₁ : Result (List ℕ)) (more : List ℕ → Result (List ℕ)) → Walked w (s₂ + m) (k + 1) s₁ ls₁ t₀ o₁
         → ((b₁ : List ℕ) (x₁ : Gone w (s₂ + m) (k + 1) s₁ ls₁ t₀ b₁) → Walked w m (k + 1 + s₁) s₂ ls₂ (x₁ .table) (more b₁))
         → Walked w m k (suc (s₁ + s₂)) (0 ∷ (ls₁ ++ ls₂)) t (o₁ >>= more)
     unfolding storing _>>=_
-    walk-two (stop r) more x₁ x₂ = p ∙ ap (storing 0) x₁
-    walk-two (on b₁) more x₁ x₂ = behind b₁ x₁ (more b₁) (x₂ b₁ x₁)
+    walk-two (refuse r) more x₁ x₂ = p ∙ ap (storing 0) x₁
+    walk-two (ok b₁) more x₁ x₂ = behind b₁ x₁ (more b₁) (x₂ b₁ x₁)
 
   -- a let, and then its two parts
   module _ (w : List ℕ) (m k s₁ s₂ : ℕ) (ls₁ ls₂ t : List ℕ) {l : Position} {v : ℕ} (h : Head w k (Binary Let) l v) (bound : List ℕ)
@@ -182,11 +182,11 @@ module _ (count : ℕ) where
     step-let = let q : suc (s₁ + s₂) + m ≡ suc (s₁ + (s₂ + m)) = omega arith in rw q (step w (s₁ + (s₂ + m)) k t h)
 
     walk-let : (x₀ : among v bound ≡ false → Extends w (k + suc (s₁ + s₂)) t (set t v k))
-        → (o₁ : List ℕ → Out (List ℕ)) (more : List ℕ → Out (List ℕ))
+        → (o₁ : List ℕ → Result (List ℕ)) (more : List ℕ → Result (List ℕ))
         → (among v bound ≡ false → Walked w (s₂ + m) (k + 1) s₁ ls₁ (set t v k) (o₁ (v ∷ bound)))
         → (among v bound ≡ false → (b₁ : List ℕ) (x₁ : Gone w (s₂ + m) (k + 1) s₁ ls₁ (set t v k) b₁) → Walked w m (k + 1 + s₁) s₂ ls₂ (x₁ .table) (more b₁))
         → (y : Bool) → among v bound ≡ y
-        → Walked w m k (suc (s₁ + s₂)) (0 ∷ (ls₁ ++ ls₂)) t ((if y then stop (Rebound (l .line)) else on (v ∷ bound)) >>= λ b. o₁ b >>= more)
+        → Walked w m k (suc (s₁ + s₂)) (0 ∷ (ls₁ ++ ls₂)) t ((if y then refuse (Rebound (l .line)) else ok (v ∷ bound)) >>= λ b. o₁ b >>= more)
     unfolding continued judgeLet stepLineAt _>>=_
     walk-let x₀ o₁ more x₁ x₂ true e =
         let low : getD t v noMark < noMark = ltb-true (getD t v noMark) noMark (sym (bind v small) ∙ e) in
@@ -225,7 +225,7 @@ module _ (count : ℕ) where
 
   -- a step of one part, which calls a procedure or not, and then its part
   module _ (w : List ℕ) (m k s : ℕ) (ls t : List ℕ) (ins : List (ℕ × ℕ)) (bound : List ℕ) (x : UnaryWord) {l : Position} {v : ℕ} (h : Head w k (Unary x) l v)
-      (more : List ℕ → Out (List ℕ)) where
+      (more : List ℕ → Result (List ℕ)) where
     step-calls : role (Unary x) ≡ Calls → scopesFrom w count (suc s + m) k t ≡ continued (λ u. scopesFrom w count (s + m) (k + 1) u) k t v (judgeCall w count k)
     unfolding judgeBy
     step-calls e =
@@ -233,7 +233,7 @@ module _ (count : ℕ) where
         rw q (step w (s + m) k t h ∙ ap (λ r. continued (λ u. scopesFrom w count (s + m) (k + 1) u) k t v (judgeBy w count k (getD t v noMark) r)) e)
 
     walk-call : role (Unary x) ≡ Calls → Walked w m (k + 1) s ls t (more bound) → (y : Bool) → ltb v count ≡ y
-        → Walked w m k (suc s) (0 ∷ ls) t ((if y then on bound else stop (NoProcedure (l .line))) >>= more)
+        → Walked w m k (suc s) (0 ∷ ls) t ((if y then ok bound else refuse (NoProcedure (l .line))) >>= more)
     unfolding continued judgeCall valueAt stepLineAt _>>=_
     walk-call e x₁ true q = walk-one w m k s ls t (more bound) (step-calls e ∙ rw (h .value, q) refl) x₁
     walk-call e x₁ false q = step-calls e ∙ rw (h .value, q, h .line) refl

@@ -5,7 +5,7 @@ use Prim.Native.Nat.{ℕ, suc, zero, _+_, _-_, _<_, _≤_}
 use lib.Dec.{ltb}
 use lib.ListN.{length, getD, set, replicate}
 use Rattle.spec.specs.Choice.{if_then_else_}
-use Rattle.spec.specs.Reading.{Out, stop, on}
+use Rattle.spec.specs.Reading.{Result, refuse, ok}
 use Rattle.spec.specs.declared.Refusal.the-variants.{Rebound}
 use Rattle.workspace.specs.Layout.{letsAt, procLinesAt, procVarsAt, procFirstsAt, procMark, workSize}
 use Rattle.workspace.specs.Region.{Region, ChangedWithin}
@@ -25,19 +25,19 @@ abbrev pub Passing : Type 0
 Passing = List ℕ × List ℕ
 
 -- a number stored in front of those of the steps behind
-unfoldable pub storing : ℕ → Out Passing → Out Passing
-storing x (stop r) = stop r
-storing x (on p) = on (x ∷ p .0, p .1)
+unfoldable pub storing : ℕ → Result Passing → Result Passing
+storing x (refuse r) = refuse r
+storing x (ok p) = ok (x ∷ p .0, p .1)
 
 -- the step at index k with number v, judged, and the steps behind it with the table that it leaves
-unfoldable pub continued : (List ℕ → Out Passing) → (k : ℕ) → (table : List ℕ) → (v : ℕ) → Judged → Out Passing
+unfoldable pub continued : (List ℕ → Result Passing) → (k : ℕ) → (table : List ℕ) → (v : ℕ) → Judged → Result Passing
 continued behind k t v Bind = storing 0 (behind (set t v k))
 continued behind k t v (Store x) = storing x (behind t)
-continued behind k t v (Refused r) = stop r
+continued behind k t v (Refused r) = refuse r
 
 -- the next m steps from index k on: the first refusal, or what is stored for each
-unfoldable pub scopesFrom : List ℕ → (count m k : ℕ) → (table : List ℕ) → Out Passing
-scopesFrom w count zero k t = on ([], t)
+unfoldable pub scopesFrom : List ℕ → (count m k : ℕ) → (table : List ℕ) → Result Passing
+scopesFrom w count zero k t = ok ([], t)
 scopesFrom w count (suc m) k t =
     continued (λ u. scopesFrom w count m (k + 1) u) k t (valueAt w k) (judgeOf w count k (getD t (valueAt w k) noMark))
 
@@ -54,19 +54,19 @@ abbrev pub firstAt : List ℕ → (f : ℕ) → ℕ
 firstAt w f = getD w (procFirstsAt + f) 0
 
 -- numbers in front of those that are stored behind
-unfoldable pub withFront : List ℕ → Out (List ℕ) → Out (List ℕ)
-withFront xs (stop r) = stop r
-withFront xs (on ys) = on (xs ++ ys)
+unfoldable pub withFront : List ℕ → Result (List ℕ) → Result (List ℕ)
+withFront xs (refuse r) = refuse r
+withFront xs (ok ys) = ok (xs ++ ys)
 
 -- what is stored for steps, and then for those behind them
-unfoldable pub followed : Out Passing → (List ℕ → Out (List ℕ)) → Out (List ℕ)
-followed (stop r) behind = stop r
-followed (on p) behind = withFront (p .0) (behind (p .1))
+unfoldable pub followed : Result Passing → (List ℕ → Result (List ℕ)) → Result (List ℕ)
+followed (refuse r) behind = refuse r
+followed (ok p) behind = withFront (p .0) (behind (p .1))
 
 -- the procedure f binds its variable, and its body is judged
-unfoldable pub bodyScopes : List ℕ → (count f : ℕ) → (table : List ℕ) → Out Passing
+unfoldable pub bodyScopes : List ℕ → (count f : ℕ) → (table : List ℕ) → Result Passing
 bodyScopes w count f t =
-    if ltb (getD t (getD w (procVarsAt + f) 0) noMark) noMark then stop (Rebound (getD w (procLinesAt + f) 0))
+    if ltb (getD t (getD w (procVarsAt + f) 0) noMark) noMark then refuse (Rebound (getD w (procLinesAt + f) 0))
     else scopesFrom w count (firstAt w (f + 1) - firstAt w f) (firstAt w f) (set t (getD w (procVarsAt + f) 0) (procMark + f))
 
 -- a body is due with a table
@@ -84,8 +84,8 @@ pub record BodyScoped (count f : ℕ) (w w′ t t′ : List ℕ) (r : Ruling) : 
   pub tableLong : length t′ ≡ length t
 
 -- the next m procedures from number f on, and the root, in a sheet of n steps
-unfoldable pub scopesBehind : List ℕ → (n count m f : ℕ) → (table : List ℕ) → Out (List ℕ)
-scopesBehind w n count zero f t = followed (scopesFrom w count (n - firstAt w f) (firstAt w f) t) (λ u. on [])
+unfoldable pub scopesBehind : List ℕ → (n count m f : ℕ) → (table : List ℕ) → Result (List ℕ)
+scopesBehind w n count zero f t = followed (scopesFrom w count (n - firstAt w f) (firstAt w f) t) (λ u. ok [])
 scopesBehind w n count (suc m) f t = followed (bodyScopes w count f t) (λ u. scopesBehind w n count m (f + 1) u)
 
 -- the work space has the bodies one behind the other, and then the root

@@ -17,7 +17,7 @@ ghost use Prim.Native.Nat.{_≤_};
 ghost use lib.ListN.{length, getD, set};
 ghost use Rattle.workspace.specs.Layout.{workSize};
 ghost use Rattle.structure.specs.Scopes.{PartScoped, BodyScopable, BodyScoped, Scopable, Scoped};
-ghost use Rattle.structure.specs.Arranged.{Arrangeable, Arranged};
+ghost use Rattle.structure.specs.Resolved.{Resolvable, Resolved};
 
 // What binds a variable: the index of its let, or the mark of its procedure; unbound, past the table's end.
 fn binder(table: &[u32], v: usize) -> u32
@@ -59,7 +59,7 @@ fn scope_steps(work: &mut [u32], table: &mut [u32], count: usize, from: usize, t
         work[LETS + k] = stored;
         k += 1;
     }
-    Ruling::Met
+    Ruling::Holds
 }
 
 // The procedure f binds its variable in a table, and its body is judged.
@@ -92,7 +92,7 @@ fn scopes(work: &mut [u32], n: usize, count: usize) -> Ruling
             Ruling::Refused(refusal) => {
                 return Ruling::Refused(refusal);
             }
-            Ruling::Met => {}
+            Ruling::Holds => {}
         }
         f += 1;
     }
@@ -102,9 +102,9 @@ fn scopes(work: &mut [u32], n: usize, count: usize) -> Ruling
 
 // Whether the lines stored list `count` procedures and a root, with their variables in scope; stores where steps end, where the root
 // begins, and which let or procedure each `var` means. `last` is the last line read.
-pub fn arrange(work: &mut [u32], steps: usize, procs: usize, count: usize, last: u32) -> Ruling
-    requires { ⌜ Arrangeable steps procs count (now work) ⌝ }
-    ensures { λ r. ⌜ Arranged steps procs count last (now (work .entry)) (now (work .exit)) r ⌝ }
+pub fn resolve(work: &mut [u32], steps: usize, procs: usize, count: usize, last: u32) -> Ruling
+    requires { ⌜ Resolvable steps procs count (now work) ⌝ }
+    ensures { λ r. ⌜ Resolved steps procs count last (now (work .entry)) (now (work .exit)) r ⌝ }
 {
     match tree::structure(work, steps, procs, count, last) {
         Found::Refused(refusal) => Ruling::Refused(refusal),

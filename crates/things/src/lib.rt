@@ -2,7 +2,7 @@
 // them by rule.
 use workspace::Rule;
 ghost use mathlib.Core.Path.{_≡_};
-ghost use Rattle.things.specs.Uses.{madeOf, spawnedOf, joinedOf, readOf, writtenOf, lockedOf, unlockedOf, postedOf, waitedOf, rdlockedOf, rdunlockedOf, wrlockedOf, wrunlockedOf, usedBy};
+ghost use Rattle.things.specs.Uses.{madeOf, spawnedOf, joinedOf, readOf, writtenOf, lockedOf, unlockedOf, postedOf, waitedOf, rdlockedOf, rdunlockedOf, wrlockedOf, wrunlockedOf, effectOf};
 
 // An unused name, or a constant.
 pub const UNUSED: u32 = 0;
@@ -33,9 +33,9 @@ pub struct Slot {
 
 // The word becomes a value; or it becomes 0 and leaves this where it was; or it becomes the name of a new thing; or it spawns, or
 // joins, a thread with that identifier; or it cannot step.
-pub enum Used {
-    Gives(u32),
-    Leaves(Slot),
+pub enum StepEffect {
+    Returns(u32),
+    Updates(Slot),
     Makes(Slot),
     Spawns,
     Joins,
@@ -45,7 +45,7 @@ pub enum Used {
 const LARGEST: u32 = 4294967295;
 
 // A new thing of that kind.
-fn made(kind: u32, first: u32) -> Used
+fn made(kind: u32, first: u32) -> StepEffect
     ensures { λ r. ⌜ r ≡ madeOf kind first ⌝ }
 {
     let next = Slot {
@@ -53,37 +53,37 @@ fn made(kind: u32, first: u32) -> Used
         first,
         second: 0,
     };
-    Used::Makes(next)
+    StepEffect::Makes(next)
 }
 
-fn spawned(x: Slot) -> Used
+fn spawned(x: Slot) -> StepEffect
     ensures { λ r. ⌜ r ≡ spawnedOf x ⌝ }
 {
     if x.kind == IDENTIFIER {
-        return Used::Spawns;
+        return StepEffect::Spawns;
     }
-    Used::Stuck
+    StepEffect::Stuck
 }
 
-fn joined(x: Slot) -> Used
+fn joined(x: Slot) -> StepEffect
     ensures { λ r. ⌜ r ≡ joinedOf x ⌝ }
 {
     if x.kind == IDENTIFIER {
-        return Used::Joins;
+        return StepEffect::Joins;
     }
-    Used::Stuck
+    StepEffect::Stuck
 }
 
-fn read(x: Slot) -> Used
+fn read(x: Slot) -> StepEffect
     ensures { λ r. ⌜ r ≡ readOf x ⌝ }
 {
     if x.kind == CELL {
-        return Used::Gives(x.first);
+        return StepEffect::Returns(x.first);
     }
-    Used::Stuck
+    StepEffect::Stuck
 }
 
-fn written(x: Slot, v: u32) -> Used
+fn written(x: Slot, v: u32) -> StepEffect
     ensures { λ r. ⌜ r ≡ writtenOf x v ⌝ }
 {
     if x.kind == CELL {
@@ -92,12 +92,12 @@ fn written(x: Slot, v: u32) -> Used
             first: v,
             second: 0,
         };
-        return Used::Leaves(next);
+        return StepEffect::Updates(next);
     }
-    Used::Stuck
+    StepEffect::Stuck
 }
 
-fn locked(x: Slot) -> Used
+fn locked(x: Slot) -> StepEffect
     ensures { λ r. ⌜ r ≡ lockedOf x ⌝ }
 {
     if x.kind == LOCK {
@@ -107,14 +107,14 @@ fn locked(x: Slot) -> Used
                 first: 1,
                 second: 0,
             };
-            return Used::Leaves(next);
+            return StepEffect::Updates(next);
         }
     }
-    Used::Stuck
+    StepEffect::Stuck
 }
 
 // An open lock stays open.
-fn unlocked(x: Slot) -> Used
+fn unlocked(x: Slot) -> StepEffect
     ensures { λ r. ⌜ r ≡ unlockedOf x ⌝ }
 {
     if x.kind == LOCK {
@@ -123,13 +123,13 @@ fn unlocked(x: Slot) -> Used
             first: 0,
             second: 0,
         };
-        return Used::Leaves(next);
+        return StepEffect::Updates(next);
     }
-    Used::Stuck
+    StepEffect::Stuck
 }
 
 // A count of all ones is never reached: it would take as many lines.
-fn posted(x: Slot) -> Used
+fn posted(x: Slot) -> StepEffect
     ensures { λ r. ⌜ r ≡ postedOf x ⌝ }
 {
     let low = x.first;
@@ -141,7 +141,7 @@ fn posted(x: Slot) -> Used
                 first: low + 1,
                 second: high,
             };
-            return Used::Leaves(next);
+            return StepEffect::Updates(next);
         }
         if high < LARGEST {
             let next = Slot {
@@ -149,13 +149,13 @@ fn posted(x: Slot) -> Used
                 first: 0,
                 second: high + 1,
             };
-            return Used::Leaves(next);
+            return StepEffect::Updates(next);
         }
     }
-    Used::Stuck
+    StepEffect::Stuck
 }
 
-fn waited(x: Slot) -> Used
+fn waited(x: Slot) -> StepEffect
     ensures { λ r. ⌜ r ≡ waitedOf x ⌝ }
 {
     let low = x.first;
@@ -167,7 +167,7 @@ fn waited(x: Slot) -> Used
                 first: low - 1,
                 second: high,
             };
-            return Used::Leaves(next);
+            return StepEffect::Updates(next);
         }
         if 0 < high {
             let next = Slot {
@@ -175,13 +175,13 @@ fn waited(x: Slot) -> Used
                 first: LARGEST,
                 second: high - 1,
             };
-            return Used::Leaves(next);
+            return StepEffect::Updates(next);
         }
     }
-    Used::Stuck
+    StepEffect::Stuck
 }
 
-fn rdlocked(x: Slot) -> Used
+fn rdlocked(x: Slot) -> StepEffect
     ensures { λ r. ⌜ r ≡ rdlockedOf x ⌝ }
 {
     let places = x.first;
@@ -193,13 +193,13 @@ fn rdlocked(x: Slot) -> Used
                 first: places,
                 second: readers + 1,
             };
-            return Used::Leaves(next);
+            return StepEffect::Updates(next);
         }
     }
-    Used::Stuck
+    StepEffect::Stuck
 }
 
-fn rdunlocked(x: Slot) -> Used
+fn rdunlocked(x: Slot) -> StepEffect
     ensures { λ r. ⌜ r ≡ rdunlockedOf x ⌝ }
 {
     let places = x.first;
@@ -211,13 +211,13 @@ fn rdunlocked(x: Slot) -> Used
                 first: places,
                 second: readers - 1,
             };
-            return Used::Leaves(next);
+            return StepEffect::Updates(next);
         }
     }
-    Used::Stuck
+    StepEffect::Stuck
 }
 
-fn wrlocked(x: Slot) -> Used
+fn wrlocked(x: Slot) -> StepEffect
     ensures { λ r. ⌜ r ≡ wrlockedOf x ⌝ }
 {
     let places = x.first;
@@ -228,13 +228,13 @@ fn wrlocked(x: Slot) -> Used
                 first: places,
                 second: 0,
             };
-            return Used::Leaves(next);
+            return StepEffect::Updates(next);
         }
     }
-    Used::Stuck
+    StepEffect::Stuck
 }
 
-fn wrunlocked(x: Slot) -> Used
+fn wrunlocked(x: Slot) -> StepEffect
     ensures { λ r. ⌜ r ≡ wrunlockedOf x ⌝ }
 {
     let places = x.first;
@@ -244,22 +244,22 @@ fn wrunlocked(x: Slot) -> Used
             first: places,
             second: 0,
         };
-        return Used::Leaves(next);
+        return StepEffect::Updates(next);
     }
-    Used::Stuck
+    StepEffect::Stuck
 }
 
 // The word of that rule: x is what it is about, v the value that it stores, or the reading places of a new read-write lock. The words
 // of a thread alone use nothing.
-pub fn used_by(r: Rule, x: Slot, v: u32) -> Used
-    ensures { λ u. ⌜ u ≡ usedBy r x v ⌝ }
+pub fn effect_of(r: Rule, x: Slot, v: u32) -> StepEffect
+    ensures { λ u. ⌜ u ≡ effectOf r x v ⌝ }
 {
     match r {
-        Rule::VAR => Used::Stuck,
-        Rule::INT => Used::Stuck,
-        Rule::LET => Used::Stuck,
-        Rule::IF => Used::Stuck,
-        Rule::WHILE => Used::Stuck,
+        Rule::VAR => StepEffect::Stuck,
+        Rule::INT => StepEffect::Stuck,
+        Rule::LET => StepEffect::Stuck,
+        Rule::IF => StepEffect::Stuck,
+        Rule::WHILE => StepEffect::Stuck,
         Rule::NEWT => made(IDENTIFIER, 0),
         Rule::SPAWN => spawned(x),
         Rule::JOIN => joined(x),
@@ -277,6 +277,6 @@ pub fn used_by(r: Rule, x: Slot, v: u32) -> Used
         Rule::RDUNLOCK => rdunlocked(x),
         Rule::WRLOCK => wrlocked(x),
         Rule::WRUNLOCK => wrunlocked(x),
-        Rule::CALL => Used::Stuck,
+        Rule::CALL => StepEffect::Stuck,
     }
 }

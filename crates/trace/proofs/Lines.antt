@@ -46,15 +46,15 @@ module _ (end from to : ℕ) (text : List ℕ) (le : from ≤ length text) (is :
       let w : to - from ≡ width t = omega (arith, is) in
       rw (lt-ltb (width t) (length t) (omega (arith, h, is, length-drop from text)), eq-eqb (getD t (width t) 0) end (byte ∙ e), w, is)
 
-pub number-told : (o : Option ℕ) (n next : ℕ) → numeralOf o ≡ numeral-is.Value n → closed.Number (stored n) next ≡ closedNumber o next
+pub number-decodes : (o : Option ℕ) (n next : ℕ) → numeralOf o ≡ numeral-is.Value n → closed.Number (stored n) next ≡ closedNumber o next
 unfolding numeralOf closedNumber
-number-told none n next e = cc
-number-told (some m) n next e = let same : m ≡ n = cc in rw same
+number-decodes none n next e = cc
+number-decodes (some m) n next e = let same : m ≡ n = cc in rw same
 
-pub malformed-told : (o : Option ℕ) (next : ℕ) → numeralOf o ≡ numeral-is.Malformed → closed.Malformed ≡ closedNumber o next
+pub malformed-decodes : (o : Option ℕ) (next : ℕ) → numeralOf o ≡ numeral-is.Malformed → closed.Malformed ≡ closedNumber o next
 unfolding numeralOf closedNumber
-malformed-told none next e = refl
-malformed-told (some m) next e = cc
+malformed-decodes none next e = refl
+malformed-decodes (some m) next e = cc
 
 -- ------------------------------------------------------------------ the byte that ends a field
 

@@ -297,6 +297,6 @@ module _ (w : List ℕ) (steps procs e j : ℕ) where
   unfolding leftAt
   left-step h q = sym (rw h (ap (λ k. outcome.Refused (ProgramLines k)) (sym q)))
 
-  pub left-none : nextOf w steps procs e j ≡ End → outcome.Met ≡ leftAt w steps procs e j
+  pub left-none : nextOf w steps procs e j ≡ End → outcome.Holds ≡ leftAt w steps procs e j
   unfolding leftAt
   left-none h = sym (rw h)

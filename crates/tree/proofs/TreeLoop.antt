@@ -6,7 +6,7 @@ use mathlib.Core.List.{List, [], _∷_}
 use Prim.Native.Nat.{ℕ, suc, _+_, _-_, _<_, _≤_}
 use native.Mathlib.Omega.{arith}
 use native.Mathlib.Nat.{sub-zero}
-use Rattle.spec.specs.Reading.{Out, stop, on, _>>=_}
+use Rattle.spec.specs.Reading.{Result, refuse, ok, _>>=_}
 use Rattle.spec.specs.Expression.{Expr, size, Step, Item, step, proc, lineOfItem, expression, noLineLeft, Procedure, structure}
 use Rattle.spec.specs.declared.Refusal.{Refusal}
 use Rattle.workspace.specs.Layout.{endsAt, stepRoom}
@@ -36,36 +36,36 @@ same-refusal p q = cc
 
 -- ------------------------------------------------------------------ answers from an index on
 
-abbrev pub AnswerFrom : (w′ : List ℕ) (i : ℕ) → Found → Out (List Procedure × Expr) → Type 0
-AnswerFrom w′ i r (stop x) = r ≡ Refused x
-AnswerFrom w′ i r (on (ps, root)) = (r ≡ At (rootFirst i ps)) × Region w′ (endsAt + i) (allEnds i ps root)
+abbrev pub AnswerFrom : (w′ : List ℕ) (i : ℕ) → Found → Result (List Procedure × Expr) → Type 0
+AnswerFrom w′ i r (refuse x) = r ≡ Refused x
+AnswerFrom w′ i r (ok (ps, root)) = (r ≡ At (rootFirst i ps)) × Region w′ (endsAt + i) (allEnds i ps root)
 
-answer-top : (w′ : List ℕ) (r : Found) (o : Out (List Procedure × Expr)) → AnswerFrom w′ 0 r o → TreeAnswer w′ r o
-answer-top w′ r (stop x) a = a
-answer-top w′ r (on (ps, root)) a = a
+answer-top : (w′ : List ℕ) (r : Found) (o : Result (List Procedure × Expr)) → AnswerFrom w′ 0 r o → TreeAnswer w′ r o
+answer-top w′ r (refuse x) a = a
+answer-top w′ r (ok (ps, root)) a = a
 
 -- a procedure in front of what is found
-unfoldable inFront : Procedure → Out (List Procedure × Expr) → Out (List Procedure × Expr)
-inFront p (stop r) = stop r
-inFront p (on (ps, root)) = on (p ∷ ps, root)
+unfoldable inFront : Procedure → Result (List Procedure × Expr) → Result (List Procedure × Expr)
+inFront p (refuse r) = refuse r
+inFront p (ok (ps, root)) = ok (p ∷ ps, root)
 
 answer-front : {w w′ : List ℕ} (i : ℕ) (p : Procedure) (r : Found) → Region w (endsAt + i) (ends i (p .body))
     → ChangedWithin (endsAt + (i + size (p .body))) (endsAt + stepRoom) w w′
-    → (o : Out (List Procedure × Expr)) → AnswerFrom w′ (i + size (p .body)) r o → AnswerFrom w′ i r (inFront p o)
+    → (o : Result (List Procedure × Expr)) → AnswerFrom w′ (i + size (p .body)) r o → AnswerFrom w′ i r (inFront p o)
 unfolding inFront rootFirst allEnds
-answer-front i p r m c (stop x) a = a
-answer-front i p r m c (on (ps, root)) a = (
+answer-front i p r m c (refuse x) a = a
+answer-front i p r m c (ok (ps, root)) a = (
   a .0,
   region-append (ends i (p .body)) (allEnds (i + size (p .body)) ps root)
       (region-kept c (inl (omega (arith, ends-length i (p .body)))) m)
       (region-moved _ _ (omega (arith, ends-length i (p .body))) (a .1)),
 )
 
-front-by : (line x : ℕ) (b : Expr) (o : Out (List Procedure × Expr))
-    → (o >>= λ t. on (record { line = line; parameter = x; body = b } ∷ t .0, t .1)) ≡ inFront (record { line = line; parameter = x; body = b }) o
+front-by : (line x : ℕ) (b : Expr) (o : Result (List Procedure × Expr))
+    → (o >>= λ t. ok (record { line = line; parameter = x; body = b } ∷ t .0, t .1)) ≡ inFront (record { line = line; parameter = x; body = b }) o
 unfolding inFront _>>=_
-front-by line x b (stop r) = refl
-front-by line x b (on (ps, root)) = refl
+front-by line x b (refuse r) = refl
+front-by line x b (ok (ps, root)) = refl
 
 -- ------------------------------------------------------------------ one procedure of the walk
 
@@ -79,11 +79,11 @@ record BodyOn (steps procs i j last e : ℕ) (w′ : List ℕ) (items : List Ite
   walked : (k : ℕ) → structure last (suc k) i items ≡ inFront procedure (structure last k (i + size (procedure .body)) behind)
 
 module _ (steps procs i j last : ℕ) (w′ : List ℕ) (r : Found) where
-  on-by : (e x line : ℕ) (items : List Item) → r ≡ At e → (o : Out (Expr × List Item)) → expression last i items ≡ o
+  on-by : (e x line : ℕ) (items : List Item) → r ≡ At e → (o : Result (Expr × List Item)) → expression last i items ≡ o
       → BodyAnswer steps procs i j w′ r o → BodyOn steps procs i j last e w′ (proc x line ∷ items)
   unfolding structure _>>=_
-  on-by e x line items p (stop y) q a = absurd (no-refusal a p)
-  on-by e x line items p (on (b, behind)) q a = record {
+  on-by e x line items p (refuse y) q a = absurd (no-refusal a p)
+  on-by e x line items p (ok (b, behind)) q a = record {
     procedure = record { line = line; parameter = x; body = b };
     behind = behind;
     ended = same-at (a .0) p;
@@ -98,17 +98,17 @@ module _ (steps procs i j last : ℕ) (w′ : List ℕ) (r : Found) where
   body-on e (step s ∷ items) p a = absurd (no-refusal a p)
   body-on e (proc x line ∷ items) p a = on-by e x line items p (expression last i items) refl a
 
-  off-by : (x : Refusal) (y line : ℕ) (items : List Item) → r ≡ Refused x → (o : Out (Expr × List Item)) → expression last i items ≡ o
-      → BodyAnswer steps procs i j w′ r o → (k : ℕ) → structure last (suc k) i (proc y line ∷ items) ≡ stop x
+  off-by : (x : Refusal) (y line : ℕ) (items : List Item) → r ≡ Refused x → (o : Result (Expr × List Item)) → expression last i items ≡ o
+      → BodyAnswer steps procs i j w′ r o → (k : ℕ) → structure last (suc k) i (proc y line ∷ items) ≡ refuse x
   unfolding structure _>>=_
-  off-by x y line items p (stop z) q a k = rw q (ap stop (same-refusal a p))
-  off-by x y line items p (on (b, behind)) q a k = absurd (no-refusal p (a .0))
+  off-by x y line items p (refuse z) q a k = rw q (ap refuse (same-refusal a p))
+  off-by x y line items p (ok (b, behind)) q a k = absurd (no-refusal p (a .0))
 
   body-off : (x : Refusal) (items : List Item) → r ≡ Refused x → BodyAnswer steps procs i j w′ r (bodyDue last i items)
-      → (k : ℕ) → structure last (suc k) i items ≡ stop x
+      → (k : ℕ) → structure last (suc k) i items ≡ refuse x
   unfolding bodyDue structure
-  body-off x [] p a k = ap stop (same-refusal a p)
-  body-off x (step s ∷ items) p a k = ap stop (same-refusal a p)
+  body-off x [] p a k = ap refuse (same-refusal a p)
+  body-off x (step s ∷ items) p a k = ap refuse (same-refusal a p)
   body-off x (proc y line ∷ items) p a k = off-by x y line items p (expression last i items) refl a k
 
 -- ------------------------------------------------------------------ the loop
@@ -196,9 +196,9 @@ module _ (steps procs count last : ℕ) (w₀ w : List ℕ) (i f : ℕ) (s : Wal
 -- ------------------------------------------------------------------ the root
 
 -- what is left behind it
-abbrev LeftAnswer : Ruling → Out (Unit {0}) → Type 0
-LeftAnswer o (stop x) = o ≡ outcome.Refused x
-LeftAnswer o (on u) = o ≡ outcome.Met
+abbrev LeftAnswer : Ruling → Result (Unit {0}) → Type 0
+LeftAnswer o (refuse x) = o ≡ outcome.Refused x
+LeftAnswer o (ok u) = o ≡ outcome.Holds
 
 left-answer : (steps procs e j : ℕ) (w : List ℕ) (items : List Item) → StoredFrom w steps procs e j items → LeftAnswer (leftAt w steps procs e j) (noLineLeft items)
 unfolding StoredFrom noLineLeft lineOfItem nextBy stepLineAt
@@ -208,46 +208,46 @@ left-answer steps procs e j w (step s ∷ items) h =
 left-answer steps procs e j w (proc x k ∷ items) h =
     sym (left-proc w steps procs e j (next-by w steps procs e j (proc x k ∷ items) h) (sym (h .2)))
 
-no-pass : {x : Refusal} {o : Ruling} → o ≡ outcome.Refused x → o ≡ outcome.Met → ⊥
+no-pass : {x : Refusal} {o : Ruling} → o ≡ outcome.Refused x → o ≡ outcome.Holds → ⊥
 no-pass p q = let z : _≡_ {A = ℕ} 0 1 = cc in omega arith
 
 same-fault : {x y : Refusal} {o : Ruling} → o ≡ outcome.Refused x → o ≡ outcome.Refused y → x ≡ y
 same-fault p q = cc
 
 module _ (steps procs i j last : ℕ) (w′ : List ℕ) (r : Found) (items : List Item) where
-  root-off-by : (x : Refusal) → r ≡ Refused x → (o : Out (Expr × List Item)) → expression last i items ≡ o → BodyAnswer steps procs i j w′ r o
+  root-off-by : (x : Refusal) → r ≡ Refused x → (o : Result (Expr × List Item)) → expression last i items ≡ o → BodyAnswer steps procs i j w′ r o
       → AnswerFrom w′ i (Refused x) (structure last 0 i items)
   unfolding structure _>>=_
-  root-off-by x p (stop y) q a = rw q (ap Refused (same-refusal p a))
-  root-off-by x p (on (b, behind)) q a = absurd (no-refusal p (a .0))
+  root-off-by x p (refuse y) q a = rw q (ap Refused (same-refusal p a))
+  root-off-by x p (ok (b, behind)) q a = absurd (no-refusal p (a .0))
 
   module _ (e : ℕ) (p : r ≡ At e) (t : Ruling) (is : t ≡ leftAt w′ steps procs e j) where
-    left-of : (b : Expr) (behind : List Item) → BodyAnswer steps procs i j w′ r (on (b, behind)) → LeftAnswer t (noLineLeft behind)
+    left-of : (b : Expr) (behind : List Item) → BodyAnswer steps procs i j w′ r (ok (b, behind)) → LeftAnswer t (noLineLeft behind)
     left-of b behind a =
         subst (λ o. LeftAnswer o (noLineLeft behind)) (sym is)
         (left-answer steps procs e j w′ behind (subst (λ n. StoredFrom w′ steps procs n j behind) (sym (same-at (a .0) p)) (a .2)))
 
-    passed-by : (b : Expr) (behind : List Item) → expression last i items ≡ on (b, behind) → Region w′ (endsAt + i) (ends i b) → t ≡ outcome.Met
-        → (u : Out (Unit {0})) → noLineLeft behind ≡ u → LeftAnswer t u → AnswerFrom w′ i (At i) (structure last 0 i items)
+    passed-by : (b : Expr) (behind : List Item) → expression last i items ≡ ok (b, behind) → Region w′ (endsAt + i) (ends i b) → t ≡ outcome.Holds
+        → (u : Result (Unit {0})) → noLineLeft behind ≡ u → LeftAnswer t u → AnswerFrom w′ i (At i) (structure last 0 i items)
     unfolding structure _>>=_ rootFirst allEnds
-    passed-by b behind q m g (stop x) v a = absurd (no-pass a g)
-    passed-by b behind q m g (on d) v a = rw (q, v) (refl, m)
+    passed-by b behind q m g (refuse x) v a = absurd (no-pass a g)
+    passed-by b behind q m g (ok d) v a = rw (q, v) (refl, m)
 
-    failed-by : (x : Refusal) (b : Expr) (behind : List Item) → expression last i items ≡ on (b, behind) → t ≡ outcome.Refused x
-        → (u : Out (Unit {0})) → noLineLeft behind ≡ u → LeftAnswer t u → AnswerFrom w′ i (Refused x) (structure last 0 i items)
+    failed-by : (x : Refusal) (b : Expr) (behind : List Item) → expression last i items ≡ ok (b, behind) → t ≡ outcome.Refused x
+        → (u : Result (Unit {0})) → noLineLeft behind ≡ u → LeftAnswer t u → AnswerFrom w′ i (Refused x) (structure last 0 i items)
     unfolding structure _>>=_
-    failed-by x b behind q g (stop y) v a = rw (q, v) (ap Refused (same-fault g a))
-    failed-by x b behind q g (on d) v a = absurd (no-pass g a)
+    failed-by x b behind q g (refuse y) v a = rw (q, v) (ap Refused (same-fault g a))
+    failed-by x b behind q g (ok d) v a = absurd (no-pass g a)
 
-    root-passed-by : t ≡ outcome.Met → (o : Out (Expr × List Item)) → expression last i items ≡ o → BodyAnswer steps procs i j w′ r o
+    root-passed-by : t ≡ outcome.Holds → (o : Result (Expr × List Item)) → expression last i items ≡ o → BodyAnswer steps procs i j w′ r o
         → AnswerFrom w′ i (At i) (structure last 0 i items)
-    root-passed-by g (stop y) q a = absurd (no-refusal a p)
-    root-passed-by g (on (b, behind)) q a = passed-by b behind q (a .1) g (noLineLeft behind) refl (left-of b behind a)
+    root-passed-by g (refuse y) q a = absurd (no-refusal a p)
+    root-passed-by g (ok (b, behind)) q a = passed-by b behind q (a .1) g (noLineLeft behind) refl (left-of b behind a)
 
-    root-failed-by : (x : Refusal) → t ≡ outcome.Refused x → (o : Out (Expr × List Item)) → expression last i items ≡ o → BodyAnswer steps procs i j w′ r o
+    root-failed-by : (x : Refusal) → t ≡ outcome.Refused x → (o : Result (Expr × List Item)) → expression last i items ≡ o → BodyAnswer steps procs i j w′ r o
         → AnswerFrom w′ i (Refused x) (structure last 0 i items)
-    root-failed-by x g (stop y) q a = absurd (no-refusal a p)
-    root-failed-by x g (on (b, behind)) q a = failed-by x b behind q g (noLineLeft behind) refl (left-of b behind a)
+    root-failed-by x g (refuse y) q a = absurd (no-refusal a p)
+    root-failed-by x g (ok (b, behind)) q a = failed-by x b behind q g (noLineLeft behind) refl (left-of b behind a)
 
 module _ (steps procs count last : ℕ) (w₀ w : List ℕ) (i f : ℕ) (s : Walked steps procs count last w₀ w i f) (l : count ≤ f) where
   none-due : count - f ≡ 0
@@ -275,14 +275,14 @@ module _ (steps procs count last : ℕ) (w₀ w : List ℕ) (i f : ℕ) (s : Wal
         (λ items h. root-off-by steps procs i count last w₁ r items y p (expression last i items) refl (root-at items h))
 
     module _ (e : ℕ) (p : r ≡ At e) where
-      ends-by : (items : List Item) → (o : Out (Expr × List Item)) → expression last i items ≡ o → BodyAnswer steps procs i count w₁ r o → e ≤ steps
-      ends-by items (stop y) q a = absurd (no-refusal a p)
-      ends-by items (on (b, behind)) q a = omega (arith, same-at (a .0) p, steps-left w₁ steps procs (i + size b) count behind (a .2))
+      ends-by : (items : List Item) → (o : Result (Expr × List Item)) → expression last i items ≡ o → BodyAnswer steps procs i count w₁ r o → e ≤ steps
+      ends-by items (refuse y) q a = absurd (no-refusal a p)
+      ends-by items (ok (b, behind)) q a = omega (arith, same-at (a .0) p, steps-left w₁ steps procs (i + size b) count behind (a .2))
 
       pub root-within : e ≤ steps
       root-within = ends-by (s .left .items) (expression last i (s .left .items)) refl (root-at (s .left .items) (s .left .stored))
 
-      pub root-passed : (t : Ruling) → t ≡ leftAt w₁ steps procs e count → t ≡ outcome.Met → Structured steps procs count last w₀ w₁ (At i)
+      pub root-passed : (t : Ruling) → t ≡ leftAt w₁ steps procs e count → t ≡ outcome.Holds → Structured steps procs count last w₀ w₁ (At i)
       root-passed t is g = rooted (At i)
           (λ items h. root-passed-by steps procs i count last w₁ r items e p t is g (expression last i items) refl (root-at items h))
 

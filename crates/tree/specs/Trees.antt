@@ -6,7 +6,7 @@ use Prim.Native.Nat.{ℕ, _+_, _-_, _<_, _≤_}
 use lib.Dec.{eqb, ltb}
 use lib.ListN.{length, getD}
 use Rattle.spec.specs.Choice.{if_then_else_}
-use Rattle.spec.specs.Reading.{Out, stop, on}
+use Rattle.spec.specs.Reading.{Result, refuse, ok}
 use Rattle.spec.specs.Expression.{Expr, size, Item, step, proc, stepsAmong, Procedure, listed, expression, structure}
 use Rattle.spec.specs.declared.Refusal.the-variants.{ProgramLines}
 use Rattle.workspace.specs.Layout.{endsAt, linesAt, procLinesAt, procFirstsAt, stepRoom}
@@ -45,7 +45,7 @@ breakLine w procs j last = if ltb j procs then getD w (procLinesAt + j) 0 else l
 abbrev leftBy : List ℕ → (e j : ℕ) → Next → Ruling
 leftBy w e j Proc = outcome.Refused (ProgramLines (getD w (procLinesAt + j) 0))
 leftBy w e j Step = outcome.Refused (ProgramLines (getD w (linesAt + e) 0))
-leftBy w e j End = outcome.Met
+leftBy w e j End = outcome.Holds
 
 unfoldable pub leftAt : List ℕ → (steps procs e j : ℕ) → Ruling
 leftAt w steps procs e j = leftBy w e j (nextOf w steps procs e j)
@@ -88,15 +88,15 @@ pub record LinesLeft (steps procs i j : ℕ) (w : List ℕ) : Type 0 where
   pub stored : StoredFrom w steps procs i j items
 
 -- the body of the procedure that is due, and the lines behind it
-unfoldable pub bodyDue : (last i : ℕ) → List Item → Out (Expr × List Item)
-bodyDue last i [] = stop (ProgramLines last)
-bodyDue last i (step s ∷ items) = stop (ProgramLines (s .line))
+unfoldable pub bodyDue : (last i : ℕ) → List Item → Result (Expr × List Item)
+bodyDue last i [] = refuse (ProgramLines last)
+bodyDue last i (step s ∷ items) = refuse (ProgramLines (s .line))
 bodyDue last i (proc x k ∷ items) = expression last i items
 
 -- where it ends, and what stands stored behind it, behind j of the `proc` lines
-abbrev pub BodyAnswer : (steps procs i j : ℕ) (w′ : List ℕ) → Found → Out (Expr × List Item) → Type 0
-BodyAnswer steps procs i j w′ r (stop x) = r ≡ Refused x
-BodyAnswer steps procs i j w′ r (on (e, items)) =
+abbrev pub BodyAnswer : (steps procs i j : ℕ) (w′ : List ℕ) → Found → Result (Expr × List Item) → Type 0
+BodyAnswer steps procs i j w′ r (refuse x) = r ≡ Refused x
+BodyAnswer steps procs i j w′ r (ok (e, items)) =
     (r ≡ At (i + size e)) × Region w′ (endsAt + i) (ends i e) × StoredFrom w′ steps procs (i + size e) j items
 
 pub record BodyFound (steps procs i j last : ℕ) (w w′ : List ℕ) (r : Found) : Type 0 where
@@ -110,9 +110,9 @@ unfoldable pub rootFirst : (i : ℕ) → List Procedure → ℕ
 rootFirst i [] = i
 rootFirst i (p ∷ ps) = rootFirst (i + size (p .body)) ps
 
-abbrev pub TreeAnswer : (w′ : List ℕ) → Found → Out (List Procedure × Expr) → Type 0
-TreeAnswer w′ r (stop x) = r ≡ Refused x
-TreeAnswer w′ r (on (ps, root)) = (r ≡ At (rootFirst 0 ps)) × Region w′ endsAt (allEnds 0 ps root)
+abbrev pub TreeAnswer : (w′ : List ℕ) → Found → Result (List Procedure × Expr) → Type 0
+TreeAnswer w′ r (refuse x) = r ≡ Refused x
+TreeAnswer w′ r (ok (ps, root)) = (r ≡ At (rootFirst 0 ps)) × Region w′ endsAt (allEnds 0 ps root)
 
 -- what the walk answers, for the lines that the work space holds; `last` is the last line read
 pub record Structured (steps procs count last : ℕ) (w w′ : List ℕ) (r : Found) : Type 0 where

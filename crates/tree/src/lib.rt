@@ -145,7 +145,7 @@ fn finish(work: &[u32], steps: usize, procs: usize, e: usize, count: usize) -> R
             let line = workspace::at(work, LINES + e);
             Ruling::Refused(Refusal::ProgramLines(line))
         }
-        Next::End => Ruling::Met,
+        Next::End => Ruling::Holds,
     }
 }
 
@@ -193,7 +193,7 @@ pub fn structure(work: &mut [u32], steps: usize, procs: usize, count: usize, las
     match read_expression(work, steps, procs, i, count, last) {
         Found::Refused(refusal) => Found::Refused(refusal),
         Found::At(e) => match finish(work, steps, procs, e, count) {
-            Ruling::Met => Found::At(i),
+            Ruling::Holds => Found::At(i),
             Ruling::Refused(refusal) => Found::Refused(refusal),
         },
     }

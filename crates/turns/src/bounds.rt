@@ -1,13 +1,13 @@
 // The arithmetic of the bounds: from the most that the post of a step may be to those of its parts, and from what its parts can start
 // with to what it can.
-use fill_theory::BinaryWay;
+use fill_theory::BinaryTransfer;
 use fill_theory::Effect;
-use fill_theory::UnaryWay;
+use fill_theory::UnaryTransfer;
 use ways::taking;
 ghost use mathlib.Core.Path.{_≡_};
 ghost use Prim.Native.Nat.{_<_, min};
 ghost use Rattle.fill_theory.specs.Pass.{forth, back};
-ghost use Rattle.turns.specs.Bounds.{partCap, firstCap, lastCap, unaryCeiling, binaryCeiling, binaryReach};
+ghost use Rattle.turns.specs.Bounds.{partUpperBound, firstUpperBound, lastUpperBound, unaryCeiling, binaryCeiling, binaryAttainable};
 
 // No bound: more than any post can be.
 pub const TOP: u64 = 4611686018427387904;
@@ -45,70 +45,70 @@ pub fn back(effect: Effect, c: u64) -> u64
 }
 
 // The most that the part of a step may leave, if the step may leave at most c.
-pub fn part_cap(way: UnaryWay, c: u64) -> u64
+pub fn part_upper_bound(transfer: UnaryTransfer, c: u64) -> u64
     requires { ⌜ c < 9223372036854775808 ⌝ }
-    ensures { λ r. ⌜ r ≡ partCap way c ⌝ }
+    ensures { λ r. ⌜ r ≡ partUpperBound transfer c ⌝ }
 {
-    match way {
-        UnaryWay::After(effect) => back(effect, c),
-        UnaryWay::Loop => TOP,
-        UnaryWay::Call(wanted, _) => wanted,
+    match transfer {
+        UnaryTransfer::After(effect) => back(effect, c),
+        UnaryTransfer::Loop => TOP,
+        UnaryTransfer::Call(wanted, _) => wanted,
     }
 }
 
 // The most that the second part may leave.
-pub fn last_cap(way: BinaryWay, c: u64) -> u64
+pub fn last_upper_bound(transfer: BinaryTransfer, c: u64) -> u64
     requires { ⌜ c < 9223372036854775808 ⌝ }
-    ensures { λ r. ⌜ r ≡ lastCap way c ⌝ }
+    ensures { λ r. ⌜ r ≡ lastUpperBound transfer c ⌝ }
 {
-    match way {
-        BinaryWay::InTurn(effect) => back(effect, c),
-        BinaryWay::Branch => TOP,
-        BinaryWay::Fork(_, _) => TOP,
+    match transfer {
+        BinaryTransfer::InTurn(effect) => back(effect, c),
+        BinaryTransfer::Branch => TOP,
+        BinaryTransfer::Fork(_, _) => TOP,
     }
 }
 
 // The most that the first part may leave, if the second may start with at most `last`.
-pub fn first_cap(way: BinaryWay, c: u64, last: u64) -> u64
+pub fn first_upper_bound(transfer: BinaryTransfer, c: u64, last: u64) -> u64
     requires { ⌜ c < 9223372036854775808 ⌝ }
-    ensures { λ r. ⌜ r ≡ firstCap way c last ⌝ }
+    ensures { λ r. ⌜ r ≡ firstUpperBound transfer c last ⌝ }
 {
-    match way {
-        BinaryWay::InTurn(_) => last,
-        BinaryWay::Branch => TOP,
-        BinaryWay::Fork(start, _) => back(taking(start), c),
+    match transfer {
+        BinaryTransfer::InTurn(_) => last,
+        BinaryTransfer::Branch => TOP,
+        BinaryTransfer::Fork(start, _) => back(taking(start), c),
     }
 }
 
 // The most that a step may start with, if its part may start with at most `first`. A loop may start with anything.
-pub fn unary_ceiling(way: UnaryWay, first: u64) -> u64
-    ensures { λ r. ⌜ r ≡ unaryCeiling way first ⌝ }
+pub fn unary_ceiling(transfer: UnaryTransfer, first: u64) -> u64
+    ensures { λ r. ⌜ r ≡ unaryCeiling transfer first ⌝ }
 {
-    match way {
-        UnaryWay::After(_) => first,
-        UnaryWay::Loop => TOP,
-        UnaryWay::Call(_, _) => first,
+    match transfer {
+        UnaryTransfer::After(_) => first,
+        UnaryTransfer::Loop => TOP,
+        UnaryTransfer::Call(_, _) => first,
     }
 }
 
-pub fn binary_ceiling(way: BinaryWay, first: u64, last: u64) -> u64
-    ensures { λ r. ⌜ r ≡ binaryCeiling way first last ⌝ }
+pub fn binary_ceiling(transfer: BinaryTransfer, first: u64, last: u64) -> u64
+    ensures { λ r. ⌜ r ≡ binaryCeiling transfer first last ⌝ }
 {
-    match way {
-        BinaryWay::InTurn(_) => first,
-        BinaryWay::Branch => least(first, last),
-        BinaryWay::Fork(_, _) => first,
+    match transfer {
+        BinaryTransfer::InTurn(_) => first,
+        BinaryTransfer::Branch => least(first, last),
+        BinaryTransfer::Fork(_, _) => first,
     }
 }
 
 // The most that a step can leave, if it may leave at most `cap` and its parts can leave `first` and `last`.
-pub fn binary_reach(way: BinaryWay, cap: u64, first: u64, last: u64) -> u64
+pub fn binary_attainable(transfer: BinaryTransfer, cap: u64, first: u64, last: u64) -> u64
     requires { ⌜ (first < 9223372036854775808) × (last < 9223372036854775808) ⌝ }
-    ensures { λ r. ⌜ r ≡ binaryReach way cap first last ⌝ }
+    ensures { λ r. ⌜ r ≡ binaryAttainable transfer cap first last ⌝ }
 {
-    match way {
-        BinaryWay::InTurn(effect) => forth(effect, last),
-        BinaryWay::Branch => least(cap, least(first, last)),
-        BinaryWay::Fork(start, _) => forth(taking(start), first),
+    match transfer {
+        BinaryTransfer::InTurn(effect) => forth(effect, last),
+        BinaryTransfer::Branch => least(cap, least(first, last)),
+        BinaryTransfer::Fork(start, _) => forth(taking(start), first),
     }
 }

@@ -24,7 +24,7 @@ use Rattle.workspace.proofs.Region.{column}
 use Rattle.workspace.proofs.Shown.{type-number, Stands, row-at, row-type, post-at, start-at, argument-shown, argument-in, result-shown, result-in, before-at, after-at}
 use Rattle.workspace.proofs.Expression.{Here, leaf-number, here-used, here-let}
 use Rattle.views.specs.StepView.{cell, signatureOf, boundOf, viewOf}
-use Rattle.views.specs.declared.View.{View}
+use Rattle.views.specs.declared.StepView.{StepView}
 use Rattle.views.proofs.Scopes.{BoundBy, by-let, by-procedure, Scoped}
 
 -- a type and a map that a view shows are the type and the post of an expression
@@ -43,7 +43,7 @@ pub record Signed (w : List ℕ) (S : Split) (r : Signature) (g : Signature) : T
   pub result-in : g .result .0 < length (S .types)
 
 -- a step without parts shows its number, and if it uses a variable, the type of its let's e1 or of its procedure's argument
-pub record Bound (S : Split) (x : LeafWord) (s : View) (Γ : Env) (v : ℕ) : Type 0 where
+pub record Bound (S : Split) (x : LeafWord) (s : StepView) (Γ : Env) (v : ℕ) : Type 0 where
   pub number : s .value ≡ v
   pub variable : role (Leaf x) ≡ Uses → (s .bound ≡ typeIn Γ v) × (typeIn Γ v .0 < length (S .types))
 

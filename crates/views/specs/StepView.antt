@@ -7,7 +7,7 @@ use Rattle.spec.specs.Choice.{if_then_else_}
 use Rattle.spec.specs.declared.TypeNumber.{TypeNumber}
 use Rattle.workspace.specs.Layout.{valuesAt, endsAt, letsAt, linesAt, procMark, rowTypesAt, postsAt, startsAt, presAt, sigBeforesAt, sigArgumentsAt, sigAftersAt, sigResultsAt}
 use Rattle.spec.specs.declared.Signature.{Signature}
-use Rattle.views.specs.declared.View.{View}
+use Rattle.views.specs.declared.StepView.{StepView}
 
 -- entry i of the column that begins at b
 abbrev pub cell : (w : List ℕ) → (b i : ℕ) → ℕ
@@ -31,7 +31,7 @@ boundOf w binder =
 
 -- what the conditions of step k look at: a first part stands just behind its step, a second part at the end of the first,
 -- the e1 of a let just behind the let
-abbrev pub viewOf : (w : List ℕ) → (locations denominator k : ℕ) → View
+abbrev pub viewOf : (w : List ℕ) → (locations denominator k : ℕ) → StepView
 viewOf w locations denominator k = record {
   line = cell w linesAt k;
   value = cell w valuesAt k;
@@ -53,7 +53,7 @@ viewOf w locations denominator k = record {
 abbrev pub noSignature : Signature
 noSignature = record { before = record { 0 = 0 }; argument = record { 0 = 0 }; after = record { 0 = 0 }; result = record { 0 = 0 } }
 
-abbrev pub leafView : View → View
+abbrev pub leafView : StepView → StepView
 leafView s = record {
   line = s .line;
   value = s .value;
@@ -71,7 +71,7 @@ leafView s = record {
   signature = noSignature;
 }
 
-abbrev pub unaryView : View → View
+abbrev pub unaryView : StepView → StepView
 unaryView s = record {
   line = s .line;
   value = s .value;
@@ -89,7 +89,7 @@ unaryView s = record {
   signature = s .signature;
 }
 
-abbrev pub binaryView : View → View
+abbrev pub binaryView : StepView → StepView
 binaryView s = record {
   line = s .line;
   value = 0;

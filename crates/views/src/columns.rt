@@ -1,5 +1,5 @@
 // What the columns of the work space say of a step: what its conditions look at, by the number of its parts.
-use super::View;
+use super::StepView;
 use spec::MapNumber;
 use spec::Signature;
 use spec::TypeNumber;
@@ -68,11 +68,11 @@ fn no_signature() -> Signature
 
 // What the conditions of step k look at, where it has no parts; here and below what they do not look at is not read, and is 0. The
 // e1 of a let stands just behind the let.
-pub fn leaf_view(work: &[u32], locations: u32, denominator: u32, k: u32) -> View
+pub fn leaf_view(work: &[u32], locations: u32, denominator: u32, k: u32) -> StepView
     ensures { λ r. ⌜ r ≡ leafView (viewOf (now (work .entry)) locations denominator k) ⌝ }
 {
     let binder = cell(work, LETS, k);
-    View {
+    StepView {
         line: cell(work, LINES, k),
         value: cell(work, VALUES, k),
         locations: locations,
@@ -91,12 +91,12 @@ pub fn leaf_view(work: &[u32], locations: u32, denominator: u32, k: u32) -> View
 }
 
 // Where it has one part, which stands just behind it.
-pub fn unary_view(work: &[u32], locations: u32, denominator: u32, k: u32) -> View
+pub fn unary_view(work: &[u32], locations: u32, denominator: u32, k: u32) -> StepView
     ensures { λ r. ⌜ r ≡ unaryView (viewOf (now (work .entry)) locations denominator k) ⌝ }
 {
     let value = cell(work, VALUES, k);
     let kept = cell(work, STARTS, k);
-    View {
+    StepView {
         line: cell(work, LINES, k),
         value: value,
         locations: locations,
@@ -115,11 +115,11 @@ pub fn unary_view(work: &[u32], locations: u32, denominator: u32, k: u32) -> Vie
 }
 
 // Where it has two parts: the second stands at the end of the first.
-pub fn binary_view(work: &[u32], locations: u32, denominator: u32, k: u32) -> View
+pub fn binary_view(work: &[u32], locations: u32, denominator: u32, k: u32) -> StepView
     ensures { λ r. ⌜ r ≡ binaryView (viewOf (now (work .entry)) locations denominator k) ⌝ }
 {
     let second = cell(work, ENDS + 1, k);
-    View {
+    StepView {
         line: cell(work, LINES, k),
         value: 0,
         locations: locations,

@@ -13,7 +13,7 @@ use spec::TypeNumber;
 // What the conditions of a step look at: the sheet's locations and denominator, the step's line and number, the types and
 // maps of the step and of its parts, for a `var` the type of its let's e1 or of its procedure's argument, and for a `call`
 // the signature of the procedure.
-pub struct View {
+pub struct StepView {
     pub line: u32,
     pub value: u32,
     pub locations: u32,

@@ -6,13 +6,13 @@ use Prim.Native.Nat.{ℕ, zero, suc, _+_, _-_, _<_, _≤_}
 use native.Mathlib.Omega.{arith}
 use lib.ListN.{length, getD, drop, drop-of-length-le}
 use lib.Seq.{drop-cons}
-use Rattle.spec.specs.Reading.{Out, on}
+use Rattle.spec.specs.Reading.{Result, ok}
 use Rattle.spec.specs.Expression.{Expr, size, lineOf, stepsAmong, Procedure}
 use Rattle.spec.specs.Program.{Program}
 use Rattle.spec.specs.Split.{Split}
 use Rattle.spec.specs.Conditions.{startMap, signature, procedureConditions}
-use Rattle.spec.specs.Sites.{numbered, claims, sites, bodySites, claimsOfProcedure, claimsOfProcedures, claimsOf}
-use Rattle.spec.specs.Verdict.{refuseOver, startAtMostOne, ruled, typed}
+use Rattle.spec.specs.StepContexts.{numbered, claims, stepContexts, bodyStepContexts, claimsOfProcedure, claimsOfProcedures, claimsOf}
+use Rattle.spec.specs.Verdict.{refuseOver, startAtMostOne, conditionsHold, typeConditionsHold}
 use Rattle.spec.specs.WellFormed.{listing}
 use Rattle.spec.specs.declared.Purpose.{Purpose}
 use Rattle.spec.specs.declared.Purpose.the-variants.{Check, Fill}
@@ -94,7 +94,7 @@ sheets-stay {P = P} {S = S} c few procs H = record {
 
 -- the claims of a pair of sheets, by purpose
 claims-ruled : (purpose : Purpose) (P : Program) (S : Split) → firstAsked purpose (claimsOf S P) ≡ ruledFor purpose P S
-unfolding asked ruledFor ruled typed
+unfolding asked ruledFor conditionsHold typeConditionsHold
 claims-ruled Check P S = refl
 claims-ruled Fill P S = refl
 
@@ -108,7 +108,7 @@ module _ (w : List ℕ) (steps procedures denominator locations start : ℕ) (P 
       (ap (refuseOver (lineOf (P .root))) (within-shown (H .locationsGiven) (header-start-stands H) _))
 
   -- what is judged at the root's line is the start
-  pub start-judged : {root line : ℕ} {o : Out (Unit {0})} → root ≡ cell w procFirstsAt procedures → line ≡ cell w linesAt root
+  pub start-judged : {root line : ℕ} {o : Result (Unit {0})} → root ≡ cell w procFirstsAt procedures → line ≡ cell w linesAt root
       → o ≡ startOutcome line w denominator locations (record { 0 = start }) → o ≡ startAtMostOne P S
   start-judged at-root at-line judged =
       judged ∙ ap (λ l. startOutcome l w denominator locations (record { 0 = start })) (at-line ∙ ap (cell w linesAt) at-root) ∙ start-shown
@@ -151,8 +151,8 @@ module _ (w : List ℕ) (steps procedures denominator locations start : ℕ) (P 
 
       -- its body
       body-walked : walk purpose locations denominator (putPre w k (record { 0 = cell w sigBeforesAt f })) k (cell w (procFirstsAt + 1) f - k)
-          ≡ firstAsked purpose (claims S (bodySites S (signature S f) p))
-      unfolding AllHere bodySites
+          ≡ firstAsked purpose (claims S (bodyStepContexts S (signature S f) p))
+      unfolding AllHere bodyStepContexts
       body-walked =
           let next : cell w (procFirstsAt + 1) f ≡ k + size (p .body) =
           ap (λ (i : ℕ). getD w i 0) (omega arith) ∙ first-here w _ (f + 1) _ ps (P .root) (here .1) in
@@ -185,7 +185,7 @@ module _ (w : List ℕ) (steps procedures denominator locations start : ℕ) (P 
         (asked-parts purpose (claimsOfProcedure S (signature S f) p) (claimsOfProcedures S (f + 1) ps)
         ∙ ap (λ o. both o (firstAsked purpose (claimsOfProcedures S (f + 1) ps))) (sym own))
 
-    pub bodies-none : (f : ℕ) → procedures ≤ f → firstAsked purpose (claimsOfProcedures S f (drop f (P .procedures))) ≡ on tt
+    pub bodies-none : (f : ℕ) → procedures ≤ f → firstAsked purpose (claimsOfProcedures S f (drop f (P .procedures))) ≡ ok tt
     unfolding claimsOfProcedures
     bodies-none f h =
         let past : length (P .procedures) ≤ f = omega (arith, H .proceduresCounted) in
@@ -194,7 +194,7 @@ module _ (w : List ℕ) (steps procedures denominator locations start : ℕ) (P 
     -- ---------------------------------------------------------------- the root
 
     pub root-shown : walk purpose locations denominator (putPre w (cell w procFirstsAt procedures) (record { 0 = start })) (cell w procFirstsAt procedures) (steps - cell w procFirstsAt procedures)
-        ≡ firstAsked purpose (claims S (sites S [] (startMap S) (P .root)))
+        ≡ firstAsked purpose (claims S (stepContexts S [] (startMap S) (P .root)))
     root-shown =
         rw (H .denominatorGiven, H .locationsGiven)
         (expression-shown purpose S P (H .inRange) rows-few (P .root) (H .split) (omega arith) (root-here H) (scoped-none S)
@@ -202,7 +202,7 @@ module _ (w : List ℕ) (steps procedures denominator locations start : ℕ) (P 
 
 -- the bodies and the root
 pub program-ruled : (purpose : Purpose) (P : Program) (S : Split)
-    → both (firstAsked purpose (claimsOfProcedures S 0 (P .procedures))) (firstAsked purpose (claims S (sites S [] (startMap S) (P .root))))
+    → both (firstAsked purpose (claimsOfProcedures S 0 (P .procedures))) (firstAsked purpose (claims S (stepContexts S [] (startMap S) (P .root))))
     ≡ ruledFor purpose P S
 unfolding claimsOf
 program-ruled purpose P S = sym (asked-parts purpose _ _) ∙ claims-ruled purpose P S

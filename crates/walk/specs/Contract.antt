@@ -2,11 +2,11 @@
 use mathlib.Core.Path.{_≡_}
 use mathlib.Core.List.{List}
 use Prim.Native.Nat.{ℕ, _+_, _≤_}
-use Rattle.spec.specs.Reading.{Out, _>>=_}
+use Rattle.spec.specs.Reading.{Result, _>>=_}
 use Rattle.spec.specs.Program.{Program}
 use Rattle.spec.specs.Split.{Split}
-use Rattle.spec.specs.Sites.{claimsOfProcedures, firstFalse}
-use Rattle.spec.specs.Verdict.{locksTakeEnough, startAtMostOne, ruled, typed}
+use Rattle.spec.specs.StepContexts.{claimsOfProcedures, firstFalse}
+use Rattle.spec.specs.Verdict.{locksTakeEnough, startAtMostOne, conditionsHold, typeConditionsHold}
 use Rattle.spec.specs.declared.Purpose.{Purpose}
 use Rattle.spec.specs.declared.Purpose.the-variants.{Check, Fill}
 use Rattle.workspace.specs.Layout.{presAt}
@@ -18,9 +18,9 @@ use Rattle.spec.specs.declared.Ruling.{Ruling}
 use Rattle.step_walk.specs.Asked.{asked}
 
 -- the conditions by purpose: all of them, 31 to 33, or those on types, 31
-unfoldable pub ruledFor : Purpose → Program → Split → Out (Unit {0})
-ruledFor Check P S = ruled P S
-ruledFor Fill P S = typed P S
+unfoldable pub ruledFor : Purpose → Program → Split → Result (Unit {0})
+ruledFor Check P S = conditionsHold P S
+ruledFor Fill P S = typeConditionsHold P S
 
 -- from w to w′, with the ruling r on the bodies: the answer is the first false claim of the procedures of whichever sheets with so many
 -- procedures, this denominator and so many locations w holds

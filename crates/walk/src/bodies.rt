@@ -71,12 +71,12 @@ fn check_bodies(
     let mut f = 0;
     while f < procedures {
         let r = check_body(work, purpose, f, denominator, locations);
-        let Ruling::Met = r else {
+        let Ruling::Holds = r else {
             return r;
         };
         f += 1;
     }
-    Ruling::Met
+    Ruling::Holds
 }
 
 // 31 to 33, or 31 alone when filling: the procedures, then the root, whose pre is the start.
@@ -93,7 +93,7 @@ pub(crate) fn check_program(
     ensures { λ r. ⌜ ProgramRuled (now (work .entry)) purpose steps procedures denominator locations (start .0) r (now (work .exit)) ⌝ }
 {
     let bodies = check_bodies(work, purpose, procedures, denominator, locations);
-    let Ruling::Met = bodies else {
+    let Ruling::Holds = bodies else {
         return bodies;
     };
     let root = cell(work, PROC_FIRSTS, procedures);

@@ -19,7 +19,7 @@ ghost use Rattle.walk.specs.Contract.{Ruled};
 
 // The first reason of 44 and 30 to 33 for the sheets that the work space holds, when filling of 44, 30 and 31. It notes the maps
 // before steps there, and changes nothing else.
-pub fn rule(
+pub fn check(
     work: &mut [u32],
     purpose: Purpose,
     steps: usize,
@@ -34,14 +34,14 @@ pub fn rule(
     let n = header.locations as u32;
     let types = header.types as u32;
     let enough = check_locks(work, n, types);
-    let Ruling::Met = enough else {
+    let Ruling::Holds = enough else {
         return enough;
     };
     let count = procedures as u32;
     let root = cell(work, PROC_FIRSTS, count);
     let line = cell(work, LINES, root);
     let first = check_start(line, work, denominator, n, start);
-    let Ruling::Met = first else {
+    let Ruling::Holds = first else {
         return first;
     };
     check_program(work, purpose, steps as u32, count, denominator, n, start)

@@ -8,7 +8,7 @@ use Rattle.spec.specs.declared.Location.{Location}
 use Rattle.spec.specs.declared.TypeLine.{TypeLine}
 use Rattle.fill_theory.specs.FlowOf.{asks}
 use Rattle.ways.specs.declared.Column.{Column}
-use Rattle.ways.specs.Ways.{typeLineIn, accessIn}
+use Rattle.ways.specs.Transfers.{typeLineIn, accessIn}
 
 module _ (w : List ℕ) (column : Column) (k d : ℕ) {t : TypeLine} {p : Location} (typed : t ≡ typeLineIn w k) (placed : p ≡ refLocation t) where
   pub access-here : p .0 ≡ column .location .0 → d ≡ accessIn w column k d

@@ -5,11 +5,11 @@ use Prim.Native.Nat.{ℕ, _+_}
 use lib.ListN.{getD}
 use Rattle.workspace.specs.Layout.{valuesAt}
 use Rattle.ways.specs.declared.Column.{Column}
-use Rattle.fill_theory.specs.declared.UnaryWay.{UnaryWay}
-use Rattle.fill_theory.specs.declared.UnaryWay.the-variants.{Call}
-use Rattle.ways.specs.Ways.{startNumberIn, beforeIn, afterIn, callingIn}
+use Rattle.fill_theory.specs.declared.UnaryTransfer.{UnaryTransfer}
+use Rattle.fill_theory.specs.declared.UnaryTransfer.the-variants.{Call}
+use Rattle.ways.specs.Transfers.{startNumberIn, beforeIn, afterIn, callingIn}
 
-pub calling-told : (w : List ℕ) (column : Column) (k : ℕ) {f kept before after : ℕ} → f ≡ getD w (valuesAt + k) 0 → kept ≡ startNumberIn w column k
-    → before ≡ beforeIn w column f → after ≡ afterIn w column f → _≡_ {A = UnaryWay} (Call (before + kept) (after + kept)) (callingIn w column k)
+pub calling-decodes : (w : List ℕ) (column : Column) (k : ℕ) {f kept before after : ℕ} → f ≡ getD w (valuesAt + k) 0 → kept ≡ startNumberIn w column k
+    → before ≡ beforeIn w column f → after ≡ afterIn w column f → _≡_ {A = UnaryTransfer} (Call (before + kept) (after + kept)) (callingIn w column k)
 unfolding callingIn
-calling-told w column k called kept before after = rw (before, after, kept, called)
+calling-decodes w column k called kept before after = rw (before, after, kept, called)

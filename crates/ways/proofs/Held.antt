@@ -30,12 +30,12 @@ use Rattle.workspace.proofs.Codes.{word-of-code}
 use Rattle.workspace.proofs.Shown.{type-number, type-shown, map-stands, has-shown, row-at, row-type, start-at, before-at, after-at}
 use Rattle.workspace.proofs.Expression.{Here, here-index, leaf-code, leaf-number, unary-number, binary-number, here-called, unary-code, binary-code, here-part, here-first, here-second, here-end}
 use Rattle.fill_theory.specs.Flow.{steps}
-use Rattle.fill_theory.specs.FlowOf.{asks, Given, effectOf, partWay, binaryWay, beforeHere, afterHere, hasHere, givenHere, callHere, flowOf}
-use Rattle.fill_theory.specs.declared.Way.the-variants.{Leaf, Unary, Binary}
-use Rattle.fill_theory.specs.declared.UnaryWay.the-variants.{Call}
+use Rattle.fill_theory.specs.FlowOf.{asks, Given, effectOf, partTransfer, binaryTransfer, beforeHere, afterHere, hasHere, givenHere, callHere, flowOf}
+use Rattle.fill_theory.specs.declared.Transfer.the-variants.{Leaf, Unary, Binary}
+use Rattle.fill_theory.specs.declared.UnaryTransfer.the-variants.{Call}
 use Rattle.fill_theory.proofs.Placed.{flow-steps}
 use Rattle.ways.specs.declared.Column.{Column}
-use Rattle.ways.specs.Ways.{cellIn, typeLineIn, firstIn, secondIn, startNumberIn, beforeIn, afterIn, callingIn, accessIn, hasIn, givenIn, wayOf, wayIn}
+use Rattle.ways.specs.Transfers.{cellIn, typeLineIn, firstIn, secondIn, startNumberIn, beforeIn, afterIn, callingIn, accessIn, hasIn, givenIn, transferOf, transferIn}
 use Rattle.ways.specs.Shows.{endIn, Shows, leafShown, unaryShown, binaryShown}
 
 module _ (w : List ℕ) (column : Column) (P : Program) (S : Split) (H : HoldsSplit w S) (R : InRange P S)
@@ -114,14 +114,14 @@ module _ (w : List ℕ) (column : Column) (P : Program) (S : Split) (H : HoldsSp
   -- ------------------------------------------------------------------ a step
 
   -- the way of the word with a code
-  by-code : (k : ℕ) (x : Word) → getD w (wordsAt + k) 0 ≡ codeOf x → wayIn w column k ≡ wayOf x w column k
-  unfolding wayIn
-  by-code k x e = ap (λ (y : Word). wayOf y w column k) (ap wordOf e ∙ word-of-code x)
+  by-code : (k : ℕ) (x : Word) → getD w (wordsAt + k) 0 ≡ codeOf x → transferIn w column k ≡ transferOf x w column k
+  unfolding transferIn
+  by-code k x e = ap (λ (y : Word). transferOf y w column k) (ap wordOf e ∙ word-of-code x)
 
   module _ (count k : ℕ) {inside : List (ℕ × ℕ)} {vars : List ℕ} where
     leaf-held : (x : LeafWord) (l : Position) (v : ℕ) → Here w count k inside vars (leaf x l v) → k < length (S .rows)
         → Shows w column k (flowOf S p (leaf x l v))
-    unfolding flowOf wayOf
+    unfolding flowOf transferOf
     leaf-held x l v C h =
         let e = leaf x l v in
         let index = here-index e C in
@@ -129,34 +129,34 @@ module _ (w : List ℕ) (column : Column) (P : Program) (S : Split) (H : HoldsSp
         ∙ ap (λ (g : Given). Leaf (effectOf g (table (word.Leaf x)))) (given-held e k index h (leaf-number x l v C) e k index h))
 
     -- a step with parts, with what it is given
-    unary-way : (x : UnaryWord) (l : Position) (v : ℕ) (e₁ : Expr) → Here w count k inside vars (unary x l v e₁) → count ≤ length (S .signatures)
+    unary-transfer : (x : UnaryWord) (l : Position) (v : ℕ) (e₁ : Expr) → Here w count k inside vars (unary x l v e₁) → count ≤ length (S .signatures)
         → k < length (S .rows) → givenIn w column k (k + 1) ≡ givenHere S p (unary x l v e₁) e₁ → (b : Bool) → calls x ≡ b
-        → (if b then callingIn w column k else partWay (givenIn w column k (k + 1)) x)
-        ≡ (if b then callHere S p (unary x l v e₁) else partWay (givenHere S p (unary x l v e₁) e₁) x)
-    unary-way x l v e₁ C few h same true q =
+        → (if b then callingIn w column k else partTransfer (givenIn w column k (k + 1)) x)
+        ≡ (if b then callHere S p (unary x l v e₁) else partTransfer (givenHere S p (unary x l v e₁) e₁) x)
+    unary-transfer x l v e₁ C few h same true q =
         call-held (unary x l v e₁) k (here-index (unary x l v e₁) C) h (unary-number x l v e₁ C) (omega (arith, here-called x l v e₁ q C))
-    unary-way x l v e₁ C few h same false q = ap (λ (g : Given). partWay g x) same
+    unary-transfer x l v e₁ C few h same false q = ap (λ (g : Given). partTransfer g x) same
 
     unary-held : (x : UnaryWord) (l : Position) (v : ℕ) (e₁ : Expr) → Here w count k inside vars (unary x l v e₁) → count ≤ length (S .signatures)
         → k + 1 < length (S .rows) → Shows w column (k + 1) (flowOf S p e₁)
         → Shows w column k (flowOf S p (unary x l v e₁))
-    unfolding flowOf wayOf
+    unfolding flowOf transferOf
     unary-held x l v e₁ C few h shown =
         let e = unary x l v e₁ in
         let D = here-part x l v e₁ C in
         let same = given-held e k (here-index e C) (omega arith) (unary-number x l v e₁ C) e₁ (k + 1) (here-index e₁ D) h in
-        unaryShown _ (by-code k (word.Unary x) (unary-code x l v e₁ C) ∙ ap Unary (unary-way x l v e₁ C few (omega arith) same (calls x) refl)) shown
+        unaryShown _ (by-code k (word.Unary x) (unary-code x l v e₁ C) ∙ ap Unary (unary-transfer x l v e₁ C few (omega arith) same (calls x) refl)) shown
 
     binary-held : (x : BinaryWord) (l : Position) (v : ℕ) (e₁ e₂ : Expr) → Here w count k inside vars (binary x l v e₁ e₂)
         → k + 1 < length (S .rows) → Shows w column (k + 1) (flowOf S p e₁) → Shows w column (k + 1 + size e₁) (flowOf S p e₂)
         → Shows w column k (flowOf S p (binary x l v e₁ e₂))
-    unfolding flowOf wayOf endIn
+    unfolding flowOf transferOf endIn
     binary-held x l v e₁ e₂ C h first second =
         let e = binary x l v e₁ e₂ in
         let D = here-first x l v e₁ e₂ C in
         let same = given-held e k (here-index e C) (omega arith) (binary-number x l v e₁ e₂ C) e₁ (k + 1) (here-index e₁ D) h in
         let behind : Shows w column (k + 1 + steps (flowOf S p e₁)) (flowOf S p e₂) = rw (flow-steps S p e₁) second in
-        binaryShown _ (by-code k (word.Binary x) (binary-code x l v e₁ e₂ C) ∙ ap (λ (g : Given). Binary (binaryWay g x)) same) first
+        binaryShown _ (by-code k (word.Binary x) (binary-code x l v e₁ e₂ C) ∙ ap (λ (g : Given). Binary (binaryTransfer g x)) same) first
         (here-end e₁ D ∙ ap (k + 1 +_) (sym (flow-steps S p e₁))) behind
 
   -- ------------------------------------------------------------------ the flow

@@ -15,17 +15,17 @@ use Rattle.spec.specs.declared.UnaryWord.{UnaryWord}
 use Rattle.spec.specs.declared.BinaryWord.{BinaryWord}
 use Rattle.spec.specs.declared.BinaryWord.the-variants.{Let, If, Spawn, Write}
 use Rattle.workspace.specs.Layout.{wordsAt, wordOf, mapCell}
-use Rattle.fill_theory.specs.declared.Way.{Way}
-use Rattle.fill_theory.specs.declared.Way.the-variants.{Leaf, Unary, Binary}
-use Rattle.fill_theory.specs.declared.UnaryWay.the-variants.{After, Loop, Call}
-use Rattle.fill_theory.specs.declared.BinaryWay.the-variants.{InTurn, Branch, Fork}
+use Rattle.fill_theory.specs.declared.Transfer.{Transfer}
+use Rattle.fill_theory.specs.declared.Transfer.the-variants.{Leaf, Unary, Binary}
+use Rattle.fill_theory.specs.declared.UnaryTransfer.the-variants.{After, Loop, Call}
+use Rattle.fill_theory.specs.declared.BinaryTransfer.the-variants.{InTurn, Branch, Fork}
 use Rattle.fill_theory.specs.Flow.{unchanged}
-use Rattle.fill_theory.specs.FlowOf.{Given, loops, moving, effectOf, partWay, binaryWay}
+use Rattle.fill_theory.specs.FlowOf.{Given, loops, moving, effectOf, partTransfer, binaryTransfer}
 use Rattle.ways.specs.declared.Column.{Column}
-use Rattle.ways.specs.Ways.{cellIn, firstIn, secondIn, startNumberIn, beforeIn, afterIn, callingIn, hasIn, givenIn, wayOf, wayIn}
+use Rattle.ways.specs.Transfers.{cellIn, firstIn, secondIn, startNumberIn, beforeIn, afterIn, callingIn, hasIn, givenIn, transferOf, transferIn}
 
 -- what a step moves, or starts or ends a part with
-unfoldable pub moved : Way → ℕ
+unfoldable pub moved : Transfer → ℕ
 moved (Leaf E) = E .takes + E .gives
 moved (Unary (After E)) = E .takes + E .gives
 moved (Unary Loop) = 0
@@ -34,8 +34,8 @@ moved (Binary (InTurn E)) = E .takes + E .gives
 moved (Binary Branch) = 0
 moved (Binary (Fork start due)) = start
 
-abbrev pub Light : Way → Type 0
-Light way = moved way < 17179869184
+abbrev pub Light : Transfer → Type 0
+Light transfer = moved transfer < 17179869184
 
 called : {i j k : ℕ} → i < 4294967296 → j < 4294967296 → k < 4294967296 → i + k + (j + k) < 17179869184
 called l m n = omega arith
@@ -60,16 +60,16 @@ module _ (g : Given) (fits : (t : MapTerm) → g .has t < 4294967296) where
   effect-light : (line : List Entry) → effectOf g line .takes + effectOf g line .gives < 17179869184
   effect-light line = let both = line-light line in omega (arith, both .0, both .1)
 
-  part-light : (x : UnaryWord) → Light (Unary (partWay g x))
-  unfolding moved partWay
+  part-light : (x : UnaryWord) → Light (Unary (partTransfer g x))
+  unfolding moved partTransfer
   part-light x = by-loop (loops x)
     where
       by-loop : (b : Bool) → Light (Unary (if b then Loop else After (effectOf g (table (word.Unary x)))))
       by-loop true = omega arith
       by-loop false = effect-light (table (word.Unary x))
 
-  binary-light : (x : BinaryWord) → Light (Binary (binaryWay g x))
-  unfolding moved binaryWay
+  binary-light : (x : BinaryWord) → Light (Binary (binaryTransfer g x))
+  unfolding moved binaryTransfer
   binary-light Let = effect-light (table (word.Binary Let))
   binary-light If = omega arith
   binary-light Spawn = omega (arith, fits s)
@@ -93,16 +93,16 @@ module _ (w : List ℕ) (column : Column) (fits : (i : ℕ) → getD w i 0 < 429
   unfolding moved callingIn beforeIn afterIn startNumberIn cellIn mapCell
   call-light k = called (fits _) (fits _) (fits _)
 
-  word-light : (x : Word) (k : ℕ) → Light (wayOf x w column k)
-  unfolding moved wayOf givenIn
+  word-light : (x : Word) (k : ℕ) → Light (transferOf x w column k)
+  unfolding moved transferOf givenIn
   word-light (word.Leaf x) k = effect-light (givenIn w column k k) (has-fits k k) (table (word.Leaf x))
   word-light (word.Unary x) k = by-call (calls x)
     where
-      by-call : (b : Bool) → Light (Unary (if b then callingIn w column k else partWay (givenIn w column k (k + 1)) x))
+      by-call : (b : Bool) → Light (Unary (if b then callingIn w column k else partTransfer (givenIn w column k (k + 1)) x))
       by-call true = call-light k
       by-call false = part-light (givenIn w column k (k + 1)) (has-fits k (k + 1)) x
   word-light (word.Binary x) k = binary-light (givenIn w column k (k + 1)) (has-fits k (k + 1)) x
 
-  pub way-light : (k : ℕ) {way : Way} → wayIn w column k ≡ way → Light way
-  unfolding wayIn
-  way-light k e = rw (← e) (word-light (wordOf (getD w (wordsAt + k) 0)) k)
+  pub transfer-light : (k : ℕ) {transfer : Transfer} → transferIn w column k ≡ transfer → Light transfer
+  unfolding transferIn
+  transfer-light k e = rw (← e) (word-light (wordOf (getD w (wordsAt + k) 0)) k)

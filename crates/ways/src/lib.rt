@@ -1,8 +1,8 @@
-// The table: in which way the number flows through a step at the location, from the constants that the work space holds.
-use fill_theory::BinaryWay;
+// The transfer function of a step at a location: how the number flows through it, from the constants that the work space holds.
+use fill_theory::BinaryTransfer;
 use fill_theory::Effect;
-use fill_theory::UnaryWay;
-use fill_theory::Way;
+use fill_theory::Transfer;
+use fill_theory::UnaryTransfer;
 use spec::Location;
 use spec::MapNumber;
 use spec::TypeLine;
@@ -25,7 +25,7 @@ ghost use Prim.Native.Nat.{_<_};
 ghost use Rattle.spec.specs.Kinds.{refLocation, firstMap, secondMap};
 ghost use Rattle.workspace.specs.Layout.{wordBy};
 ghost use Rattle.fill_theory.specs.Flow.{unchanged, taking, giving, needing, lending};
-ghost use Rattle.ways.specs.Ways.{cellIn, typeLineIn, firstIn, secondIn, lendingIn, startNumberIn, beforeIn, afterIn, callingIn, accessIn, wayOf, wayIn};
+ghost use Rattle.ways.specs.Transfers.{cellIn, typeLineIn, firstIn, secondIn, lendingIn, startNumberIn, beforeIn, afterIn, callingIn, accessIn, transferOf, transferIn};
 
 // The location that is filled, and the sheet's denominator.
 pub struct Column {
@@ -195,7 +195,7 @@ pub fn after_in(work: &[u32], column: Column, f: usize) -> u32
 }
 
 // What the call of step k wants and what it leaves: the numbers of its procedure, each with what is kept back.
-fn calling_in(work: &[u32], column: Column, k: usize) -> UnaryWay
+fn calling_in(work: &[u32], column: Column, k: usize) -> UnaryTransfer
     requires { ⌜ k < 256 ⌝ }
     ensures { λ r. ⌜ r ≡ callingIn (now (work .entry)) column k ⌝ }
 {
@@ -203,7 +203,7 @@ fn calling_in(work: &[u32], column: Column, k: usize) -> UnaryWay
     let kept = wide(start_in(work, column, k));
     let wanted = wide(before_in(work, column, f)) + kept;
     let left = wide(after_in(work, column, f)) + kept;
-    UnaryWay::Call(wanted, left)
+    UnaryTransfer::Call(wanted, left)
 }
 
 // What access through the ref type of step k needs at the location: d if it is the ref's own, else nothing.
@@ -215,49 +215,66 @@ fn access_in(work: &[u32], column: Column, k: usize, d: u32) -> u32
     if p.0 == column.location.0 { d } else { 0 }
 }
 
-// The way of step k, whose word has the rule r. A first part stands just behind its step.
-fn way_by(r: Rule, work: &[u32], column: Column, k: usize) -> Way
+// The transfer function of step k, whose word has the rule r. A first part stands just behind its step.
+fn transfer_of(r: Rule, work: &[u32], column: Column, k: usize) -> Transfer
     requires { ⌜ k < 256 ⌝ }
-    ensures { λ way. ⌜ way ≡ wayOf (wordBy r) (now (work .entry)) column k ⌝ }
+    ensures { λ transfer. ⌜ transfer ≡ transferOf (wordBy r) (now (work .entry)) column k ⌝ }
 {
     let part = k + 1;
     match r {
-        Rule::VAR => Way::Leaf(unchanged()),
-        Rule::INT => Way::Leaf(unchanged()),
-        Rule::LET => Way::Binary(BinaryWay::InTurn(unchanged())),
-        Rule::IF => Way::Binary(BinaryWay::Branch),
-        Rule::WHILE => Way::Unary(UnaryWay::Loop),
-        Rule::NEWT => Way::Leaf(unchanged()),
+        Rule::VAR => Transfer::Leaf(unchanged()),
+        Rule::INT => Transfer::Leaf(unchanged()),
+        Rule::LET => Transfer::Binary(BinaryTransfer::InTurn(unchanged())),
+        Rule::IF => Transfer::Binary(BinaryTransfer::Branch),
+        Rule::WHILE => Transfer::Unary(UnaryTransfer::Loop),
+        Rule::NEWT => Transfer::Leaf(unchanged()),
         Rule::SPAWN => {
             let start = start_in(work, column, k);
-            Way::Binary(BinaryWay::Fork(start, first_in(work, column, part)))
+            Transfer::Binary(BinaryTransfer::Fork(start, first_in(work, column, part)))
         }
-        Rule::JOIN => Way::Unary(UnaryWay::After(giving(first_in(work, column, part)))),
-        Rule::REF => Way::Unary(UnaryWay::After(unchanged())),
+        Rule::JOIN => Transfer::Unary(UnaryTransfer::After(giving(first_in(work, column, part)))),
+        Rule::REF => Transfer::Unary(UnaryTransfer::After(unchanged())),
         Rule::WRITE => {
             let access = access_in(work, column, part, column.denominator);
-            Way::Binary(BinaryWay::InTurn(needing(access)))
+            Transfer::Binary(BinaryTransfer::InTurn(needing(access)))
         }
-        Rule::READ => Way::Unary(UnaryWay::After(needing(access_in(work, column, part, 1)))),
-        Rule::NEWL => Way::Leaf(taking(second_in(work, column, k))),
-        Rule::LCK => Way::Unary(UnaryWay::After(giving(first_in(work, column, part)))),
-        Rule::ULCK => Way::Unary(UnaryWay::After(taking(second_in(work, column, part)))),
-        Rule::NEWSEM => Way::Leaf(unchanged()),
-        Rule::POST => Way::Unary(UnaryWay::After(taking(first_in(work, column, part)))),
-        Rule::WAIT => Way::Unary(UnaryWay::After(giving(first_in(work, column, part)))),
-        Rule::NEWRWLOCK => Way::Leaf(lending_in(work, column, k)),
-        Rule::RDLOCK => Way::Unary(UnaryWay::After(giving(first_in(work, column, part)))),
-        Rule::RDUNLOCK => Way::Unary(UnaryWay::After(taking(first_in(work, column, part)))),
-        Rule::WRLOCK => Way::Unary(UnaryWay::After(giving(second_in(work, column, part)))),
-        Rule::WRUNLOCK => Way::Unary(UnaryWay::After(taking(second_in(work, column, part)))),
-        Rule::CALL => Way::Unary(calling_in(work, column, k)),
+        Rule::READ => Transfer::Unary(UnaryTransfer::After(needing(access_in(
+            work,
+            column,
+            part,
+            1,
+        )))),
+        Rule::NEWL => Transfer::Leaf(taking(second_in(work, column, k))),
+        Rule::LCK => Transfer::Unary(UnaryTransfer::After(giving(first_in(work, column, part)))),
+        Rule::ULCK => Transfer::Unary(UnaryTransfer::After(taking(second_in(work, column, part)))),
+        Rule::NEWSEM => Transfer::Leaf(unchanged()),
+        Rule::POST => Transfer::Unary(UnaryTransfer::After(taking(first_in(work, column, part)))),
+        Rule::WAIT => Transfer::Unary(UnaryTransfer::After(giving(first_in(work, column, part)))),
+        Rule::NEWRWLOCK => Transfer::Leaf(lending_in(work, column, k)),
+        Rule::RDLOCK => Transfer::Unary(UnaryTransfer::After(giving(first_in(work, column, part)))),
+        Rule::RDUNLOCK => Transfer::Unary(UnaryTransfer::After(taking(first_in(
+            work,
+            column,
+            part,
+        )))),
+        Rule::WRLOCK => Transfer::Unary(UnaryTransfer::After(giving(second_in(
+            work,
+            column,
+            part,
+        )))),
+        Rule::WRUNLOCK => Transfer::Unary(UnaryTransfer::After(taking(second_in(
+            work,
+            column,
+            part,
+        )))),
+        Rule::CALL => Transfer::Unary(calling_in(work, column, k)),
     }
 }
 
-// The way in which the number flows through step k.
-pub fn way_in(work: &[u32], column: Column, k: usize) -> Way
+// The transfer function of step k.
+pub fn transfer_in(work: &[u32], column: Column, k: usize) -> Transfer
     requires { ⌜ k < 256 ⌝ }
-    ensures { λ r. ⌜ r ≡ wayIn (now (work .entry)) column k ⌝ }
+    ensures { λ r. ⌜ r ≡ transferIn (now (work .entry)) column k ⌝ }
 {
-    way_by(rule_of(at(work, WORDS + k)), work, column, k)
+    transfer_of(rule_of(at(work, WORDS + k)), work, column, k)
 }

@@ -9,7 +9,7 @@ use lib.Dec.{leb}
 use lib.ListN.{length, set, drop, length-set, length-append}
 use lib.Seq.{sets, sets-eq, set-out, set-comm}
 use borrow.Author.Tests.{leb-true, leb-false}
-use Rattle.writer.specs.Buffer.{overwrite, counted, Written}
+use Rattle.writer.specs.Buffer.{overwrite, counted, WrittenAt}
 
 -- ------------------------------------------------------------------ a buffer that bytes are put into
 
@@ -78,7 +78,7 @@ module _ {before : List ℕ} {from : ℕ} {whole : List ℕ} where
 
   -- a part in front is written: what is behind it remains
   pub onward : {d d′ : List ℕ} {at next : ℕ} (s t : List ℕ)
-      → Remains before from whole d at (s ++ t) → Written d d′ at s next → Remains before from whole d′ next t
+      → Remains before from whole d at (s ++ t) → WrittenAt d d′ at s next → Remains before from whole d′ next t
   onward {d} {d′} {at} {next} s t r w =
       let long = overwrite-length d at s in
       let l = length-append s t in
@@ -94,15 +94,15 @@ module _ {before : List ℕ} {from : ℕ} {whole : List ℕ} where
       }
 
   -- nothing remains: the whole is written
-  pub done : {d : List ℕ} {at : ℕ} → Remains before from whole d at [] → Written before d from whole at
+  pub done : {d : List ℕ} {at : ℕ} → Remains before from whole d at [] → WrittenAt before d from whole at
   unfolding overwrite
   done r = record { holds = r .same; moved = omega (arith, r .place, r .fits) }
 
   -- the last part is written: so is the whole
   pub finish : {d d′ : List ℕ} {at next : ℕ} {s : List ℕ}
-      → Remains before from whole d at s → Written d d′ at s next → Written before d′ from whole next
+      → Remains before from whole d at s → WrittenAt d d′ at s next → WrittenAt before d′ from whole next
   finish r w = record { holds = w .holds ∙ r .same; moved = w .moved ∙ r .place }
 
 -- the buffer is as long as it was
-pub written-length : {d d′ : List ℕ} {at next : ℕ} {s : List ℕ} → Written d d′ at s next → length d′ ≡ length d
+pub written-length : {d d′ : List ℕ} {at next : ℕ} {s : List ℕ} → WrittenAt d d′ at s next → length d′ ≡ length d
 written-length {d} {d′} {at} {next} {s} w = ap length (w .holds) ∙ overwrite-length d at s

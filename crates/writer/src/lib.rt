@@ -5,7 +5,7 @@ ghost use mathlib.Core.List.{[], _∷_, _++_, map};
 ghost use Prim.Native.Nat.{_+_, _≤_, _<_};
 ghost use lib.ListN.{length, set};
 ghost use Rattle.written.specs.Text.{digit as digitOf, decimal, line};
-ghost use Rattle.writer.specs.Buffer.{Written, counted, overwrite};
+ghost use Rattle.writer.specs.Buffer.{WrittenAt, counted, overwrite};
 
 // The last place that is counted.
 const LAST: usize = 0xffff_ffff_ffff_ffff;
@@ -22,7 +22,7 @@ fn behind(at: usize, bytes: usize) -> usize
 
 // Puts a byte at a place, and hands back the next place.
 pub fn write_byte(buffer: &mut [u8], at: usize, byte: u8) -> usize
-    ensures { λ r. ⌜ Written (now (buffer .entry)) (now (buffer .exit)) at (byte ∷ []) r ⌝ }
+    ensures { λ r. ⌜ WrittenAt (now (buffer .entry)) (now (buffer .exit)) at (byte ∷ []) r ⌝ }
 {
     if buffer.len() <= at {
         return behind(at, 1);
@@ -33,7 +33,7 @@ pub fn write_byte(buffer: &mut [u8], at: usize, byte: u8) -> usize
 
 // Puts a byte string at a place, and hands back the place behind it.
 pub fn write_bytes(buffer: &mut [u8], at: usize, bytes: &[u8]) -> usize
-    ensures { λ r. ⌜ Written (now (buffer .entry)) (now (buffer .exit)) at (now (bytes .entry)) r ⌝ }
+    ensures { λ r. ⌜ WrittenAt (now (buffer .entry)) (now (buffer .exit)) at (now (bytes .entry)) r ⌝ }
 {
     let mut to = at;
     let mut i = 0;
@@ -96,7 +96,7 @@ fn write_digits(buffer: &mut [u8], at: usize, n: u64, digits: usize)
 
 // Puts a numeral at a place, and hands back the place behind it. Past the end its digits are counted and no more.
 fn write_numeral(buffer: &mut [u8], at: usize, n: u64) -> usize
-    ensures { λ r. ⌜ Written (now (buffer .entry)) (now (buffer .exit)) at (decimal n) r ⌝ }
+    ensures { λ r. ⌜ WrittenAt (now (buffer .entry)) (now (buffer .exit)) at (decimal n) r ⌝ }
 {
     let digits = width(n);
     if buffer.len() <= at {
@@ -108,7 +108,7 @@ fn write_numeral(buffer: &mut [u8], at: usize, n: u64) -> usize
 
 // Puts a numeral and the byte that ends its field at a place, and hands back the place behind them.
 pub fn write_field(buffer: &mut [u8], at: usize, n: u64, end: u8) -> usize
-    ensures { λ r. ⌜ Written (now (buffer .entry)) (now (buffer .exit)) at (decimal n ++ (end ∷ [])) r ⌝ }
+    ensures { λ r. ⌜ WrittenAt (now (buffer .entry)) (now (buffer .exit)) at (decimal n ++ (end ∷ [])) r ⌝ }
 {
     let to = write_numeral(buffer, at, n);
     write_byte(buffer, to, end)
@@ -117,7 +117,7 @@ pub fn write_field(buffer: &mut [u8], at: usize, n: u64, end: u8) -> usize
 // Puts a line of numerals at a place, and hands back the place behind it.
 pub fn write_numbers(buffer: &mut [u8], at: usize, numbers: &[u32]) -> usize
     requires { ⌜ 1 ≤ length (now numbers) ⌝ }
-    ensures { λ r. ⌜ Written (now (buffer .entry)) (now (buffer .exit)) at (line (map decimal (now (numbers .entry))) []) r ⌝ }
+    ensures { λ r. ⌜ WrittenAt (now (buffer .entry)) (now (buffer .exit)) at (line (map decimal (now (numbers .entry))) []) r ⌝ }
 {
     let last = numbers.len() - 1;
     let mut to = at;

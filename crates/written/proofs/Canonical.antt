@@ -11,8 +11,8 @@ use lib.ListN.{length}
 use borrow.Author.Tests.{eqb-false, eqb-true, leb-true, not-true}
 use Rattle.spec.specs.Choice.{if_then_else_}
 use Rattle.spec.specs.Text.{Line, closed, unclosed, onLine, lines, Field, onField, fields, digitLimit, digits, leadingZero, value, numeral}
-use Rattle.spec.specs.Reading.{Seen, right, Range, withNumeral, numerals, numbers}
-use Rattle.spec.specs.WellFormed.{Shows, nothing, line as shown}
+use Rattle.spec.specs.Reading.{LineResult, good, Range, withNumeral, numerals, numbers}
+use Rattle.spec.specs.WellFormed.{Parses, nothing, line as shown}
 use Rattle.spec.proofs.Clashes.{none-is-not-some}
 use Rattle.spec.proofs.Tests.{both-true}
 use Rattle.spec.proofs.Seen.{numbers-spelled}
@@ -106,7 +106,7 @@ numerals-canonical (f ∷ fs) ns e =
     ap (λ (x : Field). x ∷ fs) here ∙ ap (λ (r : List Field). decimal n ∷ r) there ∙ sym (ap (map decimal) q)
 
 -- fields that show numbers are the numerals of those numbers
-pub numbers-canonical : (rs : List Range) (fs : List Field) (ns : List ℕ) → numbers rs fs ≡ right ns → fs ≡ map decimal ns
+pub numbers-canonical : (rs : List Range) (fs : List Field) (ns : List ℕ) → numbers rs fs ≡ good ns → fs ≡ map decimal ns
 numbers-canonical rs fs ns e = numerals-canonical fs ns (numbers-spelled rs fs ns e)
 
 -- ------------------------------------------------------------------ fields and lines
@@ -177,14 +177,14 @@ line-joined (f ∷ g ∷ fs) t = ap (λ (r : List ℕ). f ++ (44 ∷ r)) (line-j
 -- ------------------------------------------------------------------ lines that show something
 
 -- each way of reading shows its entry only on the fields given
-pub data OneSpelling {A : Type 0} : List (List Field → Seen A) → List A → List (List Field) → Type 0 where
+pub data OneSpelling {A : Type 0} : List (List Field → LineResult A) → List A → List (List Field) → Type 0 where
   empty : OneSpelling [] [] []
-  entry : {read : List Field → Seen A} {reads : List (List Field → Seen A)} {a : A} {as′ : List A} {w : List Field} {ws : List (List Field)}
-      → ((fs : List Field) → read fs ≡ right a → fs ≡ w) → OneSpelling reads as′ ws → OneSpelling (read ∷ reads) (a ∷ as′) (w ∷ ws)
+  entry : {read : List Field → LineResult A} {reads : List (List Field → LineResult A)} {a : A} {as′ : List A} {w : List Field} {ws : List (List Field)}
+      → ((fs : List Field) → read fs ≡ good a → fs ≡ w) → OneSpelling reads as′ ws → OneSpelling (read ∷ reads) (a ∷ as′) (w ∷ ws)
 
 -- lines that show the entries are those fields
-pub shown-spelling : {A : Type 0} {reads : List (List Field → Seen A)} {ls rest : List Line} {as′ : List A} {ws : List (List Field)}
-    → Shows reads ls as′ rest → OneSpelling reads as′ ws → unlined ls ≡ text ws ++ unlined rest
+pub shown-spelling : {A : Type 0} {reads : List (List Field → LineResult A)} {ls rest : List Line} {as′ : List A} {ws : List (List Field)}
+    → Parses reads ls as′ rest → OneSpelling reads as′ ws → unlined ls ≡ text ws ++ unlined rest
 unfolding unlined text
 shown-spelling nothing empty = refl
 shown-spelling (shown {l = l} {ls = ls} {rest = rest} h s) (entry {w = w} {ws = ws} c o) =

@@ -11,13 +11,13 @@ use lib.ListN.{length, getD, replicate}
 use borrow.Author.Tests.{ltb-true}
 use Rattle.spec.specs.Choice.{if_then_else_}
 use Rattle.spec.specs.Text.{Line, bytes, same, Field, lookUp}
-use Rattle.spec.specs.Reading.{right, _to_, below, inRange, allInRange}
+use Rattle.spec.specs.Reading.{good, _to_, below, inRange, allInRange}
 use Rattle.spec.specs.Words.{takesStart}
 use Rattle.spec.specs.Expression.{Step}
 use Rattle.spec.specs.Program.{Program}
 use Rattle.spec.specs.Split.{Map, headings, startOf, headerOf, headed, headerLine, refOf, lockOf, tidOf, semOf, rwlockOf, typeLine, typeLines, mapLine, Row, rowOf, startGiven, startRange, mayBeEmpty, emptyFault, postRange, postField, rowLine, Split}
 use Rattle.spec.specs.declared.Header.{Header}
-use Rattle.spec.specs.WellFormed.{Shows, nothing, line, WellFormedSplit}
+use Rattle.spec.specs.WellFormed.{Parses, nothing, line, WellFormedSplit}
 use Rattle.spec.specs.Accepted.{AtMost}
 use Rattle.spec.specs.Accepted as accepted
 use Rattle.spec.specs.declared.Heading.{Heading}
@@ -35,14 +35,14 @@ use Rattle.written.proofs.Spelling.{choice-right}
 
 -- ------------------------------------------------------------------ the header
 
-headed-starts : (o : Option Heading) (fs : List Field) (H : Header) → headed o fs ≡ right H → RootStarts (H .heading) (H .start)
+headed-starts : (o : Option Heading) (fs : List Field) (H : Header) → headed o fs ≡ good H → RootStarts (H .heading) (H .start)
 unfolding headed headerOf startOf RootStarts
 headed-starts none fs H h = wrong-is-not-right h
 headed-starts (some C) fs H h = let (ns, n, e) = seen-right _ h in along (λ G. RootStarts (G .heading) (G .start)) e refl
 headed-starts (some C2) fs H h = let (ns, n, e) = seen-right _ h in along (λ G. RootStarts (G .heading) (G .start)) e tt
 headed-starts (some C3) fs H h = let (ns, n, e) = seen-right _ h in along (λ G. RootStarts (G .heading) (G .start)) e tt
 
-header-starts : (purpose : Purpose) (fs : List Field) (H : Header) → headerLine purpose fs ≡ right H → RootStarts (H .heading) (H .start)
+header-starts : (purpose : Purpose) (fs : List Field) (H : Header) → headerLine purpose fs ≡ good H → RootStarts (H .heading) (H .start)
 unfolding headerLine
 header-starts purpose [] H h = wrong-is-not-right h
 header-starts purpose (f ∷ fs) H h = headed-starts (lookUp (headings purpose) f) fs H h
@@ -63,7 +63,7 @@ lock-made C ns = refl
 lock-made C2 ns = refl
 lock-made C3 ns = tt
 
-type-shows : (H : Header) (own : ℕ) (fs : List Field) (τ : TypeLine) → typeLine H own fs ≡ right τ → TypeShows (H .heading) τ
+type-shows : (H : Header) (own : ℕ) (fs : List Field) (τ : TypeLine) → typeLine H own fs ≡ good τ → TypeShows (H .heading) τ
 unfolding typeLine TypeShows refOf tidOf semOf rwlockOf
 type-shows H own [] τ h = wrong-is-not-right h
 type-shows H own (f ∷ fs) τ h =
@@ -76,7 +76,7 @@ type-shows H own (f ∷ fs) τ h =
     (choice-right Q (same f (bytes "rwlock")) _ _ (λ w σ g. let (_, _, e) = seen-right _ g in along Q e tt)
     (λ σ g. wrong-is-not-right g)))))) τ h
 
-locks-show : (H : Header) (own n : ℕ) {ls rest : List Line} {τs : List TypeLine} → Shows (typeLines H own n) ls τs rest
+locks-show : (H : Header) (own n : ℕ) {ls rest : List Line} {τs : List TypeLine} → Parses (typeLines H own n) ls τs rest
     → (t : ℕ) (i o : MapNumber) → t < length τs → getD τs t Int ≡ Lock i o → LockShows (H .heading) i o
 unfolding typeLines TypeShows
 locks-show H own zero nothing t i o h e = absurd (omega arith)
@@ -94,7 +94,7 @@ all-small (suc n) (a ∷ m) l h =
     let (here, rest) = both-true (inRange (0 to 1000000000) a) (allInRange (replicate n (0 to 1000000000)) m) h in
     accepted.more (in-to 0 1000000000 a here .1) (all-small n m (omega (arith, l)) rest)
 
-maps-small : (H : Header) (n : ℕ) {ls rest : List Line} {ms : List Map} → Shows (replicate n (mapLine H)) ls ms rest
+maps-small : (H : Header) (n : ℕ) {ls rest : List Line} {ms : List Map} → Parses (replicate n (mapLine H)) ls ms rest
     → (m : ℕ) → AtMost 1000000000 (getD ms m [])
 unfolding mapLine
 maps-small H zero nothing m = accepted.none
@@ -113,7 +113,7 @@ start-on-spawn w H n h = by-cases (takesStart w) (ltb-true n _ h)
     by-cases false q = absurd (omega arith)
 
 module _ (purpose : Purpose) (H : Header) where
-  row-starts : (s : Step) (fs : List Field) (r : Row) → rowLine purpose H s fs ≡ right r → RowStarts (H .heading) (s .word) (r .start)
+  row-starts : (s : Step) (fs : List Field) (r : Row) → rowLine purpose H s fs ≡ good r → RowStarts (H .heading) (s .word) (r .start)
   unfolding rowLine rowOf startGiven RowStarts
   row-starts s [] r h = wrong-is-not-right h
   row-starts s (t ∷ []) r h = wrong-is-not-right h
@@ -129,7 +129,7 @@ module _ (purpose : Purpose) (H : Header) where
       along (λ q. RowStarts (H .heading) (s .word) (q .start)) e (start-on-spawn (s .word) H (getD ns 2 0) given)
   row-starts s (t ∷ m ∷ f ∷ g ∷ fs) r h = wrong-is-not-right h
 
-  rows-start : (steps : List Step) {ls rest : List Line} {rs : List Row} → Shows (map (rowLine purpose H) steps) ls rs rest
+  rows-start : (steps : List Step) {ls rest : List Line} {rs : List Row} → Parses (map (rowLine purpose H) steps) ls rs rest
       → (i : ℕ) (s : Step) (r : Row) → i < length steps → RowStarts (H .heading) (getD steps i s .word) (getD rs i r .start)
   rows-start [] nothing i s r h = absurd (omega arith)
   rows-start (x ∷ steps) (line {a = a} shown others) zero s r h = row-starts x _ a shown

@@ -9,7 +9,7 @@ use native.Mathlib.Omega.{arith}
 use lib.Dec.{eqb}
 use lib.ListN.{length, replicate, getD, length-map, length-replicate, getD-replicate, List·getD-map}
 use Rattle.spec.specs.Text.{bytes, same, lookUp, lines, Field}
-use Rattle.spec.specs.Reading.{splitSheet, on, Seen, right, seen, insist, Range, _to_, below, numbers, begin, noneLeft, end}
+use Rattle.spec.specs.Reading.{splitSheet, ok, LineResult, good, seen, ensure, Range, _to_, below, numbers, begin, noneLeft, end}
 use Rattle.spec.specs.Expression.{Step}
 use Rattle.spec.specs.Program.{Program}
 use Rattle.spec.specs.Split.{Map, headings, headerRanges, mapsIn, mapsOf, startOf, headerOf, headed, headerLine, refOf, lockOf, outRange, tidOf, semOf, rwlockOf, typeLine, typeLines, mapLine, noSignature, signatureOf, signatureLine, Row, noRow, rowOf, startGiven, startRange, postRange, postField, rowLine, Split, split}
@@ -32,7 +32,7 @@ use Rattle.spec.proofs.Reading.{read-next, read-all}
 use Rattle.written.specs.Text.{decimal, text}
 use Rattle.written.specs.Plain.{Plain, PlainLine, last, next}
 use Rattle.written.specs.Plain as plain
-use Rattle.written.specs.Sheet.{headingName, headerNumbers, headerFields, outNumber, typeFields, mapFields, signatureFields, postShown, startShown, rowFields, splitLines, written}
+use Rattle.written.specs.Sheet.{headingName, headerNumbers, headerFields, outNumber, typeFields, mapFields, signatureFields, postShown, startShown, rowFields, splitLines, sheetText}
 use Rattle.written.specs.Writable.{RootStarts, LockShows, RowStarts, Writable}
 use Rattle.written.proofs.Decimal.{decimal-long}
 use Rattle.written.proofs.Numerals.{decimal-plain}
@@ -91,7 +91,7 @@ unfolding typeLines
 type-lines-length H own zero = refl
 type-lines-length H own (suc n) = ap suc (type-lines-length H (own + 1) n)
 
-type-lines-at : (H : Header) (own n i : ℕ) (d : List Field → Seen TypeLine) → i < n → getD (typeLines H own n) i d ≡ typeLine H (own + i)
+type-lines-at : (H : Header) (own n i : ℕ) (d : List Field → LineResult TypeLine) → i < n → getD (typeLines H own n) i d ≡ typeLine H (own + i)
 unfolding typeLines
 type-lines-at H own zero i d h = absurd (omega arith)
 type-lines-at H own (suc n) zero d h = ap (typeLine H) (omega arith)
@@ -132,7 +132,7 @@ module _ {P : Program} {S : Split} (W : Writable P S) where
   few-maps : H .maps ≤ 1000000000
   few-maps = omega (arith, R .mapsFew)
 
-  header-back : headerLine Check (headerFields H) ≡ right H
+  header-back : headerLine Check (headerFields H) ≡ good H
   unfolding headerLine headings lookUp headed headerOf startOf mapsIn mapsOf headerFields headingName headerNumbers same bytes seen headerRanges RootStarts
   header-back = by-heading (H .heading) refl (W .start)
     where
@@ -153,11 +153,11 @@ module _ {P : Program} {S : Split} (W : Writable P S) where
         start = H .start;
       }
 
-      by-heading : (h : Heading) → H .heading ≡ h → RootStarts h (H .start) → headerLine Check (headingName h ∷ map decimal (headerNumbers h H)) ≡ right H
+      by-heading : (h : Heading) → H .heading ≡ h → RootStarts h (H .start) → headerLine Check (headingName h ∷ map decimal (headerNumbers h H)) ≡ good H
       by-heading C e z =
           rw (numbers-back (within-to (R .denominator) (omega arith) (within-to (R .locations) (omega arith)
           (within-to (R .typesFew) (omega arith) (within-to (R .mapsFew) (omega arith) empty)))))
-          (λ i. right (record {
+          (λ i. good (record {
             heading = sym e i;
             denominator = H .denominator;
             locations = H .locations;
@@ -165,21 +165,21 @@ module _ {P : Program} {S : Split} (W : Writable P S) where
             maps = H .maps;
             start = record { 0 = sym z i };
           }))
-      by-heading C2 e z = rw (numerals-back named, numbers-back named) (λ i. right (headed-by (sym e i)))
-      by-heading C3 e z = rw (numerals-back named, numbers-back named) (λ i. right (headed-by (sym e i)))
+      by-heading C2 e z = rw (numerals-back named, numbers-back named) (λ i. good (headed-by (sym e i)))
+      by-heading C3 e z = rw (numerals-back named, numbers-back named) (λ i. good (headed-by (sym e i)))
 
   -- the numbers of a lock line, by heading
   lock-back : (h : Heading) (i o : MapNumber) → i .0 < H .maps → o .0 < H .maps → LockShows h i o
-      → seen (lockOf h) (numbers (below (H .maps) ∷ outRange h (H .maps) ∷ []) (map decimal (i .0 ∷ outNumber h o ∷ []))) ≡ right (Lock i o)
+      → seen (lockOf h) (numbers (below (H .maps) ∷ outRange h (H .maps) ∷ []) (map decimal (i .0 ∷ outNumber h o ∷ []))) ≡ good (Lock i o)
   unfolding seen lockOf outRange outNumber LockShows
   lock-back C i o first second same =
-      rw (numbers-back (within-below first few-maps (zero-in empty))) (λ j. right (Lock i (record { 0 = sym same j })))
+      rw (numbers-back (within-below first few-maps (zero-in empty))) (λ j. good (Lock i (record { 0 = sym same j })))
   lock-back C2 i o first second same =
-      rw (numbers-back (within-below first few-maps (zero-in empty))) (λ j. right (Lock i (record { 0 = sym same j })))
+      rw (numbers-back (within-below first few-maps (zero-in empty))) (λ j. good (Lock i (record { 0 = sym same j })))
   lock-back C3 i o first second any = rw (numbers-back (within-below first few-maps (within-below second few-maps empty)))
 
   type-back : (t : ℕ) (τ : TypeLine) → t < length (S .types) → getD (S .types) t Int ≡ τ → AllBelow (length (S .maps)) (maps τ)
-      → typeLine H t (typeFields (H .heading) τ) ≡ right τ
+      → typeLine H t (typeFields (H .heading) τ) ≡ good τ
   unfolding typeLine typeFields same bytes seen refOf lockOf tidOf semOf rwlockOf
   type-back t Int h e l = rw (numbers-back (zero-in (zero-in empty)))
   type-back t (Ref p c) h e l =
@@ -190,7 +190,7 @@ module _ {P : Program} {S : Split} (W : Writable P S) where
   type-back t (Sem k) h e l = rw (numbers-back (within-below (a-map (l .0)) few-maps (zero-in empty)))
   type-back t (Rwlock r w) h e l = rw (numbers-back (within-below (a-map (l .0)) few-maps (within-below (a-map (l .1 .0)) few-maps empty)))
 
-  map-back : (m : Map) → length m ≡ H .locations → AtMost 1000000000 m → mapLine H (mapFields m) ≡ right m
+  map-back : (m : Map) → length m ≡ H .locations → AtMost 1000000000 m → mapLine H (mapFields m) ≡ good m
   unfolding mapLine mapFields
   map-back m wide small = numbers-back (map-within (H .locations) wide small)
 
@@ -200,7 +200,7 @@ module _ {P : Program} {S : Split} (W : Writable P S) where
   a-type : {n : ℕ} → n < length (S .types) → n < H .types
   a-type h = omega (arith, R .typesCounted)
 
-  signature-back : (f : ℕ) → f < length (S .signatures) → let g = getD (S .signatures) f noSignature in signatureLine H (signatureFields g) ≡ right g
+  signature-back : (f : ℕ) → f < length (S .signatures) → let g = getD (S .signatures) f noSignature in signatureLine H (signatureFields g) ≡ good g
   unfolding signatureLine signatureOf signatureFields seen
   signature-back f h =
       rw (numbers-back (within-below (a-map (R .beforeMap f noSignature h)) few-maps (within-below (a-type (R .argumentType f noSignature h)) few-types
@@ -208,19 +208,19 @@ module _ {P : Program} {S : Split} (W : Writable P S) where
 
   row-back : (s : Step) (r : Row) → r .type .0 < length (S .types) → r .post .0 < length (S .maps)
       → ((m : MapNumber) → r .start ≡ some m → m .0 < length (S .maps)) → RowStarts (H .heading) (s .word) (r .start)
-      → rowLine Check H s (rowFields Check r) ≡ right r
-  unfolding rowLine rowOf startGiven startRange postRange postField seen insist rowFields postShown startShown RowStarts
+      → rowLine Check H s (rowFields Check r) ≡ good r
+  unfolding rowLine rowOf startGiven startRange postRange postField seen ensure rowFields postShown startShown RowStarts
   row-back s r t p inMaps starts = by-start (r .start) refl starts
     where
       by-start : (o : Option MapNumber) → r .start ≡ o → RowStarts (H .heading) (s .word) o
-          → rowLine Check H s (decimal (r .type .0) ∷ decimal (r .post .0) ∷ startShown o ∷ []) ≡ right r
+          → rowLine Check H s (decimal (r .type .0) ∷ decimal (r .post .0) ∷ startShown o ∷ []) ≡ good r
       by-start none e empty-allowed =
           rw (numbers-back (within-below (a-type t) few-types (within-below (a-map p) few-maps empty)), empty-allowed)
-          (λ i. right (record { type = r .type; post = r .post; start = sym e i }))
+          (λ i. good (record { type = r .type; post = r .post; start = sym e i }))
       by-start (some m) e spawns =
           third-numeral H s _ _ (decimal (m .0)) (decimal-long (m .0))
           ∙ rw (spawns, numbers-back (within-below (a-type t) few-types (within-below (a-map p) few-maps (within-below (a-map (inMaps m e)) few-maps empty))))
-          (λ i. right (record { type = r .type; post = r .post; start = sym e i }))
+          (λ i. good (record { type = r .type; post = r .post; start = sym e i }))
 
   -- ---------------------------------------------------------------- all lines of a sort
 
@@ -229,32 +229,32 @@ module _ {P : Program} {S : Split} (W : Writable P S) where
       let τ = getD (S .types) t Int in
       let own : 0 + t ≡ t = omega arith in
       let read = type-lines-at H 0 (H .types) t (typeLine H 0) (omega (arith, R .typesCounted)) ∙ ap (typeLine H) own in
-      (type-plain (H .heading) τ, ap (λ (f : List Field → Seen TypeLine). f (typeFields (H .heading) τ)) read ∙ type-back t τ h refl (R .typeMaps t h)))
+      (type-plain (H .heading) τ, ap (λ (f : List Field → LineResult TypeLine). f (typeFields (H .heading) τ)) read ∙ type-back t τ h refl (R .typeMaps t h)))
 
   maps-back : Spells (replicate (H .maps) (mapLine H)) (map mapFields (S .maps)) (S .maps)
   maps-back = each-spelled mapFields (replicate (H .maps) (mapLine H)) (S .maps) (mapLine H) [] (R .mapsCounted ∙ sym (length-replicate (H .maps) (mapLine H))) (λ n h.
       let m = getD (S .maps) n [] in
       let read = getD-replicate (H .maps) n (mapLine H) (mapLine H) (a-map h) in
       let wide = R .mapWide n h in
-      (map-plain m (omega (arith, wide, R .locations)), ap (λ (f : List Field → Seen Map). f (mapFields m)) read ∙ map-back m wide (W .numbersSmall n)))
+      (map-plain m (omega (arith, wide, R .locations)), ap (λ (f : List Field → LineResult Map). f (mapFields m)) read ∙ map-back m wide (W .numbersSmall n)))
 
   signatures-back : Spells (replicate (length (P .procedures)) (signatureLine H)) (map signatureFields (S .signatures)) (S .signatures)
   signatures-back = each-spelled signatureFields (replicate (length (P .procedures)) (signatureLine H)) (S .signatures) (signatureLine H) noSignature (R .signaturesCounted ∙ sym (length-replicate (length (P .procedures)) (signatureLine H))) (λ f h.
       let g = getD (S .signatures) f noSignature in
       let read = getD-replicate (length (P .procedures)) f (signatureLine H) (signatureLine H) (omega (arith, R .signaturesCounted)) in
-      (signature-plain g, ap (λ (r : List Field → Seen Signature). r (signatureFields g)) read ∙ signature-back f h))
+      (signature-plain g, ap (λ (r : List Field → LineResult Signature). r (signatureFields g)) read ∙ signature-back f h))
 
   rows-back : Spells (map (rowLine Check H) (P .steps)) (map (rowFields Check) (S .rows)) (S .rows)
   rows-back = each-spelled (rowFields Check) (map (rowLine Check H) (P .steps)) (S .rows) (rowLine Check H aStep) noRow (R .rowsCounted ∙ sym (length-map (P .steps) (rowLine Check H))) (λ i h.
       let row = getD (S .rows) i noRow in
       let read = List·getD-map (rowLine Check H) (P .steps) i aStep in
       let starts = W .rowStarts i aStep noRow (omega (arith, R .rowsCounted)) in
-      (row-plain row, ap (λ (f : List Field → Seen Row). f (rowFields Check row)) read ∙ row-back (getD (P .steps) i aStep) row (R .rowType i noRow h) (R .rowPost i noRow h) (λ m. R .rowStart i noRow m h) starts))
+      (row-plain row, ap (λ (f : List Field → LineResult Row). f (rowFields Check row)) read ∙ row-back (getD (P .steps) i aStep) row (R .rowType i noRow h) (R .rowPost i noRow h) (λ m. R .rowStart i noRow m h) starts))
 
   -- ---------------------------------------------------------------- the sheet
 
-  pub written-reads-back : split Check P (written S) ≡ on S
-  unfolding split begin end noneLeft written splitLines text lines
+  pub written-reads-back : split Check P (sheetText S) ≡ ok S
+  unfolding split begin end noneLeft sheetText splitLines text lines
   written-reads-back =
       let rowed = map (rowFields Check) (S .rows) in
       let signed = map signatureFields (S .signatures) ++ rowed in

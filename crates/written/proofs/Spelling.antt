@@ -12,13 +12,13 @@ use lib.Seq.{drop-cons}
 use borrow.Author.Tests.{ltb-true}
 use Rattle.spec.specs.Choice.{if_then_else_}
 use Rattle.spec.specs.Text.{Line, bytes, same, Field, fields, lookUp}
-use Rattle.spec.specs.Reading.{Seen, right, seen, Range, _to_, below, inRange, numerals, numbers}
+use Rattle.spec.specs.Reading.{LineResult, good, seen, Range, _to_, below, inRange, numerals, numbers}
 use Rattle.spec.specs.Expression.{Step}
 use Rattle.spec.specs.Program.{Program}
 use Rattle.spec.specs.Split.{Map, headings, headerRanges, mapsOf, mapsIn, startOf, headerOf, headed, headerLine, refOf, lockOf, outRange, tidOf, semOf, rwlockOf, typeLine, typeLines, mapLine, signatureOf, signatureLine, Row, rowOf, startGiven, startRange, emptyFault, postRange, postField, rowLine, Split}
 use Rattle.spec.specs.declared.Signature.{Signature}
 use Rattle.spec.specs.declared.Header.{Header}
-use Rattle.spec.specs.WellFormed.{Shows, WellFormedSplit}
+use Rattle.spec.specs.WellFormed.{Parses, WellFormedSplit}
 use Rattle.spec.specs.WellFormed as well-formed
 use Rattle.spec.specs.declared.Heading.{Heading}
 use Rattle.spec.specs.declared.Heading.the-variants.{C, C2, C3}
@@ -29,7 +29,7 @@ use Rattle.spec.proofs.Clashes.{none-is-not-some}
 use Rattle.spec.proofs.Tests.{same-equal}
 use Rattle.spec.proofs.Seen.{wrong-is-not-right, seen-right, numbers-right, in-to, in-range-at, insist-right}
 use Rattle.written.specs.Text.{decimal, line, text}
-use Rattle.written.specs.Sheet.{headingName, headerNumbers, headerFields, outNumber, typeFields, mapFields, signatureFields, postShown, startShown, rowFields, splitLines, written, unfilled}
+use Rattle.written.specs.Sheet.{headingName, headerNumbers, headerFields, outNumber, typeFields, mapFields, signatureFields, postShown, startShown, rowFields, splitLines, sheetText, unfilled}
 use Rattle.written.proofs.Fields.{joined}
 use Rattle.written.proofs.Lines.{text-append}
 use Rattle.written.proofs.Canonical.{numbers-canonical, joined-fields, unlined, unlined-lines, line-joined, OneSpelling, empty, entry, shown-spelling}
@@ -47,13 +47,13 @@ entries-behind ns i zero l = drop-of-length-le ns {i = i} (omega (arith, l))
 entries-behind ns i (suc n) l = drop-cons ns i 0 (omega (arith, l)) ∙ ap (λ (r : List ℕ). getD ns i 0 ∷ r) (entries-behind ns (suc i) n (omega (arith, l)))
 
 -- the numbers of a line, as many as its ranges
-line-numbers : (rs : List Range) (fs : List Field) (ns : List ℕ) → numbers rs fs ≡ right ns → fs ≡ map decimal (entries ns 0 (length rs))
+line-numbers : (rs : List Range) (fs : List Field) (ns : List ℕ) → numbers rs fs ≡ good ns → fs ≡ map decimal (entries ns 0 (length rs))
 line-numbers rs fs ns h = numbers-canonical rs fs ns h ∙ ap (map decimal) (entries-behind ns 0 (length rs) (numbers-right rs fs ns h .0 ∙ omega arith))
 
 -- ------------------------------------------------------------------ words
 
-pub choice-right : {A : Type 0} (Q : A → Type 0) (b : Bool) (x y : Seen A) → (b ≡ true → (a : A) → x ≡ right a → Q a) → ((a : A) → y ≡ right a → Q a)
-    → (a : A) → (if b then x else y) ≡ right a → Q a
+pub choice-right : {A : Type 0} (Q : A → Type 0) (b : Bool) (x y : LineResult A) → (b ≡ true → (a : A) → x ≡ good a → Q a) → ((a : A) → y ≡ good a → Q a)
+    → (a : A) → (if b then x else y) ≡ good a → Q a
 choice-right Q true x y f g a h = f refl a h
 choice-right Q false x y f g a h = g a h
 
@@ -79,7 +79,7 @@ unfolding Named headings headingName
 headings-named Check = (refl, (refl, (refl, tt)))
 headings-named Fill = (refl, (refl, tt))
 
-numbers-spelling : (h : Heading) (H : Header) (fs : List Field) → headed (some h) fs ≡ right H → headingName h ∷ fs ≡ headerFields H
+numbers-spelling : (h : Heading) (H : Header) (fs : List Field) → headed (some h) fs ≡ good H → headingName h ∷ fs ≡ headerFields H
 unfolding headed headerRanges headerOf startOf mapsOf headerFields headerNumbers entries
 numbers-spelling C H fs e =
     let (ns, n, g) = seen-right _ e in
@@ -91,12 +91,12 @@ numbers-spelling C3 H fs e =
     let (ns, n, g) = seen-right _ e in
     along (λ G. headingName C3 ∷ fs ≡ headerFields G) g (ap (λ (r : List Field). headingName C3 ∷ r) (line-numbers (headerRanges C3 (mapsIn (numerals fs))) fs ns n))
 
-header-spelling : (purpose : Purpose) (H : Header) (fs : List Field) → headerLine purpose fs ≡ right H → fs ≡ headerFields H
+header-spelling : (purpose : Purpose) (H : Header) (fs : List Field) → headerLine purpose fs ≡ good H → fs ≡ headerFields H
 unfolding headerLine headed
 header-spelling purpose H [] h = wrong-is-not-right h
 header-spelling purpose H (f ∷ fs) h = by-name (lookUp (headings purpose) f) refl h
   where
-    by-name : (o : Option Heading) → lookUp (headings purpose) f ≡ o → headed o fs ≡ right H → f ∷ fs ≡ headerFields H
+    by-name : (o : Option Heading) → lookUp (headings purpose) f ≡ o → headed o fs ≡ good H → f ∷ fs ≡ headerFields H
     by-name none e g = wrong-is-not-right g
     by-name (some h) e g =
         ap (λ (n : Field). n ∷ fs) (named-found (headings purpose) f h (headings-named purpose) e) ∙ numbers-spelling h H fs g
@@ -106,8 +106,8 @@ header-spelling purpose H (f ∷ fs) h = by-name (lookUp (headings purpose) f) r
 module _ (H : Header) (own : ℕ) (f : Field) (fs : List Field) where
   -- a word and its numbers, if they are what is written for the type that they make
   word-spelling : (word : Field) (rs : List Range) (made : List ℕ → TypeLine)
-      → ((ns : List ℕ) → numbers rs fs ≡ right ns → typeFields (H .heading) (made ns) ≡ word ∷ map decimal (entries ns 0 (length rs)))
-      → same f word ≡ true → (τ : TypeLine) → seen made (numbers rs fs) ≡ right τ → f ∷ fs ≡ typeFields (H .heading) τ
+      → ((ns : List ℕ) → numbers rs fs ≡ good ns → typeFields (H .heading) (made ns) ≡ word ∷ map decimal (entries ns 0 (length rs)))
+      → same f word ≡ true → (τ : TypeLine) → seen made (numbers rs fs) ≡ good τ → f ∷ fs ≡ typeFields (H .heading) τ
   word-spelling word rs made shown t τ g =
       let (ns, n, e) = seen-right _ g in
       ap (λ (w : Field). w ∷ fs) (same-equal f word t)
@@ -116,7 +116,7 @@ module _ (H : Header) (own : ℕ) (f : Field) (fs : List Field) where
       ∙ ap (typeFields (H .heading)) e
 
   -- a map, then 0
-  load-shown : (word : Field) (ns : List ℕ) → numbers (below (H .maps) ∷ (0 to 0) ∷ []) fs ≡ right ns
+  load-shown : (word : Field) (ns : List ℕ) → numbers (below (H .maps) ∷ (0 to 0) ∷ []) fs ≡ good ns
       → word ∷ map decimal (getD ns 0 0 ∷ 0 ∷ []) ≡ word ∷ map decimal (entries ns 0 2)
   unfolding entries
   load-shown word ns n =
@@ -124,14 +124,14 @@ module _ (H : Header) (own : ℕ) (f : Field) (fs : List Field) where
       ap (λ (b : ℕ). word ∷ map decimal (getD ns 0 0 ∷ b ∷ [])) (omega (arith, zero-range))
 
   -- a lock line, by heading
-  lock-shown : (h : Heading) (ns : List ℕ) → numbers (below (H .maps) ∷ outRange h (H .maps) ∷ []) fs ≡ right ns
+  lock-shown : (h : Heading) (ns : List ℕ) → numbers (below (H .maps) ∷ outRange h (H .maps) ∷ []) fs ≡ good ns
       → typeFields h (lockOf h ns) ≡ bytes "lock" ∷ map decimal (entries ns 0 2)
   unfolding outRange typeFields lockOf outNumber entries
   lock-shown C ns n = load-shown (bytes "lock") ns n
   lock-shown C2 ns n = load-shown (bytes "lock") ns n
   lock-shown C3 ns n = refl
 
-  int-shown : (ns : List ℕ) → numbers ((0 to 0) ∷ (0 to 0) ∷ []) fs ≡ right ns
+  int-shown : (ns : List ℕ) → numbers ((0 to 0) ∷ (0 to 0) ∷ []) fs ≡ good ns
       → bytes "int" ∷ map decimal (0 ∷ 0 ∷ []) ≡ bytes "int" ∷ map decimal (entries ns 0 2)
   unfolding entries
   int-shown ns n =
@@ -141,7 +141,7 @@ module _ (H : Header) (own : ℕ) (f : Field) (fs : List Field) where
       ap (λ (a : ℕ). bytes "int" ∷ map decimal (a ∷ 0 ∷ [])) (omega (arith, first))
       ∙ ap (λ (b : ℕ). bytes "int" ∷ map decimal (getD ns 0 0 ∷ b ∷ [])) (omega (arith, second))
 
-type-spelling : (H : Header) (own : ℕ) (τ : TypeLine) (fs : List Field) → typeLine H own fs ≡ right τ → fs ≡ typeFields (H .heading) τ
+type-spelling : (H : Header) (own : ℕ) (τ : TypeLine) (fs : List Field) → typeLine H own fs ≡ good τ → fs ≡ typeFields (H .heading) τ
 unfolding typeLine typeFields refOf lockOf tidOf semOf rwlockOf entries
 type-spelling H own τ [] h = wrong-is-not-right h
 type-spelling H own τ (f ∷ fs) h =
@@ -155,7 +155,7 @@ type-spelling H own τ (f ∷ fs) h =
     (choice-right Q (same f (bytes "rwlock")) _ _ (spelled (bytes "rwlock") _ _ (λ ns n. refl))
     (λ σ g. wrong-is-not-right g)))))) τ h
 
-types-spelling : (H : Header) (own n : ℕ) {ls rest : List Line} {τs : List TypeLine} → Shows (typeLines H own n) ls τs rest
+types-spelling : (H : Header) (own n : ℕ) {ls rest : List Line} {τs : List TypeLine} → Parses (typeLines H own n) ls τs rest
     → OneSpelling (typeLines H own n) τs (map (typeFields (H .heading)) τs)
 unfolding typeLines
 types-spelling H own zero well-formed.nothing = empty
@@ -163,7 +163,7 @@ types-spelling H own (suc n) (well-formed.line {a = a} h s) = entry (type-spelli
 
 -- ------------------------------------------------------------------ map lines
 
-maps-spelling : (H : Header) (n : ℕ) {ls rest : List Line} {ms : List Map} → Shows (replicate n (mapLine H)) ls ms rest
+maps-spelling : (H : Header) (n : ℕ) {ls rest : List Line} {ms : List Map} → Parses (replicate n (mapLine H)) ls ms rest
     → OneSpelling (replicate n (mapLine H)) ms (map mapFields ms)
 unfolding mapLine mapFields
 maps-spelling H zero well-formed.nothing = empty
@@ -171,13 +171,13 @@ maps-spelling H (suc n) (well-formed.line {a = a} h s) = entry (λ fs g. numbers
 
 -- ------------------------------------------------------------------ procedures
 
-signature-spelling : (H : Header) (g : Signature) (fs : List Field) → signatureLine H fs ≡ right g → fs ≡ signatureFields g
+signature-spelling : (H : Header) (g : Signature) (fs : List Field) → signatureLine H fs ≡ good g → fs ≡ signatureFields g
 unfolding signatureLine signatureOf signatureFields entries
 signature-spelling H g fs h =
     let (ns, n, e) = seen-right _ h in
     along (λ q. fs ≡ signatureFields q) e (line-numbers _ fs ns n)
 
-signatures-spelling : (H : Header) (n : ℕ) {ls rest : List Line} {gs : List Signature} → Shows (replicate n (signatureLine H)) ls gs rest
+signatures-spelling : (H : Header) (n : ℕ) {ls rest : List Line} {gs : List Signature} → Parses (replicate n (signatureLine H)) ls gs rest
     → OneSpelling (replicate n (signatureLine H)) gs (map signatureFields gs)
 signatures-spelling H zero well-formed.nothing = empty
 signatures-spelling H (suc n) (well-formed.line {a = a} h s) = entry (signature-spelling H a) (signatures-spelling H n s)
@@ -195,7 +195,7 @@ module _ (purpose : Purpose) (H : Header) where
       by-purpose Fill [] e h = refl
       by-purpose Fill (b ∷ m) e h = let none-below = ltb-true n 0 h in absurd (omega arith)
 
-  row-spelling : (s : Step) (r : Row) (fs : List Field) → rowLine purpose H s fs ≡ right r → fs ≡ rowFields purpose r
+  row-spelling : (s : Step) (r : Row) (fs : List Field) → rowLine purpose H s fs ≡ good r → fs ≡ rowFields purpose r
   unfolding rowLine rowOf startGiven rowFields startShown entries
   row-spelling s r [] h = wrong-is-not-right h
   row-spelling s r (t ∷ []) h = wrong-is-not-right h
@@ -217,7 +217,7 @@ module _ (purpose : Purpose) (H : Header) where
       along (λ q. t ∷ m ∷ (b ∷ f) ∷ [] ≡ rowFields purpose q) e (λ i. typed i ∷ post i ∷ start i ∷ [])
   row-spelling s r (t ∷ m ∷ f ∷ g ∷ fs) h = wrong-is-not-right h
 
-  rows-spelling : (steps : List Step) {ls rest : List Line} {rs : List Row} → Shows (map (rowLine purpose H) steps) ls rs rest
+  rows-spelling : (steps : List Step) {ls rest : List Line} {rs : List Row} → Parses (map (rowLine purpose H) steps) ls rs rest
       → OneSpelling (map (rowLine purpose H) steps) rs (map (rowFields purpose) rs)
   rows-spelling [] well-formed.nothing = empty
   rows-spelling (s ∷ steps) (well-formed.line {a = a} h more) = entry (row-spelling s a) (rows-spelling steps more)
@@ -251,8 +251,8 @@ sheet-spelling {purpose} {P} {sheet} {S} F =
     ∙ ap (λ (x : List ℕ). text T ++ x) (text-append M (G ++ R) ∙ ap (λ (x : List ℕ). text M ++ x) (text-append G R)))))
 
 -- of a sheet that was read to check
-pub written-as-read : {P : Program} {sheet : List ℕ} {S : Split} → WellFormedSplit Check P sheet S → written S ≡ sheet
-unfolding written
+pub written-as-read : {P : Program} {sheet : List ℕ} {S : Split} → WellFormedSplit Check P sheet S → sheetText S ≡ sheet
+unfolding sheetText
 written-as-read F = sheet-spelling F
 
 -- of a sheet that was read to fill: header, types, given maps, procedures, t and s of each row are as they stood

@@ -76,8 +76,8 @@ splitLines purpose S =
     ++ map (rowFields purpose) (S .rows))))
 
 -- the sheet of a split, whole
-unfoldable pub written : Split → List ℕ
-written S = text (splitLines Check S)
+unfoldable pub sheetText : Split → List ℕ
+sheetText S = text (splitLines Check S)
 
 -- the sheet of a split with the after-maps left out
 unfoldable pub unfilled : Split → List ℕ

@@ -10,7 +10,7 @@ use Rattle.calculus.specs.Reduction.{_>>=_, ifIdentifier, lockState, cou
 use Rattle.calculus.specs.Claim.{ThreadAt, Finished, finished, Waits, atJoin, atLock, atWait, atHold, Halts}
 use Rattle.calculus.proofs.Laws.Maps.{none-is-not-some, bind-is-some, bind-goes-on}
 use Rattle.calculus.proofs.Laws.NextWord.{word-injective, word-is-no-value, next-is-value}
-use Rattle.calculus.proofs.Laws.Questions.{equal-tells, value-tells, word-tells}
+use Rattle.calculus.proofs.Laws.Questions.{equal-sound, value-tells, word-tells}
 
 -- What never gives an answer gives none.
 no-answer {ℓ} : {A : Type ℓ} (o : Option A) → ((a : A) → o ≡ some a → ⊥) → o ≡ none
@@ -38,7 +38,7 @@ waiting-halts {t} P s i there (atJoin n b kind none-finished) = stuck-halts P s 
     let (_, same, q₃) = bind-is-some (ifEqual (u .tid) n) q₂ in
     let (v, ended, _) = bind-is-some (valueOf (nextWord (u .body))) q₃ in
     let is-v = next-is-value (u .body) (value-tells (nextWord (u .body)) ended) in
-    none-finished (m .finished) u at-u (equal-tells (u .tid) n same) (finished v is-v)
+    none-finished (m .finished) u at-u (equal-sound (u .tid) n same) (finished v is-v)
 waiting-halts {t} P s i there (atLock n b found) = stuck-halts P s i there λ m r s′ w q.
     let q₀ : unaryReduct P s m t lock (name n) ≡ some s′ = rw (word-injective (sym w ∙ b)) at q in
     none-is-not-some (bind-goes-on (lockState (s .names n)) _ (ap lockState found) q₀)

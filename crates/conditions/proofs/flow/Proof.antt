@@ -1,5 +1,5 @@
 use mathlib.Core.Path.{sym, _∙_}
-use Rattle.spec.specs.Sites.{judge}
+use Rattle.spec.specs.StepContexts.{judge}
 use Rattle.conditions.specs.Outcome.{outcome}
 use Rattle.conditions.proofs.Relations.{itself-flows, below-here, below-none}
 use borrow.Author.Needs.{needs}

@@ -1,5 +1,5 @@
 use Rattle.conditions.specs.Outcome.{outcome}
-use Rattle.spec.specs.Sites.{judge}
+use Rattle.spec.specs.StepContexts.{judge}
 use mathlib.Core.Path.{refl}
 use Rattle.conditions.proofs.type_false.Statement.{statement}
 use Rattle.conditions.proofs.type_false.Tie as tie

@@ -9,7 +9,7 @@ unfolding stepped steppedFrom afterAct
 returns c =
     rw (
       rw (c .before .before .before .before .before .before .before .before .before .before .before .before .before .before .index .ensures .0) at (sym (c .before .before .before .before .before .before .before .before .before .before .before .before .before .runs .ensures) ∙ c .before .before .before .before .before .before .before .before .before .before .before .before .if1 .taken),
-      ← (c .before .before .before .before .before .before .before .before .before .before .focus-at .ensures),
+      ← (c .before .before .before .before .before .before .before .before .before .before .control-point-at .ensures),
       sym (c .before .before .before .before .before .before .before .before .before .may-choose .ensures) ∙ c .before .before .before .before .before .before .before .before .if2 .taken,
       c .before .before .before .before .before .before .reduce .ensures,
       c .before .before .finish-step .ensures,
@@ -20,7 +20,7 @@ unfolding stepped steppedFrom
 returns-2 c =
     rw (
       rw (c .before .before .before .before .before .before .index .ensures .0) at (sym (c .before .before .before .before .before .runs .ensures) ∙ c .before .before .before .before .if1 .taken),
-      ← (c .before .before .focus-at .ensures),
+      ← (c .before .before .control-point-at .ensures),
       sym (c .before .may-choose .ensures) ∙ c .if2 .left,
     )
 

@@ -5,7 +5,7 @@ use Rattle.workspace.specs.Layout.{workSize}
 use Rattle.workspace.proofs.Lent.{first-again, then-cleared, short-kept, long-cleared}
 use Rattle.fill_theory.proofs.Reasons.{short-workspace}
 use Rattle.spec.specs.declared.Refusal.the-variants.{ShortWorkspace}
-use Rattle.fill.proofs.Told.{refusal-told, told-as}
+use Rattle.fill.proofs.Sound.{refusal-sound, told-as}
 use Rattle.fill.proofs.Promises.{room-enough, promises-kept}
 use borrow.Author.Needs.{needs}
 use Rattle.fill.proofs.fill.Statement.{statement}
@@ -13,7 +13,7 @@ use Rattle.fill.proofs.fill.Tie as tie
 
 returns : tie.Need-returns
 returns c =
-    promises-kept _ _ _ _ _ _ _ (told-as (sym (short-workspace _ _ _ _ (c .if1 .taken))) (refusal-told ShortWorkspace _)) (short-kept _ (c .if1 .taken)) (refl, refl)
+    promises-kept _ _ _ _ _ _ _ (told-as (sym (short-workspace _ _ _ _ (c .if1 .taken))) (refusal-sound ShortWorkspace _)) (short-kept _ (c .if1 .taken)) (refl, refl)
 
 slice-aggregate-fill-texts : tie.Need-slice-aggregate-fill-texts
 slice-aggregate-fill-texts c =

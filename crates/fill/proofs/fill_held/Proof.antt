@@ -1,5 +1,5 @@
 -- By what the maps came to: none, one too large, or all found, and then the sheet with them is written.
-use Rattle.fill.proofs.Stages.{nothing-told, large-told, some-filled, maps-filled}
+use Rattle.fill.proofs.Stages.{nothing-sound, large-sound, some-filled, maps-filled}
 use borrow.Author.Needs.{needs}
 use Rattle.fill.proofs.fill_held.Statement.{statement}
 use Rattle.fill.proofs.fill_held.Tie as tie
@@ -13,10 +13,10 @@ write-filled-requires c κs =
     some-filled _ (c .before .before .before .before .before .before .before .fill-maps .ensures) (c .before .before .before .enum-told3 .given .1) (c .before .before .grown .ensures) (c .before .before .before .before .before .before .before .before .before .before .before .pre)
 
 returns : tie.Need-returns
-returns c = nothing-told _ (c .before .before .before .before .fill-maps .ensures) _ (c .enum-told .given .1)
+returns c = nothing-sound _ (c .before .before .before .before .fill-maps .ensures) _ (c .enum-told .given .1)
 
 returns-2 : tie.Need-returns-2
-returns-2 c = large-told _ (c .before .before .before .before .fill-maps .ensures) _ (c .enum-told2 .given .1)
+returns-2 c = large-sound _ (c .before .before .before .before .fill-maps .ensures) _ (c .enum-told2 .given .1)
 
 returns-3 : tie.Need-returns-3
 returns-3 c =

@@ -1,7 +1,7 @@
 -- The length is counted by a first run over nothing; the second run writes, if there is room.
 use borrow.Author.Needs.{needs}
 use Rattle.split_writer.specs.Contract.{SheetWritten}
-use Rattle.fill.proofs.Told.{too-long, no-room, fits-told}
+use Rattle.fill.proofs.Sound.{too-long, no-room, fits-sound}
 use Rattle.fill.proofs.write_filled.Statement.{statement}
 use Rattle.fill.proofs.write_filled.Tie as tie
 
@@ -16,7 +16,7 @@ returns-2 c S holds = no-room _ _ (c .before .before .before .write-sheet .ensur
 returns-3 : tie.Need-returns-3
 unfolding SheetWritten
 returns-3 c S holds =
-    fits-told _ _ (c .before .before .before .before .before .before .before .write-sheet .ensures S holds .moved) (c .before .before .before .before .before .if1 .left) (c .before .before .before .before .if2 .left) (c .before .before .write-sheet2 .ensures S holds)
+    fits-sound _ _ (c .before .before .before .before .before .before .before .write-sheet .ensures S holds .moved) (c .before .before .before .before .before .if1 .left) (c .before .before .before .before .if2 .left) (c .before .before .write-sheet2 .ensures S holds)
 
 pub write-filled-spec : {M : Type 1} → statement M
 write-filled-spec =

@@ -6,7 +6,7 @@ use native.Mathlib.Omega.{arith}
 use lib.ListN.{length}
 use Rattle.spec.specs.Text.{Line}
 use Rattle.replay_theory.specs.declared.Replayed.{Replayed}
-use Rattle.play.specs.Play.{Steady, PlaysTo}
+use Rattle.play.specs.Play.{Steady, LoopPre}
 use Rattle.play.proofs.Playing.{line-stops, line-goes, piece-done}
 use Rattle.play.proofs.Steadying.{line-steady, may-go}
 use borrow.Author.Needs.{needs}
@@ -15,7 +15,7 @@ use Rattle.play.proofs.play.Tie as tie
 
 abbrev Inv-loop : tie.InvT-loop
 Inv-loop program space₀ piece p₀ space p =
-    (length space ≡ length space₀) × Steady piece p × ((whole : List Line → Replayed) → PlaysTo whole program space₀ piece p₀ → PlaysTo whole program space piece p)
+    (length space ≡ length space₀) × Steady piece p × ((whole : List Line → Replayed) → LoopPre whole program space₀ piece p₀ → LoopPre whole program space piece p)
 
 abbrev μ-loop : tie.MeasureT-loop
 μ-loop program space₀ piece p₀ space p = length piece - p .at

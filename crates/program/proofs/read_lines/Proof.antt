@@ -5,7 +5,7 @@ use native.Mathlib.Omega.{arith}
 use mathlib.Core.Path.{sym, subst, _∙_}
 use Rattle.program.specs.Lines.{StepsShown}
 use Rattle.program_lines.proofs.TailLaws.{line-fits}
-use Rattle.program.proofs.Sheets.{lines-refused, lines-spare, lines-read, lines-unarranged}
+use Rattle.program.proofs.Sheets.{lines-refused, lines-spare, lines-read, lines-unresolved}
 use Rattle.program.proofs.read_lines.Statement.{statement}
 use Rattle.program.proofs.read_lines.Tie as tie
 
@@ -31,8 +31,8 @@ returns c =
     lines-spare _ _ _ _ _ _ _ _ _ _ (subst (StepsShown _ _ _ _ _ _) (at-steps .steps .given .1) (at-step-lines .step-lines .ensures))
     (sym (c .before .before .at-end .ensures) ∙ not-true _ (c .before .if1 .taken))
 
-arrange-requires : tie.Need-arrange-requires
-arrange-requires c κs =
+resolve-requires : tie.Need-resolve-requires
+resolve-requires c κs =
     let at-steps = c .before .before .before .before in
     let at-step-lines = at-steps .before .before .before .before in
     let pre = at-step-lines .before .before .before .before .pre in
@@ -50,8 +50,8 @@ returns-2 c =
 
 returns-3 : tie.Need-returns-3
 returns-3 c =
-    let at-arrange = c .before .before .before .before in
-    let at-if1 = at-arrange .before .before in
+    let at-resolve = c .before .before .before .before in
+    let at-if1 = at-resolve .before .before in
     let at-at-end = at-if1 .before in
     let at-steps = at-at-end .before .before in
     let at-step-lines = at-steps .before .before .before .before in
@@ -60,22 +60,22 @@ returns-3 c =
     (sym (at-at-end .at-end .ensures) ∙ not-false _ (at-if1 .if1 .left))
     _
     _
-    (at-arrange .arrange .ensures)
+    (at-resolve .resolve .ensures)
     (c .enum-told .given .1)
 
 returns-4 : tie.Need-returns-4
 returns-4 c =
-    let at-arrange = c .before .before .before .before .before in
-    let at-if1 = at-arrange .before .before in
+    let at-resolve = c .before .before .before .before .before in
+    let at-if1 = at-resolve .before .before in
     let at-at-end = at-if1 .before in
     let at-steps = at-at-end .before .before in
     let at-step-lines = at-steps .before .before .before .before in
     let pre = at-step-lines .before .before .before .before .pre in
-    lines-unarranged _ _ _ _ _ _ _ _ _ _ (subst (StepsShown _ _ _ _ _ _) (at-steps .steps .given .1) (at-step-lines .step-lines .ensures)) (pre .fewSteps) (pre .fewProcedures)
+    lines-unresolved _ _ _ _ _ _ _ _ _ _ (subst (StepsShown _ _ _ _ _ _) (at-steps .steps .given .1) (at-step-lines .step-lines .ensures)) (pre .fewSteps) (pre .fewProcedures)
     (sym (at-at-end .at-end .ensures) ∙ not-false _ (at-if1 .if1 .left))
     _
     _
-    (at-arrange .arrange .ensures)
+    (at-resolve .resolve .ensures)
     _
     (c .before .refusal2 .given .1)
 
@@ -91,7 +91,7 @@ read-lines-spec =
     add-spare
     (λ c. search needs)
     returns
-    arrange-requires
+    resolve-requires
     (λ c. search needs)
     (λ c. search needs)
     (λ c. search needs)

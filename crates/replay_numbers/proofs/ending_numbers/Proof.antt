@@ -1,4 +1,4 @@
-use Rattle.replay_numbers.proofs.Told.{done-told, refused-told, form-told, no-step-told, past-limit-told}
+use Rattle.replay_numbers.proofs.Sound.{done-sound, refused-sound, form-sound, no-step-sound, past-limit-sound}
 use borrow.Author.Needs.{needs}
 use Rattle.replay_numbers.proofs.ending_numbers.Statement.{statement}
 use Rattle.replay_numbers.proofs.ending_numbers.Tie as tie
@@ -17,8 +17,8 @@ ending-numbers-spec =
     (λ c κs. search needs)
     (λ c. search needs)
     (λ c κs. search needs)
-    (λ c. done-told _ _ (c .before .enum-told .given .1) (c .line-numbers .ensures))
-    (λ c. refused-told _ _ _ (c .before .before .ending .given .1) (c .sheet-numbers .ensures))
-    (λ c. form-told _ _ _ (c .before .before .ending2 .given .1) (c .line-numbers2 .ensures))
-    (λ c. no-step-told _ _ _ (c .before .before .ending3 .given .1) (c .line-numbers3 .ensures))
-    (λ c. past-limit-told _ _ _ (c .before .before .ending4 .given .1) (c .line-numbers4 .ensures)))
+    (λ c. done-sound _ _ (c .before .enum-told .given .1) (c .line-numbers .ensures))
+    (λ c. refused-sound _ _ _ (c .before .before .ending .given .1) (c .sheet-numbers .ensures))
+    (λ c. form-sound _ _ _ (c .before .before .ending2 .given .1) (c .line-numbers2 .ensures))
+    (λ c. no-step-sound _ _ _ (c .before .before .ending3 .given .1) (c .line-numbers3 .ensures))
+    (λ c. past-limit-sound _ _ _ (c .before .before .ending4 .given .1) (c .line-numbers4 .ensures)))

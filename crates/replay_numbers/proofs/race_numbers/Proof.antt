@@ -1,4 +1,4 @@
-use Rattle.replay_numbers.proofs.Told.{no-race-told, race-told}
+use Rattle.replay_numbers.proofs.Sound.{no-race-sound, race-sound}
 use borrow.Author.Needs.{needs}
 use Rattle.replay_numbers.proofs.race_numbers.Statement.{statement}
 use Rattle.replay_numbers.proofs.race_numbers.Tie as tie
@@ -9,5 +9,5 @@ race-numbers-spec =
     (tie.spec
     (λ c. search needs)
     (λ c. search needs)
-    (λ c. no-race-told _ (c .enum-told .given .1))
-    (λ c. race-told _ _ _ _ (c .before .race .given .1)))
+    (λ c. no-race-sound _ (c .enum-told .given .1))
+    (λ c. race-sound _ _ _ _ (c .before .race .given .1)))

@@ -1,4 +1,4 @@
-use Rattle.replay_numbers.proofs.Told.{sheet-told}
+use Rattle.replay_numbers.proofs.Sound.{sheet-sound}
 use borrow.Author.Needs.{needs}
 use Rattle.replay_numbers.proofs.sheet_numbers.Statement.{statement}
 use Rattle.replay_numbers.proofs.sheet_numbers.Tie as tie
@@ -9,4 +9,4 @@ sheet-numbers-spec =
     (tie.spec
     (λ c κs. search needs)
     (λ c κs. search needs)
-    (λ c. sheet-told _ _ _ (c .before .numbers-of .ensures) (c .index .ensures .0)))
+    (λ c. sheet-sound _ _ _ (c .before .numbers-of .ensures) (c .index .ensures .0)))

@@ -13,5 +13,5 @@ numbers-of-spec =
     (λ c κs. search needs)
     (λ c. search needs)
     (λ c κs. search needs)
-    (λ c. c .four .ensures ∙ ap returned (sym (c .before .enum-told .given .1)))
+    (λ c. c .four-numbers .ensures ∙ ap returned (sym (c .before .enum-told .given .1)))
     (λ c. c .refusal-numbers .ensures ∙ ap returned (sym (c .before .before .a .given .1))))

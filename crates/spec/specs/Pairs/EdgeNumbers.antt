@@ -3,7 +3,7 @@
 use mathlib.Core.List.{List, [], _∷_, _++_ as _++ₗ_}
 use Prim.Native.Nat.{ℕ}
 use Prim.Native.String.{String, _++_}
-use Rattle.spec.specs.Verdict.{four}
+use Rattle.spec.specs.Verdict.{numbers4}
 use Rattle.spec.specs.Pairs.KnownPairs.{Pair, _with_is_, P, S, Z}
 use Rattle.spec.specs.Pairs.EdgeSheets.{of}
 
@@ -14,22 +14,22 @@ parted maps spawn = "C,1000000000,1,2,3|int,0,0|tid,2,0|" ++ maps ++ spawn ++ "|
 -- a billion parts are a whole, and are taken apart and added without loss
 unfoldable pub largestRows : List Pair
 largestRows =
-    ("P,1|int,0|" with "C,1000000000,1,1,1|int,0,0|1000000000|0,0,|" is four 0 0 0 0) ∷
-    ("P,1|int,0|" with "C,999999999,1,1,1|int,0,0|1000000000|0,0,|" is four 30 2 0 0) ∷
-    ("P,3|spawn,0|newtid,0|int,0|" with (parted "1000000000|999999999|1|" "0,1,2") is four 0 0 0 0) ∷
-    ("P,3|spawn,0|newtid,0|int,0|" with (parted "1000000000|1000000000|1|" "0,1,2") is four 32 2 4 0) ∷
-    ("P,3|spawn,0|newtid,0|int,0|" with (parted "1000000000|1000000000|1|" "0,1,0") is four 32 2 4 0) ∷
+    ("P,1|int,0|" with "C,1000000000,1,1,1|int,0,0|1000000000|0,0,|" is numbers4 0 0 0 0) ∷
+    ("P,1|int,0|" with "C,999999999,1,1,1|int,0,0|1000000000|0,0,|" is numbers4 30 2 0 0) ∷
+    ("P,3|spawn,0|newtid,0|int,0|" with (parted "1000000000|999999999|1|" "0,1,2") is numbers4 0 0 0 0) ∷
+    ("P,3|spawn,0|newtid,0|int,0|" with (parted "1000000000|1000000000|1|" "0,1,2") is numbers4 32 2 4 0) ∷
+    ("P,3|spawn,0|newtid,0|int,0|" with (parted "1000000000|1000000000|1|" "0,1,0") is numbers4 32 2 4 0) ∷
     []
 
 -- a place, by the texts around it: ten digits that are in no range, and eleven digits
 unfoldable pub past : (program split : String → String) → (range form line : ℕ) → List Pair
 past program split range form line =
-    (program "1000000001" with split "1000000001" is four range line 0 0) ∷
-    (program "4294967295" with split "4294967295" is four range line 0 0) ∷
-    (program "4294967296" with split "4294967296" is four range line 0 0) ∷
-    (program "4294967297" with split "4294967297" is four range line 0 0) ∷
-    (program "9999999999" with split "9999999999" is four range line 0 0) ∷
-    (program "10000000000" with split "10000000000" is four form line 0 0) ∷
+    (program "1000000001" with split "1000000001" is numbers4 range line 0 0) ∷
+    (program "4294967295" with split "4294967295" is numbers4 range line 0 0) ∷
+    (program "4294967296" with split "4294967296" is numbers4 range line 0 0) ∷
+    (program "4294967297" with split "4294967297" is numbers4 range line 0 0) ∷
+    (program "9999999999" with split "9999999999" is numbers4 range line 0 0) ∷
+    (program "10000000000" with split "10000000000" is numbers4 form line 0 0) ∷
     []
 
 unfoldable pub inProgram : (String → String) → (line : ℕ) → List Pair

@@ -2,7 +2,7 @@
 -- location 2 where a reason has them.
 use mathlib.Core.Path.{_≡_}
 use mathlib.Core.List.{List, [], _∷_, map}
-use Rattle.spec.specs.Verdict.{four, returned}
+use Rattle.spec.specs.Verdict.{numbers4, returned}
 use Rattle.spec.specs.declared.Answer.{Answer}
 use Rattle.spec.specs.declared.Answer.the-variants.{Accept, Refuse}
 use Rattle.spec.specs.declared.Returned.{Returned}
@@ -10,30 +10,30 @@ use Rattle.spec.specs.declared.Refusal.the-variants.{ShortWorkspace, Lon
 
 unfoldable pub reasons : List (Answer × Returned)
 reasons =
-    (Accept, four 0 0 0 0) ∷
-    (Refuse ShortWorkspace, four 1 0 0 0) ∷
-    (Refuse LongProgram, four 10 0 0 0) ∷
-    (Refuse (ProgramForm 7), four 11 7 0 0) ∷
-    (Refuse (ProgramRange 7), four 12 7 0 0) ∷
-    (Refuse (ProgramLines 7), four 13 7 0 0) ∷
-    (Refuse (Unbound 7), four 14 7 0 0) ∷
-    (Refuse (Rebound 7), four 15 7 0 0) ∷
-    (Refuse LongSplit, four 20 0 0 0) ∷
-    (Refuse (SplitForm 7), four 21 7 0 0) ∷
-    (Refuse (SplitRange 7), four 22 7 0 0) ∷
-    (Refuse (SplitLines 7), four 23 7 0 0) ∷
-    (Refuse (OverOne 7 (record { 0 = 2 })), four 30 7 0 2) ∷
-    (Refuse (TypeFalse 7 3), four 31 7 3 0) ∷
-    (Refuse (FlowFalse 7 3 (record { 0 = 2 })), four 32 7 3 2) ∷
-    (Refuse (AccessFalse 7 3 (record { 0 = 2 })), four 33 7 3 2) ∷
-    (Refuse (NoStart 7), four 40 7 0 0) ∷
-    (Refuse NoAfterMaps, four 41 0 0 0) ∷
-    (Refuse TooLarge, four 42 0 0 0) ∷
-    (Refuse TooManyMaps, four 43 0 0 0) ∷
-    (Refuse (LockTakesLess 7), four 44 7 0 0) ∷
-    (Refuse (Freelock 7), four 45 7 0 0) ∷
-    (Refuse (NoProcedure 7), four 49 7 0 0) ∷
-    (Refuse (NoKept 7), four 50 7 0 0) ∷
+    (Accept, numbers4 0 0 0 0) ∷
+    (Refuse ShortWorkspace, numbers4 1 0 0 0) ∷
+    (Refuse LongProgram, numbers4 10 0 0 0) ∷
+    (Refuse (ProgramForm 7), numbers4 11 7 0 0) ∷
+    (Refuse (ProgramRange 7), numbers4 12 7 0 0) ∷
+    (Refuse (ProgramLines 7), numbers4 13 7 0 0) ∷
+    (Refuse (Unbound 7), numbers4 14 7 0 0) ∷
+    (Refuse (Rebound 7), numbers4 15 7 0 0) ∷
+    (Refuse LongSplit, numbers4 20 0 0 0) ∷
+    (Refuse (SplitForm 7), numbers4 21 7 0 0) ∷
+    (Refuse (SplitRange 7), numbers4 22 7 0 0) ∷
+    (Refuse (SplitLines 7), numbers4 23 7 0 0) ∷
+    (Refuse (OverOne 7 (record { 0 = 2 })), numbers4 30 7 0 2) ∷
+    (Refuse (TypeFalse 7 3), numbers4 31 7 3 0) ∷
+    (Refuse (FlowFalse 7 3 (record { 0 = 2 })), numbers4 32 7 3 2) ∷
+    (Refuse (AccessFalse 7 3 (record { 0 = 2 })), numbers4 33 7 3 2) ∷
+    (Refuse (NoStart 7), numbers4 40 7 0 0) ∷
+    (Refuse NoAfterMaps, numbers4 41 0 0 0) ∷
+    (Refuse TooLarge, numbers4 42 0 0 0) ∷
+    (Refuse TooManyMaps, numbers4 43 0 0 0) ∷
+    (Refuse (LockTakesLess 7), numbers4 44 7 0 0) ∷
+    (Refuse (Freelock 7), numbers4 45 7 0 0) ∷
+    (Refuse (NoProcedure 7), numbers4 49 7 0 0) ∷
+    (Refuse (NoKept 7), numbers4 50 7 0 0) ∷
     []
 
 -- each answer returns its row's numbers

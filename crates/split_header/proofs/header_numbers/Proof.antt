@@ -3,7 +3,7 @@ use mathlib.Core.Path.{sym, _∙_}
 use native.Mathlib.Omega.{arith}
 use Rattle.lexer.proofs.LineEnds.{numbers-none, numbers-read}
 use Rattle.split_header.specs.Header.{numeralsOf}
-use Rattle.split_header.proofs.HeaderLaws.{few-numerals, places-lent, header-told}
+use Rattle.split_header.proofs.HeaderLaws.{few-numerals, places-lent, header-decodes}
 use borrow.Author.Needs.{needs}
 use Rattle.split_header.proofs.header_numbers.Statement.{statement}
 use Rattle.split_header.proofs.header_numbers.Tie as tie
@@ -34,7 +34,7 @@ returns-2 c =
     let entry = numerals-of .before .before in
     let count = numerals-of .numerals-of .ensures in
     let found = numbers-read (numbers .numbers .ensures) (numeralsOf (entry .args .heading)) (places-lent _ _ count ∙ count) (entry .pre .placed) (read .read .given .1) in
-    let told = header-told (entry .args .heading) (numbers .numbers .last .1 .1 .0) _ _ _ _ count (found .long) (index .index .ensures .0) (index2 .index2 .ensures .0) (c .index3 .ensures .0) in
+    let told = header-decodes (entry .args .heading) (numbers .numbers .last .1 .1 .0) _ _ _ _ count (found .long) (index .index .ensures .0) (index2 .index2 .ensures .0) (c .index3 .ensures .0) in
     (numbers .numbers .last .1 .1 .0, found .numbers, told, found .placed, found .line)
 
 pub header-numbers-spec : {M : Type 1} → statement M

@@ -2,7 +2,7 @@
 use mathlib.Core.Path.{sym, ap, _∙_}
 use lib.Dec.{lit<}
 use borrow.Author.Needs.{needs}
-use Rattle.written.specs.Sheet.{written}
+use Rattle.written.specs.Sheet.{sheetText}
 use Rattle.writer.proofs.Buffer.{parted, onward, finish}
 use Rattle.split_writer.specs.Contract.{SheetWritten}
 use Rattle.split_writer.proofs.Parts.{sheet-parts}
@@ -45,7 +45,7 @@ returns c S holds =
     let c₂ = c₃ .before .before .before .before in
     let c₁ = c₂ .before .before .before .before in
     let start = c₁ .before .before .before .before in
-    let r₀ = parted _ _ (ap written (sym (split-held holds)) ∙ sheet-parts _ _ _ _) (start .good .0 .0) (lit< tt) in
+    let r₀ = parted _ _ (ap sheetText (sym (split-held holds)) ∙ sheet-parts _ _ _ _) (start .good .0 .0) (lit< tt) in
     let r₁ = onward _ _ r₀ (c₁ .write-header .ensures) in
     let r₂ = onward _ _ r₁ (c₂ .write-types .ensures) in
     let r₃ = onward _ _ r₂ (c₃ .write-maps .ensures) in

@@ -1,5 +1,5 @@
 use mathlib.Core.Path.{sym, _∙_}
-use Rattle.trace.proofs.Lines.{not-closed, other-byte, closed-field, number-told, malformed-told}
+use Rattle.trace.proofs.Lines.{not-closed, other-byte, closed-field, number-decodes, malformed-decodes}
 use borrow.Author.Needs.{needs}
 use Rattle.trace.proofs.number_before.Statement.{statement}
 use Rattle.trace.proofs.number_before.Tie as tie
@@ -21,7 +21,7 @@ returns-3 c =
     let same = read .before .before in
     let end = same .before .before .before in
     rw (c .narrow .ensures)
-    (number-told _ _ _ (sym (read .numeral-of .ensures) ∙ c .before .before .found .given .1)
+    (number-decodes _ _ _ (sym (read .numeral-of .ensures) ∙ c .before .before .found .given .1)
     ∙ sym (closed-field _ _ _ _ (end .before .before .pre) (end .field-end .ensures) (same .before .before .if1 .left) (same .if2 .left)))
 
 returns-4 : tie.Need-returns-4
@@ -29,7 +29,7 @@ returns-4 c =
     let read = c .before .before in
     let same = read .before .before in
     let end = same .before .before .before in
-    malformed-told _ _ (sym (read .numeral-of .ensures) ∙ c .enum-told .given .1)
+    malformed-decodes _ _ (sym (read .numeral-of .ensures) ∙ c .enum-told .given .1)
     ∙ sym (closed-field _ _ _ _ (end .before .before .pre) (end .field-end .ensures) (same .before .before .if1 .left) (same .if2 .left))
 
 pub number-before-spec : {M : Type 1} → statement M

@@ -1,5 +1,5 @@
--- A row for each way; a fork tests what is due before it takes.
-use Rattle.turns.specs.Turns.{afterBinary}
+-- A row for each transfer function; a fork tests what is due before it takes.
+use Rattle.turns.specs.AfterSteps.{afterBinary}
 use Rattle.turns.proofs.AfterParts.{fork-paid, fork-unpaid}
 use borrow.Author.Needs.{needs}
 use Rattle.turns.proofs.after_binary.Statement.{statement}
@@ -8,7 +8,7 @@ use Rattle.turns.proofs.after_binary.Tie as tie
 returns : tie.Need-returns
 returns c =
     let paid = c .before .before in
-    fork-paid _ _ _ _ _ _ (paid .before .before .way2 .given .1) (paid .if1 .taken) (c .before .taking .ensures) (c .turn2 .ensures)
+    fork-paid _ _ _ _ _ _ (paid .before .before .transfer2 .given .1) (paid .if1 .taken) (c .before .taking .ensures) (c .apply2 .ensures)
 
 pub after-binary-spec : {M : Type 1} → statement M
 unfolding afterBinary
@@ -25,6 +25,6 @@ after-binary-spec =
     (λ c κs. tt)
     (λ c κs. search needs)
     returns
-    (λ c. rw (c .before .before .way .given .1) (c .turn .ensures))
+    (λ c. rw (c .before .before .transfer .given .1) (c .apply .ensures))
     (λ c. rw (c .before .before .enum-told .given .1, c .least2 .ensures, c .before .least .ensures))
-    (λ c. fork-unpaid _ _ _ _ (c .before .before .way2 .given .1) (c .if1 .left)))
+    (λ c. fork-unpaid _ _ _ _ (c .before .before .transfer2 .given .1) (c .if1 .left)))

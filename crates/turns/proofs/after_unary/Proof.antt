@@ -1,5 +1,5 @@
--- A row for each way; a call tests for the exact number.
-use Rattle.turns.specs.Turns.{afterUnary}
+-- A row for each transfer function; a call tests for the exact number.
+use Rattle.turns.specs.AfterSteps.{afterUnary}
 use Rattle.turns.proofs.AfterParts.{loop-kept, loop-lost, call-exact, call-missed}
 use borrow.Author.Needs.{needs}
 use Rattle.turns.proofs.after_unary.Statement.{statement}
@@ -15,7 +15,7 @@ after-unary-spec =
     (λ c. search needs)
     (λ c. loop-kept _ _ _ (c .before .enum-told .given .1) (c .if1 .taken))
     (λ c. search needs)
-    (λ c. call-exact _ _ _ (c .before .before .way2 .given .1) (c .if2 .taken))
-    (λ c. rw (c .before .before .way .given .1) (c .turn .ensures))
+    (λ c. call-exact _ _ _ (c .before .before .transfer2 .given .1) (c .if2 .taken))
+    (λ c. rw (c .before .before .transfer .given .1) (c .apply .ensures))
     (λ c. loop-lost _ _ _ (c .before .enum-told .given .1) (c .if1 .left))
-    (λ c. call-missed _ _ _ (c .before .before .way2 .given .1) (c .if2 .left)))
+    (λ c. call-missed _ _ _ (c .before .before .transfer2 .given .1) (c .if2 .left)))

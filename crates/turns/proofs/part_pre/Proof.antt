@@ -1,5 +1,5 @@
--- A row for each way.
-use Rattle.turns.specs.Turns.{partPre}
+-- A row for each transfer function.
+use Rattle.turns.specs.AfterSteps.{partPre}
 use borrow.Author.Needs.{needs}
 use Rattle.turns.proofs.part_pre.Statement.{statement}
 use Rattle.turns.proofs.part_pre.Tie as tie

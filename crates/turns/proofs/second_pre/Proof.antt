@@ -1,5 +1,5 @@
--- A row for each way.
-use Rattle.turns.specs.Turns.{secondPre}
+-- A row for each transfer function.
+use Rattle.turns.specs.AfterSteps.{secondPre}
 use borrow.Author.Needs.{needs}
 use Rattle.turns.proofs.second_pre.Statement.{statement}
 use Rattle.turns.proofs.second_pre.Tie as tie
@@ -15,4 +15,4 @@ second-pre-spec =
     (λ c. search needs)
     (λ c. rw (c .enum-told .given .1))
     (λ c. rw (c .enum-told2 .given .1))
-    (λ c. rw (c .before .way .given .1)))
+    (λ c. rw (c .before .transfer .given .1)))

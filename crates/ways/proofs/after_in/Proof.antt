@@ -1,4 +1,4 @@
-use Rattle.ways.specs.Ways.{afterIn}
+use Rattle.ways.specs.Transfers.{afterIn}
 use borrow.Author.Needs.{needs}
 use Rattle.ways.proofs.after_in.Statement.{statement}
 use Rattle.ways.proofs.after_in.Tie as tie

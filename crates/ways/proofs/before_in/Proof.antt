@@ -1,4 +1,4 @@
-use Rattle.ways.specs.Ways.{beforeIn}
+use Rattle.ways.specs.Transfers.{beforeIn}
 use borrow.Author.Needs.{needs}
 use Rattle.ways.proofs.before_in.Statement.{statement}
 use Rattle.ways.proofs.before_in.Tie as tie

@@ -1,7 +1,7 @@
 -- Each sum is of two numbers of the work space, so nothing wraps.
 use mathlib.Core.Path.{_∙_}
 use native.Mathlib.Omega.{arith}
-use Rattle.ways.proofs.Calling.{calling-told}
+use Rattle.ways.proofs.Calling.{calling-decodes}
 use borrow.Author.Needs.{needs}
 use Rattle.ways.proofs.calling_in.Statement.{statement}
 use Rattle.ways.proofs.calling_in.Tie as tie
@@ -14,7 +14,7 @@ returns c =
     let at-kept = at-before .before in
     let at-start = at-kept .before in
     let at-index = at-start .before in
-    calling-told _ _ _ (at-index .index .ensures .0 ∙ at-index .before .at .ensures) (at-kept .wide .ensures .0 ∙ at-start .start-in .ensures)
+    calling-decodes _ _ _ (at-index .index .ensures .0 ∙ at-index .before .at .ensures) (at-kept .wide .ensures .0 ∙ at-start .start-in .ensures)
     (at-wanted .wide2 .ensures .0 ∙ at-before .before-in .ensures) (c .wide3 .ensures .0 ∙ at-after .after-in .ensures)
 
 pub calling-in-spec : {M : Type 1} → statement M

@@ -1,6 +1,6 @@
 use mathlib.Core.Path.{_∙_, ap}
 use Rattle.workspace.specs.Layout.{mapCell}
-use Rattle.ways.specs.Ways.{cellIn}
+use Rattle.ways.specs.Transfers.{cellIn}
 use borrow.Author.Needs.{needs}
 use Rattle.ways.proofs.cell_in.Statement.{statement}
 use Rattle.ways.proofs.cell_in.Tie as tie

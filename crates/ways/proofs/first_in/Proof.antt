@@ -1,4 +1,4 @@
-use Rattle.ways.specs.Ways.{firstIn}
+use Rattle.ways.specs.Transfers.{firstIn}
 use borrow.Author.Needs.{needs}
 use Rattle.ways.proofs.first_in.Statement.{statement}
 use Rattle.ways.proofs.first_in.Tie as tie

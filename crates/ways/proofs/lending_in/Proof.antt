@@ -4,7 +4,7 @@ use Prim.Native.Nat.{_*_}
 use borrow.Author.Needs.{needs}
 use Rattle.workspace.proofs.Products.{product-fits}
 use Rattle.fill_theory.specs.Flow.{lending}
-use Rattle.ways.specs.Ways.{lendingIn}
+use Rattle.ways.specs.Transfers.{lendingIn}
 use Rattle.ways.proofs.lending_in.Statement.{statement}
 use Rattle.ways.proofs.lending_in.Tie as tie
 

@@ -1,4 +1,4 @@
-use Rattle.ways.specs.Ways.{secondIn}
+use Rattle.ways.specs.Transfers.{secondIn}
 use borrow.Author.Needs.{needs}
 use Rattle.ways.proofs.second_in.Statement.{statement}
 use Rattle.ways.proofs.second_in.Tie as tie

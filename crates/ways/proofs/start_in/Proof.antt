@@ -1,4 +1,4 @@
-use Rattle.ways.specs.Ways.{startNumberIn}
+use Rattle.ways.specs.Transfers.{startNumberIn}
 use borrow.Author.Needs.{needs}
 use Rattle.ways.proofs.start_in.Statement.{statement}
 use Rattle.ways.proofs.start_in.Tie as tie

@@ -1,4 +1,4 @@
-use Rattle.ways.specs.Ways.{typeLineIn}
+use Rattle.ways.specs.Transfers.{typeLineIn}
 use borrow.Author.Needs.{needs}
 use Rattle.ways.proofs.type_in.Statement.{statement}
 use Rattle.ways.proofs.type_in.Tie as tie

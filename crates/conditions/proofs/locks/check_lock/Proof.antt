@@ -1,5 +1,5 @@
 -- No lock, or a lock whose out and in are compared.
-use Rattle.spec.specs.Reading.{demand}
+use Rattle.spec.specs.Reading.{require}
 use Rattle.spec.specs.Kinds.{lock}
 use Rattle.conditions.specs.Outcome.{outcome}
 use Rattle.conditions.proofs.TypeKinds.{not-of}
@@ -9,14 +9,14 @@ use Rattle.conditions.proofs.locks.check_lock.Statement.{statement}
 use Rattle.conditions.proofs.locks.check_lock.Tie as tie
 
 returns-2 : tie.Need-returns-2
-unfolding outcome demand
+unfolding outcome require
 returns-2 c =
     let asked = c .before in
     let lock = asked .before .before in
     rw (lock-line _ _ _ (lock .before .before .type-at .ensures) (lock .load .given .1) _ (asked .everywhere .ensures), c .if1 .taken)
 
 returns-3 : tie.Need-returns-3
-unfolding outcome demand
+unfolding outcome require
 returns-3 c =
     let asked = c .before in
     let lock = asked .before .before in

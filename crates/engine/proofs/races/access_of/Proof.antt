@@ -8,13 +8,13 @@ returns : tie.Need-returns
 unfolding accessOf accessAt
 returns c =
     rw (
-      ← (c .before .before .before .before .before .before .before .before .before .before .before .focus-at .ensures),
+      ← (c .before .before .before .before .before .before .before .before .before .before .before .control-point-at .ensures),
       eq-eqb _ _ (c .before .before .before .before .before .before .before .before .before .if1 .taken),
       ← (c .before .before .before .before .before .before .before .before .subject .ensures),
       ← (c .before .before .before .before .before .before .before .slot-at .ensures),
       eq-eqb _ _ (c .before .before .before .before .before .if2 .taken),
       c .access-by .ensures,
-      c .before .used-by .ensures,
+      c .before .effect-of .ensures,
       c .before .before .rule-of .ensures,
       c .before .before .before .at .ensures,
       c .before .before .before .before .index .ensures .0,
@@ -24,7 +24,7 @@ returns-2 : tie.Need-returns-2
 unfolding accessOf accessAt
 returns-2 c =
     rw (
-      ← (c .before .before .before .before .before .before .focus-at .ensures),
+      ← (c .before .before .before .before .before .before .control-point-at .ensures),
       eq-eqb _ _ (c .before .before .before .before .if1 .taken),
       ← (c .before .before .before .subject .ensures),
       ← (c .before .before .slot-at .ensures),
@@ -47,4 +47,4 @@ access-of-spec =
     (λ c κs. search needs)
     returns
     returns-2
-    (λ c. rw (← (c .before .before .focus-at .ensures), ne-eqb _ _ (c .if1 .left))))
+    (λ c. rw (← (c .before .before .control-point-at .ensures), ne-eqb _ _ (c .if1 .left))))

@@ -9,15 +9,15 @@ use Rattle.pass.proofs.roots.root_posts.Tie as tie
 pass-step-requires : tie.Need-pass-step-requires
 unfolding top
 pass-step-requires c κs =
-    let at-caps = c .before .before .before in
-    root-ready (at-caps .before .before .before .before .pre) (at-caps .cap-step .ensures)
+    let at-upper-bounds = c .before .before .before in
+    root-ready (at-upper-bounds .before .before .before .before .pre) (at-upper-bounds .upper-bound-step .ensures)
 
 returns : tie.Need-returns
 unfolding top
 returns c =
     let at-pass = c .before .before in
-    let at-caps = at-pass .before .before .before .before in
-    root-passed (at-caps .before .before .before .before .pre) (at-caps .cap-step .ensures) (at-pass .pass-step .ensures)
+    let at-upper-bounds = at-pass .before .before .before .before in
+    root-passed (at-upper-bounds .before .before .before .before .pre) (at-upper-bounds .upper-bound-step .ensures) (at-pass .pass-step .ensures)
 
 pub root-posts-spec : {M : Type 1} → statement M
 unfolding top

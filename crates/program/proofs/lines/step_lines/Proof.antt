@@ -92,7 +92,7 @@ step-lines-spec =
     Inv-loop
     μ-loop
     loop-holds
-    (λ c κs. c .before .loop .inv .turn .placed)
+    (λ c κs. c .before .loop .inv .loop-step .placed)
     (λ c. search needs)
     (λ c κs. search needs)
     (λ c. (omega (arith, step-start c .pre .0 .few, step-loop c .loop .inv .both, step-test c .loop-test .taken)))

@@ -8,7 +8,7 @@ use Rattle.workspace.specs.Layout.{mapsAt, workSize}
 use Rattle.split_types.specs.Lines.{cellLine}
 use Rattle.split_types.specs.Answers.{MapAnswer}
 use Rattle.split_sections.specs.Stored.{HoldsMaps}
-use Rattle.split_sections.proofs.Turns.{Stage, first-stage, stages-done, maps-numbered}
+use Rattle.split_sections.proofs.LoopSteps.{Stage, first-stage, stages-done, maps-numbered}
 use Rattle.split_sections.proofs.Stores.{maps-empty}
 use Rattle.split_sections.proofs.Loops.{map-long, map-stops, map-on}
 use Rattle.split_sections.proofs.map_lines.read_maps.Statement.{statement}
@@ -40,7 +40,7 @@ part-map-line-end c =
     omega (arith, pre .small .locations, pre .small .maps, c .before .loop .inv .changed .long, pre .whole)
 
 map-line-requires : tie.Need-map-line-requires Inv-loop μ-loop
-map-line-requires c κs = record { placed = c .before .before .loop .inv .turn .placed; fits = start (c .before .before) .pre .reading .fits }
+map-line-requires c κs = record { placed = c .before .before .loop .inv .loop-step .placed; fits = start (c .before .before) .pre .reading .fits }
 
 same-length : tie.Need-same-length Inv-loop μ-loop
 same-length c =
@@ -53,25 +53,25 @@ returns : tie.Need-returns Inv-loop μ-loop
 returns c =
     let line = c .before .before .before .before .before in
     let inside = line .before .before in
-    let turn = inside .before in
-    let pre = start turn .pre in
-    map-stops (pre .small .locations) (pre .small .maps) (pre .whole) (turn .loop .inv) (inside .loop-test .taken) (line .map-line .last .1 .1 .0) (line .map-line .kept .1 .1 .0)
-    (maps-numbered (start turn .args .header) (start turn .args .header .maps))
+    let loop-step = inside .before in
+    let pre = start loop-step .pre in
+    map-stops (pre .small .locations) (pre .small .maps) (pre .whole) (loop-step .loop .inv) (inside .loop-test .taken) (line .map-line .last .1 .1 .0) (line .map-line .kept .1 .1 .0)
+    (maps-numbered (start loop-step .args .header) (start loop-step .args .header .maps))
     (subst (MapAnswer _ _ _) (c .before .found2 .given .1) (line .map-line .ensures))
 
 loop-again : tie.Need-loop-again Inv-loop μ-loop
 loop-again c =
     let line = c .before .before .before .before .before in
     let inside = line .before .before in
-    let turn = inside .before in
-    let pre = start turn .pre in
+    let loop-step = inside .before in
+    let pre = start loop-step .pre in
     let answer = subst (MapAnswer _ _ _) (c .before .found .given .1) (line .map-line .ensures) in
-    map-on (pre .small .locations) (pre .small .maps) (pre .whole) (turn .loop .inv) (inside .loop-test .taken) (line .map-line .last .1 .1 .0) (line .map-line .kept .1 .1 .0) (answer .0) (answer .1)
+    map-on (pre .small .locations) (pre .small .maps) (pre .whole) (loop-step .loop .inv) (inside .loop-test .taken) (line .map-line .last .1 .1 .0) (line .map-line .kept .1 .1 .0) (answer .0) (answer .1)
 
 returns-2 : tie.Need-returns-2 Inv-loop μ-loop
 returns-2 c =
-    let turn = c .before in
-    stages-done (turn .loop .inv) (maps-numbered (start turn .args .header) (start turn .args .header .maps)) (c .loop-test .left)
+    let loop-step = c .before in
+    stages-done (loop-step .loop .inv) (maps-numbered (start loop-step .args .header) (start loop-step .args .header .maps)) (c .loop-test .left)
 
 pub read-maps-spec : {M : Type 1} → statement M
 read-maps-spec =

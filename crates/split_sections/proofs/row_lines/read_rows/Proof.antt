@@ -10,10 +10,10 @@ use Rattle.workspace.specs.Layout.{rowTypesAt, presAt}
 use Rattle.workspace.specs.Holds.{startNumber}
 use Rattle.workspace.specs.Steps.{stepAt}
 use Rattle.workspace.proofs.Region.{changed-nothing}
-use Rattle.split_rows.specs.Lines.{wordLine, rowTold}
+use Rattle.split_rows.specs.Lines.{wordLine, rowDecoded}
 use Rattle.split_rows.specs.Answers.{RowAnswer}
 use Rattle.split_sections.specs.Stored.{HoldsRows}
-use Rattle.split_sections.proofs.Turns.{Stage, first-stage, stage-stops, stages-done, rows-numbered}
+use Rattle.split_sections.proofs.LoopSteps.{Stage, first-stage, stage-stops, stages-done, rows-numbered}
 use Rattle.split_sections.proofs.Stores.{columns-empty}
 use Rattle.split_sections.proofs.Loops.{columns-on, row-here}
 use Rattle.split_sections.proofs.row_lines.read_rows.Statement.{statement}
@@ -30,12 +30,12 @@ start s = s .before .before .before
 
 -- the line is that of its step's word
 module _ (s : tie.After-word-of Inv-loop μ-loop) where
-  abbrev turn : tie.At-loop Inv-loop μ-loop
-  turn = s .before .before .before
+  abbrev loop-step : tie.At-loop Inv-loop μ-loop
+  loop-step = s .before .before .before
 
-  word-here : readLine splitSheet (wordLine (start turn .args .purpose) (start turn .args .header) (stepAt (start turn .args .work .now) (turn .loop .k) .word)) (placeAt (start turn .args .text .now) (turn .loop .cursor))
-      ≡ readLine splitSheet (wordLine (start turn .args .purpose) (start turn .args .header) (s .word-of .result)) (placeAt (start turn .args .text .now) (turn .loop .cursor))
-  word-here = row-here _ _ _ _ _ (s .word-of .ensures) (omega (arith, s .before .before .loop-test .taken, start turn .pre .few)) (turn .loop .inv .changed)
+  word-here : readLine splitSheet (wordLine (start loop-step .args .purpose) (start loop-step .args .header) (stepAt (start loop-step .args .work .now) (loop-step .loop .k) .word)) (placeAt (start loop-step .args .text .now) (loop-step .loop .cursor))
+      ≡ readLine splitSheet (wordLine (start loop-step .args .purpose) (start loop-step .args .header) (s .word-of .result)) (placeAt (start loop-step .args .text .now) (loop-step .loop .cursor))
+  word-here = row-here _ _ _ _ _ (s .word-of .ensures) (omega (arith, s .before .before .loop-test .taken, start loop-step .pre .few)) (loop-step .loop .inv .changed)
 
 loop-holds : tie.Need-loop-holds Inv-loop μ-loop
 loop-holds c =
@@ -46,9 +46,9 @@ loop-holds c =
 
 row-line-requires : tie.Need-row-line-requires Inv-loop μ-loop
 row-line-requires c κs =
-    let turn = c .before .before .before in
-    let storing = start turn .pre .storing in
-    record { reading = record { placed = turn .loop .inv .turn .placed; fits = storing .reading .fits }; small = storing .small }
+    let loop-step = c .before .before .before in
+    let storing = start loop-step .pre .storing in
+    record { reading = record { placed = loop-step .loop .inv .loop-step .placed; fits = storing .reading .fits }; small = storing .small }
 
 store-row-requires : tie.Need-store-row-requires Inv-loop μ-loop
 store-row-requires c κs =
@@ -60,20 +60,20 @@ returns : tie.Need-returns Inv-loop μ-loop
 returns c =
     let line = c .before .before .before in
     let word = line .before in
-    let entry = start (turn word) in
-    stage-stops (turn word .loop .inv) (rows-numbered (entry .args .purpose) (entry .args .header) (entry .args .work .now) 0 (entry .args .steps)) (word .before .before .loop-test .taken)
-    (word-here word ∙ subst (RowAnswer _ _) (c .before .found2 .given .1) (line .row-line .ensures)) (changed-nothing rowTypesAt presAt (turn word .loop .work))
+    let entry = start (loop-step word) in
+    stage-stops (loop-step word .loop .inv) (rows-numbered (entry .args .purpose) (entry .args .header) (entry .args .work .now) 0 (entry .args .steps)) (word .before .before .loop-test .taken)
+    (word-here word ∙ subst (RowAnswer _ _) (c .before .found2 .given .1) (line .row-line .ensures)) (changed-nothing rowTypesAt presAt (loop-step word .loop .work))
 
 loop-again : tie.Need-loop-again Inv-loop μ-loop
-unfolding rowTold
+unfolding rowDecoded
 loop-again c =
     let stored = c .before .before in
     let found = stored .before .before .before in
     let line = found .before .before in
     let word = line .before in
-    let pre = start (turn word) .pre in
+    let pre = start (loop-step word) .pre in
     let answer = subst (RowAnswer _ _) (found .found .given .1) (line .row-line .ensures) in
-    columns-on (λ (r : Row). r .type .0) (λ (r : Row). r .post .0) (λ (r : Row). startNumber (r .start)) rowTypesAt 256 (pre .few) (omega (arith, pre .storing .whole)) (turn word .loop .inv) (word .before .before .loop-test .taken) {entry = rowTold _} (word-here word ∙ answer .0) (answer .1) (stored .store-row .ensures)
+    columns-on (λ (r : Row). r .type .0) (λ (r : Row). r .post .0) (λ (r : Row). startNumber (r .start)) rowTypesAt 256 (pre .few) (omega (arith, pre .storing .whole)) (loop-step word .loop .inv) (word .before .before .loop-test .taken) {entry = rowDecoded _} (word-here word ∙ answer .0) (answer .1) (stored .store-row .ensures)
 
 returns-2 : tie.Need-returns-2 Inv-loop μ-loop
 returns-2 c =

@@ -9,7 +9,7 @@ use Rattle.workspace.specs.Layout.{sigBeforesAt, sigResultsAt}
 use Rattle.workspace.proofs.Region.{changed-nothing}
 use Rattle.split_rows.specs.Answers.{SignatureAnswer}
 use Rattle.split_sections.specs.Stored.{HoldsSignatures}
-use Rattle.split_sections.proofs.Turns.{Stage, first-stage, stage-stops, stages-done, signatures-numbered}
+use Rattle.split_sections.proofs.LoopSteps.{Stage, first-stage, stage-stops, stages-done, signatures-numbered}
 use Rattle.split_sections.proofs.Stores.{signatures-empty}
 use Rattle.split_sections.proofs.Loops.{signatures-on}
 use Rattle.split_sections.proofs.signature_lines.read_signatures.Statement.{statement}
@@ -34,7 +34,7 @@ signature-line-requires : tie.Need-signature-line-requires Inv-loop μ-loop
 signature-line-requires c κs =
     let pre = start (c .before) .pre in
     record {
-      reading = record { placed = c .before .loop .inv .turn .placed; fits = pre .storing .reading .fits };
+      reading = record { placed = c .before .loop .inv .loop-step .placed; fits = pre .storing .reading .fits };
       small = pre .storing .small;
     }
 
@@ -47,23 +47,23 @@ store-signature-requires c κs =
 returns : tie.Need-returns Inv-loop μ-loop
 returns c =
     let line = c .before .before .before in
-    let turn = line .before .before in
-    stage-stops (turn .loop .inv) (signatures-numbered (start turn .args .header) (start turn .args .procedures)) (line .before .loop-test .taken)
-    (subst (SignatureAnswer _ _) (c .before .found2 .given .1) (line .signature-line .ensures)) (changed-nothing sigBeforesAt (sigResultsAt + 16) (turn .loop .work))
+    let loop-step = line .before .before in
+    stage-stops (loop-step .loop .inv) (signatures-numbered (start loop-step .args .header) (start loop-step .args .procedures)) (line .before .loop-test .taken)
+    (subst (SignatureAnswer _ _) (c .before .found2 .given .1) (line .signature-line .ensures)) (changed-nothing sigBeforesAt (sigResultsAt + 16) (loop-step .loop .work))
 
 loop-again : tie.Need-loop-again Inv-loop μ-loop
 loop-again c =
     let stored = c .before .before in
     let found = stored .before .before .before in
     let line = found .before .before in
-    let turn = line .before .before in
+    let loop-step = line .before .before in
     let answer = subst (SignatureAnswer _ _) (found .found .given .1) (line .signature-line .ensures) in
-    signatures-on (start turn .pre .few) (start turn .pre .storing .whole) (turn .loop .inv) (line .before .loop-test .taken) (answer .0) (answer .1) (stored .store-signature .ensures)
+    signatures-on (start loop-step .pre .few) (start loop-step .pre .storing .whole) (loop-step .loop .inv) (line .before .loop-test .taken) (answer .0) (answer .1) (stored .store-signature .ensures)
 
 returns-2 : tie.Need-returns-2 Inv-loop μ-loop
 returns-2 c =
-    let turn = c .before in
-    stages-done (turn .loop .inv) (signatures-numbered (start turn .args .header) (start turn .args .procedures)) (c .loop-test .left)
+    let loop-step = c .before in
+    stages-done (loop-step .loop .inv) (signatures-numbered (start loop-step .args .header) (start loop-step .args .procedures)) (c .loop-test .left)
 
 pub read-signatures-spec : {M : Type 1} → statement M
 read-signatures-spec =

@@ -9,7 +9,7 @@ use Rattle.workspace.specs.Layout.{kindsAt, lineAt, kindCode, firstOf, secondOf
 use Rattle.workspace.proofs.Region.{changed-nothing}
 use Rattle.split_types.specs.Answers.{TypeAnswer}
 use Rattle.split_sections.specs.Stored.{HoldsTypes}
-use Rattle.split_sections.proofs.Turns.{Stage, first-stage, stage-stops, stages-done, types-numbered}
+use Rattle.split_sections.proofs.LoopSteps.{Stage, first-stage, stage-stops, stages-done, types-numbered}
 use Rattle.split_sections.proofs.Stores.{columns-empty}
 use Rattle.split_sections.proofs.Loops.{columns-on}
 use Rattle.split_sections.proofs.type_lines.read_types.Statement.{statement}
@@ -33,7 +33,7 @@ type-line-requires : tie.Need-type-line-requires Inv-loop μ-loop
 type-line-requires c κs =
     let pre = start (c .before) .pre in
     record {
-      reading = record { placed = c .before .loop .inv .turn .placed; fits = pre .reading .fits };
+      reading = record { placed = c .before .loop .inv .loop-step .placed; fits = pre .reading .fits };
       small = pre .small;
       numbered = omega (arith, c .loop-test .taken, pre .small .types);
     }
@@ -47,23 +47,23 @@ store-type-requires c κs =
 returns : tie.Need-returns Inv-loop μ-loop
 returns c =
     let line = c .before .before .before in
-    let turn = line .before .before in
-    stage-stops (turn .loop .inv) (types-numbered (start turn .args .header) 0 (start turn .args .header .types)) (line .before .loop-test .taken)
-    (subst (TypeAnswer _ _) (c .before .found2 .given .1) (line .type-line .ensures)) (changed-nothing kindsAt lineAt (turn .loop .work))
+    let loop-step = line .before .before in
+    stage-stops (loop-step .loop .inv) (types-numbered (start loop-step .args .header) 0 (start loop-step .args .header .types)) (line .before .loop-test .taken)
+    (subst (TypeAnswer _ _) (c .before .found2 .given .1) (line .type-line .ensures)) (changed-nothing kindsAt lineAt (loop-step .loop .work))
 
 loop-again : tie.Need-loop-again Inv-loop μ-loop
 loop-again c =
     let stored = c .before .before in
     let found = stored .before .before .before in
     let line = found .before .before in
-    let turn = line .before .before in
+    let loop-step = line .before .before in
     let answer = subst (TypeAnswer _ _) (found .found .given .1) (line .type-line .ensures) in
-    columns-on kindCode firstOf secondOf kindsAt 64 (start turn .pre .small .types) (omega (arith, start turn .pre .whole)) (turn .loop .inv) (line .before .loop-test .taken) (answer .0) (answer .1) (stored .store-type .ensures)
+    columns-on kindCode firstOf secondOf kindsAt 64 (start loop-step .pre .small .types) (omega (arith, start loop-step .pre .whole)) (loop-step .loop .inv) (line .before .loop-test .taken) (answer .0) (answer .1) (stored .store-type .ensures)
 
 returns-2 : tie.Need-returns-2 Inv-loop μ-loop
 returns-2 c =
-    let turn = c .before in
-    stages-done (turn .loop .inv) (types-numbered (start turn .args .header) 0 (start turn .args .header .types)) (c .loop-test .left)
+    let loop-step = c .before in
+    stages-done (loop-step .loop .inv) (types-numbered (start loop-step .args .header) 0 (start loop-step .args .header .types)) (c .loop-test .left)
 
 pub read-types-spec : {M : Type 1} → statement M
 read-types-spec =

@@ -5,7 +5,7 @@ use borrow.Author.Tests.{not-true, not-false}
 use Rattle.lexer.proofs.LineEnds.{numbers-none, numbers-read}
 use Rattle.lexer.proofs.Walks.{left-some}
 use Rattle.split_fields.proofs.LineLaws.{line-missing}
-use Rattle.split_types.proofs.MapLaws.{cells-told, map-form, map-range, map-on}
+use Rattle.split_types.proofs.MapLaws.{cells-decodes, map-form, map-range, map-on}
 use Rattle.split_types.proofs.maps.map_line.Statement.{statement}
 use Rattle.split_types.proofs.maps.map_line.Tie as tie
 
@@ -29,7 +29,7 @@ returns-3 c =
     let numbers = read .before .before .before .before in
     let entry = numbers .before .before .before .before .before .before .before in
     let found = numbers-read (numbers .numbers .ensures) _ refl (entry .pre .placed) (read .read .given .1) in
-    let fit = cells-told _ _ (found .long) (cells-fit .cells-fit .ensures) (not-true _ (c .if2 .taken)) in
+    let fit = cells-decodes _ _ (found .long) (cells-fit .cells-fit .ensures) (not-true _ (c .if2 .taken)) in
     map-range _ _ _ _ _ found fit
 
 returns-4 : tie.Need-returns-4
@@ -39,7 +39,7 @@ returns-4 c =
     let numbers = read .before .before .before .before in
     let entry = numbers .before .before .before .before .before .before .before in
     let found = numbers-read (numbers .numbers .ensures) _ refl (entry .pre .placed) (read .read .given .1) in
-    let fit = cells-told _ _ (found .long) (cells-fit .cells-fit .ensures) (not-false _ (c .if2 .left)) in
+    let fit = cells-decodes _ _ (found .long) (cells-fit .cells-fit .ensures) (not-false _ (c .if2 .left)) in
     (map-on _ _ _ _ _ found fit, found .placed)
 
 pub map-line-spec : {M : Type 1} → statement M

@@ -1,4 +1,4 @@
--- A row for each way.
+-- A row for each transfer function.
 use Rattle.turns.specs.Bounds.{binaryCeiling}
 use borrow.Author.Needs.{needs}
 use Rattle.turns.proofs.bounds.binary_ceiling.Statement.{statement}

@@ -1,4 +1,4 @@
--- A row for each way.
+-- A row for each transfer function.
 use Rattle.turns.specs.Bounds.{top, unaryCeiling}
 use borrow.Author.Needs.{needs}
 use Rattle.turns.proofs.bounds.unary_ceiling.Statement.{statement}

@@ -8,7 +8,7 @@ use borrow.Author.Needs.{needs}
 use lib.ListN.{length, drop}
 use Rattle.spec.specs.Program.{Program}
 use Rattle.spec.specs.Split.{Split}
-use Rattle.spec.specs.Sites.{claimsOfProcedures}
+use Rattle.spec.specs.StepContexts.{claimsOfProcedures}
 use Rattle.spec.specs.declared.Purpose.{Purpose}
 use Rattle.workspace.specs.Layout.{presAt, workSize}
 use Rattle.workspace.specs.Region.{ChangedWithin}
