@@ -14,10 +14,10 @@ use Rattle.spec.specs.declared.Refusal.{Refusal}
 use Rattle.spec.proofs.Reasons.{sheets-refused, rules-decide}
 use Rattle.workspace.specs.Layout.{workSize}
 use Rattle.spec.specs.declared.Header.{Header}
-use Rattle.reading.specs.Answers.{SheetsAnswered}
-use Rattle.reading.specs.declared.Reading.{Reading}
-use Rattle.reading.specs.declared.Reading.the-variants as reading
-use Rattle.reading.proofs.Found.{refused-by, held-by}
+use Rattle.sheets.specs.Answers.{SheetsAnswered}
+use Rattle.sheets.specs.declared.Reading.{Reading}
+use Rattle.sheets.specs.declared.Reading.the-variants as reading
+use Rattle.sheets.proofs.Found.{refused-by, held-by}
 use Rattle.conditions.specs.Outcome.{outcome}
 use Rattle.spec.specs.declared.Ruling.{Ruling}
 use Rattle.spec.specs.declared.Ruling.the-variants.{Holds, Refused}

@@ -11,7 +11,7 @@ use Rattle.spec.specs.declared.Answer.{Answer}
 use Rattle.workspace.specs.Layout.{workSize}
 use Rattle.spec.specs.declared.Header.{Header}
 use Rattle.workspace.specs.Sheets.{Small}
-use Rattle.reading.specs.Answers.{HoldsBoth}
+use Rattle.sheets.specs.Answers.{HoldsBoth}
 
 -- the sizes that the rules rely on
 pub record RulesAsked (w : List ℕ) (steps procedures : ℕ) (header : Header) : Type 0 where

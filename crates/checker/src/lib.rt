@@ -1,5 +1,5 @@
 // The offered call: two texts and a lent work space in, one answer out.
-use reading::Reading;
+use sheets::Reading;
 use spec::Answer;
 use spec::Header;
 use spec::Purpose;
@@ -35,7 +35,7 @@ fn check_texts(program: &[u8], split: &[u8], work: &mut [u32]) -> Answer
     requires { ⌜ length (now work) ≡ workSize ⌝ }
     ensures { λ a. ⌜ a ≡ verdict workspaceSize (now (program .entry)) (now (split .entry)) ⌝ }
 {
-    match reading::read(program, split, Purpose::Check, work) {
+    match sheets::read(program, split, Purpose::Check, work) {
         Reading::Refused(r) => Answer::Refuse(r),
         Reading::Held(steps, procedures, header) => check_rules(work, steps, procedures, header),
     }

@@ -1,10 +1,10 @@
 // Words with a part whose type has a load: the step takes it, or gives it back.
 use conditions::type_false;
-use rules::sum;
+use rule_rows::StepView;
+use rule_rows::sum;
 use spec::MapNumber;
 use spec::Ruling;
 use spec::TypeLine;
-use views::StepView;
 use workspace::type_at;
 ghost use mathlib.Core.Path.{_≡_};
 ghost use Rattle.spec.specs.StepContexts.{judge};
@@ -12,7 +12,7 @@ ghost use Rattle.spec.specs.declared.Word.the-variants.{Unary};
 ghost use Rattle.spec.specs.declared.UnaryWord.the-variants.{Join, Lock, Unlock, Post, Wait, Rdlock, Rdunlock, Wrlock, Wrunlock};
 ghost use Rattle.conditions.specs.declared.Relation.the-variants.{Sum};
 ghost use Rattle.conditions.specs.Outcome.{outcome, firstFalseFrom};
-ghost use Rattle.rules.specs.Table.{flows, rowIn};
+ghost use Rattle.rule_rows.specs.Table.{flows, rowIn};
 
 // The last condition of a word that takes: post = post of part + load.
 fn takes(work: &[u32], s: StepView, load: MapNumber) -> Ruling

@@ -4,19 +4,19 @@ use conditions::Relation;
 use conditions::and_then;
 use conditions::flow;
 use conditions::type_false;
-use rules::at_least;
-use rules::equal;
-use rules::sum;
+use rule_rows::StepView;
+use rule_rows::at_least;
+use rule_rows::equal;
+use rule_rows::sum;
 use spec::Ruling;
 use spec::TypeLine;
-use views::StepView;
 use workspace::type_at;
 ghost use mathlib.Core.Path.{_≡_};
 ghost use Rattle.conditions.specs.Outcome.{outcome, firstFalseFrom};
 ghost use Rattle.spec.specs.declared.Word.the-variants.{Leaf, Binary};
 ghost use Rattle.spec.specs.declared.LeafWord.the-variants.{Newtid, Newlock, Newsem, Newrwlock};
 ghost use Rattle.spec.specs.declared.BinaryWord.the-variants.{Spawn};
-ghost use Rattle.rules.specs.Table.{rowIn};
+ghost use Rattle.rule_rows.specs.Table.{rowIn};
 
 // NEWT: 1 a tid type; 2 post = pre.
 pub fn check_newt(work: &[u32], s: StepView) -> Ruling

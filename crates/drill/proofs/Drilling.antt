@@ -18,7 +18,7 @@ use Rattle.writer.proofs.Buffer.{overwrite-front}
 use Rattle.drill_theory.specs.Draw.{drawn, readers, readersOf, Drawable}
 use Rattle.drill_theory.specs.Pair.{programText, splitText, programOf, splitOf}
 use Rattle.drill_theory.proofs.Accepted.{pair-accepted, seed-accepted}
-use Rattle.written.specs.Text.{inFront}
+use Rattle.text_theory.specs.Text.{inFront}
 use Rattle.drill.specs.Answer.{drilledNumbers, returnedBy, roomy, answerOf}
 use Rattle.drill.specs.declared.Drilled.{Drilled}
 use Rattle.drill.specs.declared.Drilled.the-variants.{Made, Short}

@@ -6,8 +6,8 @@ use native.Mathlib.Nat.{add-sub-cancel-left}
 use native.Mathlib.Omega.{arith}
 use lib.ListN.{length, length-append}
 use Rattle.spec.specs.Text.{bytes, Field}
-use Rattle.written.specs.Text.{digit, digitsWithin, decimal, line, text}
-use Rattle.written.proofs.Lines.{text-append}
+use Rattle.text_theory.specs.Text.{digit, digitsWithin, decimal, line, text}
+use Rattle.text_theory.proofs.Lines.{text-append}
 use Rattle.drill_theory.specs.Pair.{step, lets, spawn, join, programSteps, programLines, programText, header, typeLine, typeLines, fallingMaps, row, startRow, spawnRows, allSpawnRows, joinRows, allJoinRows, rows, splitLines, splitText}
 use Rattle.drill.specs.Lets.{letText, letsText}
 

@@ -2,7 +2,7 @@
 use mathlib.Core.List.{List, [], _∷_, _++_}
 use Prim.Native.Nat.{ℕ, zero, suc, _+_}
 use Rattle.spec.specs.Text.{bytes}
-use Rattle.written.specs.Text.{decimal}
+use Rattle.text_theory.specs.Text.{decimal}
 
 -- a let that binds v
 unfoldable pub letText : (value : List ℕ) → (v : ℕ) → List ℕ

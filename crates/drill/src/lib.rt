@@ -12,7 +12,7 @@ ghost use Rattle.spec.specs.Workspace.{workspaceSize};
 ghost use Rattle.spec.specs.declared.Answer.the-variants.{Accept};
 ghost use Rattle.drill_theory.specs.Draw.{drawn, readers as readersDrawn, Drawable};
 ghost use Rattle.drill_theory.specs.Pair.{programText, splitText, programOf, splitOf};
-ghost use Rattle.written.specs.Text.{inFront};
+ghost use Rattle.text_theory.specs.Text.{inFront};
 ghost use Rattle.drill.specs.Answer.{returnedBy, answerOf};
 
 // What a drill answers: the new x and the lengths of program and split; or that a buffer is shorter than its text.

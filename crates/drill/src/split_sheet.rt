@@ -6,7 +6,7 @@ use writer::write_bytes;
 use writer::write_field;
 ghost use mathlib.Core.List.{[], _∷_};
 ghost use Prim.Native.Nat.{_≤_};
-ghost use Rattle.written.specs.Text.{text};
+ghost use Rattle.text_theory.specs.Text.{text};
 ghost use Rattle.writer.specs.Buffer.{WrittenAt};
 ghost use Rattle.drill_theory.specs.Draw.{Drawable};
 ghost use Rattle.drill_theory.specs.Pair.{header, typeLines, row, startRow, fallingMaps, spawnRows, allSpawnRows, joinRows, allJoinRows, splitText};

@@ -3,7 +3,7 @@ use mathlib.Core.Path.{_≡_, refl}
 use lib.ListN.{length}
 use Rattle.spec.specs.Text.{bytes}
 use Rattle.spec.specs.Pairs.KnownPairs.{barred, P}
-use Rattle.written.specs.Text.{digit, digitsWithin, decimal, line, text}
+use Rattle.text_theory.specs.Text.{digit, digitsWithin, decimal, line, text}
 use Rattle.drill_theory.specs.Draw.{drawn, readers, readersOf}
 use Rattle.drill_theory.specs.Pair.{step, lets, spawn, join, programSteps, programLines, programText, header, typeLine, typeLines, fallingMaps, row, startRow, spawnRows, allSpawnRows, joinRows, allJoinRows, rows, splitLines, splitText}
 

@@ -9,7 +9,7 @@ use Rattle.spec.specs.Verdict.{verdict}
 use Rattle.spec.specs.Pairs.KnownPairs.{found}
 use Rattle.spec.specs.declared.Answer.{Answer}
 use Rattle.spec.specs.declared.Answer.the-variants.{Accept}
-use Rattle.written.specs.Text.{digit, digitsWithin, decimal, line, text}
+use Rattle.text_theory.specs.Text.{digit, digitsWithin, decimal, line, text}
 use Rattle.drill_theory.specs.Pair.{programText, splitText}
 use Rattle.drill_theory.specs.Pair as pair
 

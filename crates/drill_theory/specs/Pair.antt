@@ -4,7 +4,7 @@ use Prim.Native.Nat.{ℕ, zero, suc, _+_, _-_}
 use Prim.Native.String.{String}
 use lib.ListN.{length}
 use Rattle.spec.specs.Text.{Field, bytes}
-use Rattle.written.specs.Text.{decimal, text}
+use Rattle.text_theory.specs.Text.{decimal, text}
 use Rattle.drill_theory.specs.Draw.{readersOf}
 
 -- ------------------------------------------------------------------ the program sheet

@@ -10,7 +10,7 @@ use Rattle.replay_theory.specs.declared.FirstRace.the-variants.{None}
 use Rattle.replay_theory.specs.Replay.{replay, refused, returnedFor}
 use Rattle.replay_theory.specs.Claim.{TraceFollowed, RaceFound}
 use Rattle.replay_theory.proofs.Reported.{trace-is-followed, race-is-found, none-if-accepted}
-use Rattle.replay_numbers.specs.Numbers.{raceNumbers, Stored}
+use Rattle.replay_answers.specs.Numbers.{raceNumbers, Stored}
 use Rattle.replay_kept.specs.declared.numbers.Told.{Told}
 use Rattle.replay_kept.specs.Kept.{keptSize, toldNumbers}
 use Rattle.replay_pieces.specs.Pieces.{KeptRun}

@@ -16,7 +16,7 @@ ghost use Rattle.spec.specs.Verdict.{verdict, returned, numbers4, onConditions}
 ghost use Rattle.spec.specs.Workspace.{workspaceSize, workspaceAfter};
 ghost use Rattle.spec.specs.declared.Answer.the-variants.{Accept};
 ghost use Rattle.drill_theory.specs.Pair.{programOf, splitOf};
-ghost use Rattle.written.specs.Text.{inFront};
+ghost use Rattle.text_theory.specs.Text.{inFront};
 ghost use Rattle.drill.specs.Answer.{drilledNumbers, answerOf};
 ghost use Rattle.soundness.specs.SafeText.{SafeText};
 ghost use Rattle.soundness.specs.EitherOrderText.{EitherOrderText};
@@ -27,7 +27,7 @@ ghost use Rattle.replay_theory.specs.declared.FirstRace.the-variants.{None};
 ghost use Rattle.spec.specs.declared.Refusal.the-variants.{ShortWorkspace};
 ghost use Rattle.replay_theory.specs.Replay.{replaySpace, replay as replayed, refused as refusedBy, returnedFor as endingNumbers};
 ghost use Rattle.replay_theory.specs.Claim.{TraceFollowed, RaceFound};
-ghost use Rattle.replay_numbers.specs.Numbers.{answerTold, raceNumbers, raceTold, Stored};
+ghost use Rattle.replay_answers.specs.Numbers.{answerTold, raceNumbers, raceTold, Stored};
 ghost use Rattle.replay.specs.Pieces.{endsLine, jobSize};
 ghost use Rattle.replay_kept.specs.Kept.{keptSize};
 ghost use Rattle.replay_pieces.specs.Pieces.{roomy, answerNumber, FrontUsed, KeptRun};
@@ -50,7 +50,7 @@ pub extern "C" fn racecheck_check(
     ensures safe { λ n. ⌜ (numbers4 n (now (line .exit)) (now (condition .exit)) (now (location .exit)) ≡ numbers4 0 0 0 0 → SafeText (now (program .entry))) ⌝ }
     ensures either_order { λ n. ⌜ (numbers4 n (now (line .exit)) (now (condition .exit)) (now (location .exit)) ≡ numbers4 0 0 0 0 → EitherOrderText (now (program .entry))) ⌝ }
 {
-    let four = returned::numbers_of(checker::check(program, split, work));
+    let four = answers::numbers_of(checker::check(program, split, work));
     *line = four.line;
     *condition = four.condition;
     *location = four.location;
@@ -120,7 +120,7 @@ pub extern "C" fn racecheck_fill(
             0
         }
         Filled::Refused(r) => {
-            let four = returned::numbers_of(Answer::Refuse(r));
+            let four = answers::numbers_of(Answer::Refuse(r));
             *length_or_line = four.line;
             *condition = four.condition;
             *location = four.location;
@@ -157,8 +157,8 @@ pub extern "C" fn racecheck_replay(
     let ending = r.ending;
     let report = r.report;
     let race = report.race;
-    let four = replay_numbers::ending_numbers(ending);
-    let pair = replay_numbers::race_numbers(race);
+    let four = replay_answers::ending_numbers(ending);
+    let pair = replay_answers::race_numbers(race);
     *line = four.line as u64;
     *condition = four.condition;
     *location = four.location;

@@ -14,15 +14,15 @@ use Rattle.spec.specs.declared.MapNumber.{MapNumber}
 use Rattle.workspace.specs.Sheets.{HoldsSheets}
 use Rattle.spec.specs.declared.Header.{Header}
 use Rattle.workspace.proofs.Region.{region-part, changed-nothing}
-use Rattle.reading.specs.Answers.{HoldsBoth}
+use Rattle.sheets.specs.Answers.{HoldsBoth}
 use Rattle.fill_theory.specs.GreatestMaps.{postsAt}
 use Rattle.fill_theory.specs.FlowOf.{rootsOf}
 use Rattle.fill_theory.proofs.Roots.{roots-counted}
 use Rattle.fill_theory.proofs.Placed.{roots-steps, steps-sized}
-use Rattle.ways.specs.declared.Column.{Column}
-use Rattle.pass.specs.declared.Given.{Given}
-use Rattle.pass.specs.Roots.{Stored}
-use Rattle.pass.specs.Contract.{ColumnReady, FilledHere}
+use Rattle.fill_transfer.specs.declared.Column.{Column}
+use Rattle.fill_pass.specs.declared.Given.{Given}
+use Rattle.fill_pass.specs.Roots.{Stored}
+use Rattle.fill_pass.specs.Contract.{ColumnReady, FilledHere}
 use Rattle.fill.specs.declared.maps.Found.the-variants.{Nothing, Large, Maps}
 use Rattle.fill.specs.Columns.{Room, PostsStored, ColumnGiven, ColumnFilled}
 

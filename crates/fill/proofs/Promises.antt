@@ -17,7 +17,7 @@ use Rattle.spec.specs.declared.Answer.the-variants.{Accept, Refuse}
 use Rattle.spec.specs.declared.Refusal.{Refusal}
 use Rattle.spec.specs.declared.Refusal.the-variants.{NoAfterMaps, TooLarge}
 use Rattle.spec.proofs.Refusals.{refusal-number}
-use Rattle.written.specs.Text.{inFront}
+use Rattle.text_theory.specs.Text.{inFront}
 use Rattle.fill_theory.specs.AfterMaps.{AfterMaps}
 use Rattle.fill_theory.specs.Answer.{fill, returnedFor, bufferAfter, Fillable, FilledSheet, GreatestOverLimits}
 use Rattle.fill_theory.proofs.Answer.{Decided, refusedUnsolvable, refusedTooLarge, wroteText, fillable-decided, refused-exactly-unsolvable, refused-exactly-too-large, written-exactly, written-accepted}

@@ -14,7 +14,7 @@ use Rattle.workspace.specs.Region.{ChangedWithin}
 use Rattle.spec.specs.declared.Header.{Header}
 use Rattle.workspace.proofs.Region.{changed-nothing, changed-then}
 use Rattle.workspace.proofs.Sheets.{sheets-kept}
-use Rattle.reading.specs.Answers.{HoldsBoth}
+use Rattle.sheets.specs.Answers.{HoldsBoth}
 use Rattle.fill_theory.specs.GreatestMaps.{postsAt}
 use Rattle.fill_theory.specs.Answer.{numberLimit, mapAtMost}
 use Rattle.fill_theory.proofs.Found.{some-injective}

@@ -10,7 +10,7 @@ use Rattle.spec.specs.Split.{splitLimit}
 use Rattle.spec.specs.Verdict.{numbers4}
 use Rattle.spec.specs.declared.Refusal.{Refusal}
 use Rattle.spec.specs.declared.Refusal.the-variants.{TooLarge}
-use Rattle.written.specs.Text.{inFront}
+use Rattle.text_theory.specs.Text.{inFront}
 use Rattle.writer.specs.Buffer.{WrittenAt}
 use Rattle.writer.proofs.Buffer.{overwrite-front}
 use Rattle.fill_theory.specs.Answer.{returnedFor, bufferAfter}

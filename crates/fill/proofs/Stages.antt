@@ -22,16 +22,16 @@ use Rattle.workspace.specs.Layout.{workSize}
 use Rattle.workspace.specs.Sheets.{HoldsSheets}
 use Rattle.spec.specs.declared.Header.{Header}
 use Rattle.split.proofs.Found.{types-decodes}
-use Rattle.reading.specs.Answers.{HoldsBoth, SheetsAnswered}
-use Rattle.reading.specs.declared.Reading.{Reading}
-use Rattle.reading.specs.declared.Reading.the-variants as reading
-use Rattle.reading.proofs.Found.{refused-by, held-by}
+use Rattle.sheets.specs.Answers.{HoldsBoth, SheetsAnswered}
+use Rattle.sheets.specs.declared.Reading.{Reading}
+use Rattle.sheets.specs.declared.Reading.the-variants as reading
+use Rattle.sheets.proofs.Found.{refused-by, held-by}
 use Rattle.conditions.specs.Outcome.{outcome}
 use Rattle.walk.specs.Contract.{ruledFor, Ruled}
 use Rattle.spec.specs.declared.Ruling.{Ruling}
 use Rattle.spec.specs.declared.Ruling.the-variants as ruling
 use Rattle.walk.proofs.Procedures.{sheets-stay}
-use Rattle.written.specs.Sheet.{sheetText}
+use Rattle.text_theory.specs.Sheet.{sheetText}
 use Rattle.split_writer.specs.Contract.{HoldsSheet, HoldsSome as HoldsSheetOfSome}
 use Rattle.fill_theory.specs.Filled.{filled}
 use Rattle.fill_theory.specs.GreatestMaps.{greatestMaps}

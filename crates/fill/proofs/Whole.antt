@@ -18,7 +18,7 @@ use Rattle.workspace.specs.Sheets.{HoldsSheets}
 use Rattle.spec.specs.declared.Header.{Header}
 use Rattle.workspace.proofs.Region.{region-kept, changed-wider}
 use Rattle.workspace.proofs.Held.{program-kept}
-use Rattle.reading.specs.Answers.{HoldsBoth}
+use Rattle.sheets.specs.Answers.{HoldsBoth}
 use Rattle.fill_theory.specs.Filled.{withPosts, filled}
 use Rattle.fill_theory.specs.Found.{_>>=_, forEach}
 use Rattle.fill_theory.specs.GreatestMaps.{postsAt, greatestMaps}

@@ -10,7 +10,7 @@ use Rattle.spec.specs.Split.{Split}
 use Rattle.workspace.specs.Layout.{postsAt, mapsAt, stride, emptyMap, mapCell, workSize}
 use Rattle.workspace.specs.Region.{ChangedWithin}
 use Rattle.spec.specs.declared.Header.{Header}
-use Rattle.reading.specs.Answers.{HoldsBoth}
+use Rattle.sheets.specs.Answers.{HoldsBoth}
 use Rattle.fill_theory.specs.GreatestMaps as greatest
 use Rattle.fill_theory.specs.Answer.{numberLimit, mapAtMost}
 use Rattle.fill.specs.declared.maps.Found.{Found}

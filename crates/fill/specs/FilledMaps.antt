@@ -8,7 +8,7 @@ use Rattle.spec.specs.Program.{Program}
 use Rattle.spec.specs.Split.{Map, Split}
 use Rattle.workspace.specs.Sheets.{HoldsSheets}
 use Rattle.spec.specs.declared.Header.{Header}
-use Rattle.reading.specs.Answers.{HoldsBoth}
+use Rattle.sheets.specs.Answers.{HoldsBoth}
 use Rattle.fill_theory.specs.Filled.{filled}
 use Rattle.fill_theory.specs.GreatestMaps.{greatestMaps}
 use Rattle.fill_theory.specs.Answer.{numberLimit, allAtMost}

@@ -12,8 +12,8 @@ use Rattle.spec.specs.declared.Refusal.the-variants.{TooLarge, TooManyMaps}
 use Rattle.workspace.specs.Layout.{workSize}
 use Rattle.spec.specs.declared.Header.{Header}
 use Rattle.workspace.specs.Sheets.{Small}
-use Rattle.reading.specs.Answers.{HoldsBoth}
-use Rattle.written.specs.Sheet.{sheetText}
+use Rattle.sheets.specs.Answers.{HoldsBoth}
+use Rattle.text_theory.specs.Sheet.{sheetText}
 use Rattle.split_writer.specs.Contract.{HoldsSheet}
 use Rattle.fill_theory.specs.Answer.{givenLimit, filledText, returnedFor, bufferAfter}
 use Rattle.fill.specs.declared.Filled.{Filled}

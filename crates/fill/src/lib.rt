@@ -3,7 +3,7 @@ mod maps;
 
 use maps::Found;
 use maps::fill_maps;
-use reading::Reading;
+use sheets::Reading;
 use spec::Header;
 use spec::Purpose;
 use spec::Refusal;
@@ -124,7 +124,7 @@ fn fill_texts(program: &[u8], split: &[u8], work: &mut [u32], out: &mut [u8]) ->
     requires { ⌜ length (now work) ≡ workSize ⌝ }
     ensures { λ f. ⌜ OutcomePost (filling workspaceSize (length (now (out .entry))) (now (program .entry)) (now (split .entry))) (now (out .entry)) (now (out .exit)) f ⌝ }
 {
-    match reading::read(program, split, Purpose::Fill, work) {
+    match sheets::read(program, split, Purpose::Fill, work) {
         Reading::Refused(r) => Filled::Refused(r),
         Reading::Held(steps, procedures, header) => fill_sheets(
             work,

@@ -1,10 +1,10 @@
 // The greatest after-maps, one location after the other, stored as maps behind the given ones.
-use pass::Given;
-use pass::fill_location;
+use fill_pass::Given;
+use fill_pass::fill_location;
+use fill_transfer::Column;
 use spec::Header;
 use spec::Location;
 use spec::MapNumber;
-use ways::Column;
 use workspace::MAPS;
 use workspace::POSTS;
 use workspace::STRIDE;

@@ -28,7 +28,7 @@ use Rattle.spec.proofs.Reached.{start-at-most-one, at-most-one-start}
 use Rattle.spec.proofs.Locks.{locks-take-enough, enough-taken}
 use Rattle.spec.proofs.Reasons.{rules-decide}
 use Rattle.spec.proofs.Claims.{none-false-all-hold, all-hold-none-false}
-use Rattle.written.specs.Sheet.{sheetText}
+use Rattle.text_theory.specs.Sheet.{sheetText}
 use Rattle.fill_theory.specs.Filled.{filled}
 use Rattle.fill_theory.specs.AfterMaps.{typeClaims, AfterMaps, GreatestMaps}
 use Rattle.fill_theory.specs.GreatestMaps.{greatestMaps}

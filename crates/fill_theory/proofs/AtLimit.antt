@@ -13,7 +13,7 @@ use Rattle.spec.specs.Workspace.{workspaceSize}
 use Rattle.spec.specs.Verdict.{sheets, locksTakeEnough, startAtMostOne, typeConditionsHold}
 use Rattle.spec.specs.declared.Purpose.the-variants.{Fill}
 use Rattle.spec.specs.declared.Refusal.the-variants.{TooLarge, TooManyMaps}
-use Rattle.written.specs.Sheet.{sheetText}
+use Rattle.text_theory.specs.Sheet.{sheetText}
 use Rattle.fill_theory.specs.Filled.{filled}
 use Rattle.fill_theory.specs.GreatestMaps.{greatestMaps}
 use Rattle.fill_theory.specs.Answer.{givenLimit, numberLimit, mapAtMost, allAtMost, foundOr, filledText, fill}

@@ -6,7 +6,7 @@ use lib.ListN.{length, drop}
 use lib.Seq.{drop-append-seam}
 use Rattle.spec.specs.Reading.{refuse, ok}
 use Rattle.spec.specs.declared.Refusal.{Refusal}
-use Rattle.written.specs.Text.{inFront}
+use Rattle.text_theory.specs.Text.{inFront}
 use Rattle.fill_theory.specs.Answer.{bufferAfter}
 
 pub refusal-keeps : (r : Refusal) (buffer : List ℕ) → bufferAfter (refuse r) buffer ≡ buffer

@@ -14,13 +14,13 @@ use Rattle.spec.specs.Split.{Map, Split, split}
 use Rattle.spec.specs.WellFormed.{WellFormedSplit}
 use Rattle.spec.specs.Accepted.{AtMost}
 use Rattle.spec.specs.declared.Purpose.the-variants.{Check, Fill}
-use Rattle.written.specs.Text.{line, text}
-use Rattle.written.specs.Sheet.{headerFields, typeFields, mapFields, signatureFields, rowFields, splitLines, sheetText, unfilled}
-use Rattle.written.specs.Writable.{RowStarts, Writable}
-use Rattle.written.proofs.Lines.{text-append}
-use Rattle.written.proofs.Sheet.{written-reads-back}
-use Rattle.written.proofs.Readable.{read-is-writable}
-use Rattle.written.proofs.Spelling.{read-as-written}
+use Rattle.text_theory.specs.Text.{line, text}
+use Rattle.text_theory.specs.Sheet.{headerFields, typeFields, mapFields, signatureFields, rowFields, splitLines, sheetText, unfilled}
+use Rattle.text_theory.specs.Writable.{RowStarts, Writable}
+use Rattle.text_theory.proofs.Lines.{text-append}
+use Rattle.text_theory.proofs.Sheet.{written-reads-back}
+use Rattle.text_theory.proofs.Readable.{read-is-writable}
+use Rattle.text_theory.proofs.Spelling.{read-as-written}
 use Rattle.fill_theory.specs.Filled.{withPosts, filled}
 use Rattle.fill_theory.specs.Answer.{numberLimit}
 use Rattle.fill_theory.proofs.Kept.{rows-kept}

@@ -15,7 +15,7 @@ use Rattle.spec.specs.Verdict.{sheets, locksTakeEnough, startAtMostOne, typeCon
 use Rattle.spec.specs.declared.Purpose.the-variants.{Fill}
 use Rattle.spec.specs.declared.Refusal.{Refusal}
 use Rattle.spec.specs.declared.Refusal.the-variants.{ShortWorkspace, NoAfterMaps, TooLarge}
-use Rattle.written.specs.Sheet.{sheetText}
+use Rattle.text_theory.specs.Sheet.{sheetText}
 use Rattle.fill_theory.specs.Filled.{filled}
 use Rattle.fill_theory.specs.GreatestMaps.{greatestMaps}
 use Rattle.fill_theory.specs.Answer.{givenLimit, numberLimit, allAtMost, foundOr, filledText, fill}

@@ -20,8 +20,8 @@ use Rattle.spec.specs.declared.Returned.{Returned}
 use Rattle.spec.specs.declared.Answer.the-variants.{Refuse}
 use Rattle.spec.specs.declared.Refusal.{Refusal}
 use Rattle.spec.specs.declared.Refusal.the-variants.{ShortWorkspace, NoAfterMaps, TooLarge, TooManyMaps}
-use Rattle.written.specs.Text.{inFront}
-use Rattle.written.specs.Sheet.{sheetText}
+use Rattle.text_theory.specs.Text.{inFront}
+use Rattle.text_theory.specs.Sheet.{sheetText}
 use Rattle.fill_theory.specs.Filled.{filled}
 use Rattle.fill_theory.specs.AfterMaps.{typeClaims, GreatestMaps}
 use Rattle.fill_theory.specs.GreatestMaps.{greatestMaps}

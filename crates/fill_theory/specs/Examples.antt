@@ -14,8 +14,8 @@ use Rattle.spec.specs.Pairs.KnownPairs.{Pair, barred, _with_is_, found, P}
 use Rattle.spec.specs.Pairs.EdgeSheets.{times}
 use Rattle.spec.specs.declared.Purpose.the-variants.{Fill}
 use Rattle.spec.specs.declared.Returned.{Returned}
-use Rattle.written.specs.Text.{digit, digitsWithin, decimal, line, text}
-use Rattle.written.specs.Sheet.{headingName, headerNumbers, headerFields, outNumber, typeFields, mapFields, signatureFields, postShown, startShown, rowFields, splitLines, sheetText}
+use Rattle.text_theory.specs.Text.{digit, digitsWithin, decimal, line, text}
+use Rattle.text_theory.specs.Sheet.{headingName, headerNumbers, headerFields, outNumber, typeFields, mapFields, signatureFields, postShown, startShown, rowFields, splitLines, sheetText}
 use Rattle.fill_theory.specs.Filled.{withPosts, filled}
 use Rattle.fill_theory.specs.AfterMaps.{typeClaims}
 use Rattle.fill_theory.specs.Found as option

@@ -20,10 +20,10 @@ use Rattle.workspace.specs.Region.{Region, ChangedWithin}
 use Rattle.workspace.specs.Holds.{HoldsSteps}
 use Rattle.workspace.proofs.Region.{region-empty, region-apart, region-kept, column-push, changed-nothing, changed-store, changed-then}
 use Rattle.workspace.proofs.Steps.{steps-push}
-use Rattle.tree.specs.Items.{ProcRow, procRows, noVariables, HoldsProcs, noneLimited, ItemsStored}
+use Rattle.program_tree.specs.Items.{ProcRow, procRows, noVariables, HoldsProcs, noneLimited, ItemsStored}
 use Rattle.program_lines.specs.Lines.{itemAt, StepShown}
 use Rattle.program.specs.Lines.{itemsAt, StepsShown}
-use Rattle.tree.proofs.Limits.{limited-snoc, variables-snoc}
+use Rattle.program_tree.proofs.Limits.{limited-snoc, variables-snoc}
 use Rattle.program_lines.specs.declared.items.StepLine.the-variants as step-line
 use Rattle.program.specs.declared.lines.StepLines.the-variants as steps
 

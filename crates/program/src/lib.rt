@@ -38,7 +38,7 @@ fn read_lines(
                 let spare = behind.line + 1;
                 return ProgramRead::Refused(Refusal::ProgramLines(spare));
             }
-            match structure::resolve(work, steps, procs, count, behind.line) {
+            match program_scopes::resolve(work, steps, procs, count, behind.line) {
                 Ruling::Holds => ProgramRead::Read(n, count),
                 Ruling::Refused(refusal) => ProgramRead::Refused(refusal),
             }

@@ -11,7 +11,7 @@ use workspace::PROC_VARS;
 use workspace::VALUES;
 use workspace::WORDS;
 ghost use Rattle.lexer.specs.Cursors.{Placed};
-ghost use Rattle.tree.specs.Structure.{RoomFor};
+ghost use Rattle.program_tree.specs.Structure.{RoomFor};
 ghost use Rattle.program.specs.Lines.{StepsShown};
 
 // The numbers of steps and of `proc` lines, and the cursor behind the lines; or the refusal of one of them.

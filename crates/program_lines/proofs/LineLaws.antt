@@ -29,9 +29,9 @@ use Rattle.lexer.proofs.Places.{span-field}
 use Rattle.lexer.proofs.Sheets.{next-at-none, passed-at}
 use Rattle.lexer.proofs.Walks.{left-none, left-some, first-wrong}
 use Rattle.lexer.proofs.Stored.{Narrow}
-use Rattle.vocabulary.specs.Words.{foundOf}
-use Rattle.vocabulary.specs.declared.FoundWord.the-variants.{Known, Unknown}
-use Rattle.vocabulary.proofs.Words.{found-known, found-unknown}
+use Rattle.keywords.specs.Words.{foundOf}
+use Rattle.keywords.specs.declared.FoundWord.the-variants.{Known, Unknown}
+use Rattle.keywords.proofs.Words.{found-known, found-unknown}
 use Rattle.program_lines.specs.Lines.{TailShown, FreelockAt, ProcAt, StepAt, itemAt, StepShown, WordAt}
 use Rattle.program_lines.specs.declared.tails.Tail.the-variants.{Value, Malformed}
 use Rattle.program_lines.specs.declared.items.StepLine.the-variants as step-line

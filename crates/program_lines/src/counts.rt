@@ -77,10 +77,10 @@ pub fn count_line(text: &[u8]) -> CountLine
     let field = top.field(text);
     let from = field.from;
     let to = field.to;
-    if vocabulary::same(b"P", &text[from..to]) {
+    if keywords::same(b"P", &text[from..to]) {
         return plain_count(text, top, field);
     }
-    if vocabulary::same(b"P2", &text[from..to]) {
+    if keywords::same(b"P2", &text[from..to]) {
         return full_count(text, top, field);
     }
     CountLine::Refused(Refusal::ProgramForm(1))

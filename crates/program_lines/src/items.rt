@@ -1,14 +1,14 @@
 // A line behind line 1 of a program sheet: that of a step or a `proc` line.
 use crate::tails::Tail;
 use crate::tails::last_number;
+use keywords::FoundWord;
+use keywords::least_of;
+use keywords::limit_of;
 use lexer::Cursor;
 use lexer::Span;
 use spec::ProgramHeading;
 use spec::Refusal;
 use spec::Word;
-use vocabulary::FoundWord;
-use word_numbers::least_of;
-use word_numbers::limit_of;
 ghost use mathlib.Core.Path.{_≡_};
 ghost use Rattle.spec.specs.Reading.{refuse};
 ghost use Rattle.lexer.specs.Cursors.{Placed};
@@ -100,13 +100,13 @@ pub fn step_line(text: &[u8], heading: ProgramHeading, cursor: Cursor) -> StepLi
     let field = cursor.field(text);
     let from = field.from;
     let to = field.to;
-    if vocabulary::same(&text[from..to], b"freelock") {
+    if keywords::same(&text[from..to], b"freelock") {
         return StepLine::Refused(freelock_line(text, heading, cursor, field));
     }
-    if vocabulary::same(&text[from..to], b"proc") {
+    if keywords::same(&text[from..to], b"proc") {
         return proc_line(text, heading, cursor, field);
     }
-    let FoundWord::Known(word) = vocabulary::word_under(&text[from..to], heading) else {
+    let FoundWord::Known(word) = keywords::word_under(&text[from..to], heading) else {
         return StepLine::Refused(Refusal::ProgramForm(line));
     };
     word_line(text, heading, cursor, field, word)

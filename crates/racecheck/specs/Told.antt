@@ -5,8 +5,8 @@ use Prim.Native.Nat.{ℕ}
 use Rattle.spec.specs.Verdict.{verdict, returned}
 use Rattle.spec.specs.Workspace.{workspaceSize}
 use Rattle.spec.specs.declared.Returned.{Returned}
-use Rattle.report.specs.declared.Outcome.{Outcome}
-use Rattle.report.specs.declared.Outcome.the-variants.{Answered, Unread}
+use Rattle.answers.specs.declared.line.Outcome.{Outcome}
+use Rattle.answers.specs.declared.line.Outcome.the-variants.{Answered, Unread}
 
 -- by an outcome
 unfoldable pub told : Outcome → Option Returned

@@ -1,16 +1,16 @@
 // Reads `program.txt` and `split.txt` in the current folder and writes one line: `ACCEPT`, `REFUSE,` and four numbers, or
-// `UNREAD`. The judging is in the library `checker`, the wording in `report`; here is only what meets the outside.
-use files::Contents;
-use files::read_program;
-use files::read_split;
-use files::tell;
-use files::write_all;
+// `UNREAD`. The judging is in the library `checker`, the wording in `answers`; here is only what meets the outside.
+use answers::Outcome;
+use file_io::Contents;
+use file_io::read_program;
+use file_io::read_split;
+use file_io::tell;
+use file_io::write_all;
 use libc::STDERR_FILENO;
-use report::Outcome;
 ghost use mathlib.Core.Path.{_≡_};
 ghost use mathlib.Core.Option.{some};
 ghost use lib.ListN.{length};
-ghost use Rattle.files.specs.Files.{Within, textIn};
+ghost use Rattle.file_io.specs.Files.{Within, textIn};
 ghost use Rattle.racecheck.specs.Told.{told, toldOf};
 
 // Judges two texts in a work space of its own.

@@ -5,10 +5,10 @@ use Prim.Native.Nat.{ℕ, _+_, _≤_, _<_}
 use native.Mathlib.Omega.{arith}
 use lib.ListN.{length, length-append}
 use Rattle.spec.specs.Text.{bytes}
-use Rattle.written.specs.Text.{decimal, line}
+use Rattle.text_theory.specs.Text.{decimal, line}
 use Rattle.writer.specs.Buffer.{WrittenAt}
 use Rattle.writer.proofs.Buffer.{written-length}
-use Rattle.written.proofs.Decimal.{decimal-length}
+use Rattle.text_theory.proofs.Decimal.{decimal-length}
 use Rattle.racedrill.specs.Line.{drillLine}
 
 module _ (x p s : ℕ) where

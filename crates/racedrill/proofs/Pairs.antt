@@ -12,7 +12,7 @@ use Rattle.spec.proofs.Clashes.{none-is-not-some}
 use Rattle.drill_theory.specs.Draw.{drawn, readersOf}
 use Rattle.drill_theory.specs.Pair.{programOf, splitOf}
 use Rattle.drill_theory.proofs.Accepted.{readers-drawable}
-use Rattle.written.specs.Text.{inFront}
+use Rattle.text_theory.specs.Text.{inFront}
 use Rattle.drill.specs.Answer.{Numbers, drilledNumbers, returnedBy, roomy, answerOf}
 use Rattle.drill.specs.declared.Drilled.{Drilled}
 use Rattle.drill.specs.declared.Drilled.the-variants as drilled

@@ -5,10 +5,10 @@ mod line;
 mod pair;
 mod seed;
 
-use files::Making;
-use files::make_file;
-use files::remove_file;
-use files::write_all;
+use file_io::Making;
+use file_io::make_file;
+use file_io::remove_file;
+use file_io::write_all;
 use libc::STDERR_FILENO;
 use libc::STDOUT_FILENO;
 use line::write_line;

@@ -15,13 +15,13 @@ use Rattle.spec.specs.declared.Answer.the-variants.{Refuse}
 use Rattle.spec.specs.declared.Refusal.{Refusal}
 use Rattle.spec.proofs.Refusals.{refusal-number}
 use Rattle.writer.specs.Buffer.{WrittenAt}
-use Rattle.report.specs.Line.{refusalLine, answerLine, outputLine}
-use Rattle.report.specs.declared.Outcome.the-variants.{Answered}
-use Rattle.report.specs.declared.Outcome.the-variants.{Unread as UnreadLine}
-use Rattle.files.specs.Files.{Within, textIn, InFront}
-use Rattle.files.specs.declared.Contents.{Contents}
-use Rattle.files.specs.declared.Contents.the-variants.{Unread}
-use Rattle.files.proofs.Buffers.{front, line-in-front}
+use Rattle.answers.specs.Line.{refusalLine, answerLine, outputLine}
+use Rattle.answers.specs.declared.line.Outcome.the-variants.{Answered}
+use Rattle.answers.specs.declared.line.Outcome.the-variants.{Unread as UnreadLine}
+use Rattle.file_io.specs.Files.{Within, textIn, InFront}
+use Rattle.file_io.specs.declared.Contents.{Contents}
+use Rattle.file_io.specs.declared.Contents.the-variants.{Unread}
+use Rattle.file_io.proofs.Buffers.{front, line-in-front}
 use Rattle.fill_theory.specs.Answer.{fill, returnedFor, bufferAfter}
 use Rattle.fill.specs.Numbers.{returnedBy}
 use Rattle.fill.specs.Stages.{OutcomePost}

@@ -6,8 +6,8 @@ use Rattle.spec.specs.Reading.{Result, refuse, ok}
 use Rattle.spec.specs.Split.{splitLimit}
 use Rattle.spec.specs.Workspace.{workspaceSize}
 use Rattle.spec.specs.declared.Answer.the-variants.{Refuse}
-use Rattle.report.specs.Line.{outputLine}
-use Rattle.report.specs.declared.Outcome.the-variants.{Answered, Unread}
+use Rattle.answers.specs.Line.{outputLine}
+use Rattle.answers.specs.declared.line.Outcome.the-variants.{Answered, Unread}
 use Rattle.fill_theory.specs.Answer.{fill}
 
 -- the whole sheet, or the line of a refusal

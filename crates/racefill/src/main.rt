@@ -1,24 +1,24 @@
 // Reads `program.txt` and `split.txt` in the current folder, a split whose step lines leave their maps out, and writes the whole
-// sheet, or one line: `REFUSE,` and four numbers, or `UNREAD`. The filling is in the library `fill`, the wording in `report`; here
+// sheet, or one line: `REFUSE,` and four numbers, or `UNREAD`. The filling is in the library `fill`, the wording in `answers`; here
 // is only what meets the outside.
-use files::Contents;
-use files::read_program;
-use files::read_split;
-use files::tell;
-use files::write_all;
+use answers::Outcome;
+use answers::write_line;
+use file_io::Contents;
+use file_io::read_program;
+use file_io::read_split;
+use file_io::tell;
+use file_io::write_all;
 use fill::Filled;
 use fill::fill;
 use libc::STDERR_FILENO;
 use libc::STDOUT_FILENO;
-use report::Outcome;
-use report::write_line;
 use spec::Answer;
 ghost use mathlib.Core.Path.{_≡_};
 ghost use lib.ListN.{length};
 ghost use Rattle.spec.specs.Split.{splitLimit};
 ghost use Rattle.spec.specs.Workspace.{workspaceSize};
 ghost use Rattle.fill_theory.specs.Answer.{fill as filling};
-ghost use Rattle.files.specs.Files.{Within, textIn, InFront};
+ghost use Rattle.file_io.specs.Files.{Within, textIn, InFront};
 ghost use Rattle.racefill.specs.Output.{outputOf, outputFor};
 
 // Makes what is written for two texts, in front of a buffer that has room for any sheet, and hands back its length.

@@ -1,7 +1,7 @@
 // A trace that comes through a buffer: its lines are handed on to the replay, and the front of a line that the buffer's end has cut is carried
 // over to the next filling.
-use play::Point;
 use replay::more;
+use replay_loop::Point;
 ghost use mathlib.Core.Path.{_≡_};
 ghost use mathlib.Core.Bool.{true};
 ghost use mathlib.Core.List.{List};

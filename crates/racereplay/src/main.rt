@@ -1,30 +1,30 @@
 // Reads `program.txt` and `trace.txt` in the current folder and writes one line: `RAN,` or `RACE,` and what the replay reports, `REFUSE,`
-// and four numbers with what it reports, or `UNREAD`. The replay is in the library `replay`, the wording in `replay_line`; here is only
+// and four numbers with what it reports, or `UNREAD`. The replay is in the library `replay`, the wording in `replay_answers`; here is only
 // what meets the outside.
 mod buffered;
 
 use buffered::take_in;
-use files::Contents;
-use files::fill;
-use files::open_trace;
-use files::read_program;
-use files::write_all;
+use file_io::Contents;
+use file_io::fill;
+use file_io::open_trace;
+use file_io::read_program;
+use file_io::write_all;
 use libc::STDERR_FILENO;
 use libc::STDOUT_FILENO;
-use play::Point;
 use replay::begin;
 use replay::more;
 use replay::told;
-use replay_line::Outcome;
-use replay_line::write_line;
+use replay_answers::Outcome;
+use replay_answers::write_line;
+use replay_loop::Point;
 ghost use mathlib.Core.Path.{_≡_};
 ghost use mathlib.Core.Bool.{true};
 ghost use mathlib.Core.List.{List, _++_};
 ghost use Prim.Native.Nat.{ℕ, _+_, _<_};
 ghost use lib.ListN.{length};
 ghost use Rattle.replay_theory.specs.Replay.{replay as replayed};
-ghost use Rattle.replay_line.specs.Line.{outputLine};
-ghost use Rattle.replay_line.specs.declared.Outcome.the-variants.{Ran};
+ghost use Rattle.replay_answers.specs.Line.{outputLine};
+ghost use Rattle.replay_answers.specs.declared.line.Outcome.the-variants.{Ran};
 ghost use Rattle.replay.specs.Pieces.{endsLine, RunOf};
 
 // What a run comes to behind the last bytes of its trace.

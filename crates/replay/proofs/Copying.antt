@@ -6,7 +6,7 @@ use native.Mathlib.Omega.{arith}
 use native.Mathlib.Decide.{ℕ-discrete}
 use lib.ListN.{length, getD, set, length-set}
 use lib.Seq.{getD-set-same, getD-set-other}
-use Rattle.control.specs.Layout.{continuationsAt, programSize}
+use Rattle.replay_control.specs.Layout.{continuationsAt, programSize}
 use Rattle.replay.specs.Start.{Copied}
 
 -- the places below i are copied

@@ -7,7 +7,7 @@ use lib.ListN.{length, take, drop, length-append, length-drop, List·getD-append
 use lib.Seq.{length-take-le}
 use Rattle.program.specs.Sheet.{ProgramIs}
 use Rattle.program.specs.declared.ProgramRead.{ProgramRead}
-use Rattle.control.specs.Layout.{continuationsAt}
+use Rattle.replay_control.specs.Layout.{continuationsAt}
 use Rattle.replay.specs.Start.{SheetIn}
 
 -- The first N numbers of s are lent, and come back as x. N is a variable here, since `take 16384` would be computed.

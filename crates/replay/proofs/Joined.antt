@@ -8,14 +8,14 @@ use lib.Dec.{eqb}
 use lib.ListN.{length}
 use Rattle.spec.specs.Choice.{if_then_else_}
 use Rattle.spec.specs.Text.{Line, closed, unclosed, onLine, lines}
-use Rattle.control.specs.Layout.{spaceSize}
+use Rattle.replay_control.specs.Layout.{spaceSize}
 use Rattle.replay_theory.specs.declared.Ending.{Ending}
 use Rattle.replay_theory.specs.declared.Replayed.{Replayed}
-use Rattle.machine.specs.Replay.{playFrom}
-use Rattle.play.specs.declared.Progress.{Progress}
-use Rattle.play.specs.declared.Progress.the-variants.{Stops, Goes}
-use Rattle.play.specs.declared.Point.{Point}
-use Rattle.play.specs.Play.{LoopPre, GoesTo, LoopPost}
+use Rattle.replay_machine.specs.Replay.{playFrom}
+use Rattle.replay_loop.specs.declared.Progress.{Progress}
+use Rattle.replay_loop.specs.declared.Progress.the-variants.{Stops, Goes}
+use Rattle.replay_loop.specs.declared.Point.{Point}
+use Rattle.replay_loop.specs.Play.{LoopPre, GoesTo, LoopPost}
 use Rattle.replay.specs.Pieces.{endsLine, tellingBy, telling}
 
 -- ------------------------------------------------------------------ lines behind lines

@@ -9,7 +9,7 @@ use Rattle.replay_theory.specs.Replay.{replaySpace, replay, returnedFor}
 use Rattle.replay_theory.specs.Claim.{TraceFollowed, RaceFound, NoneIfAccepted}
 use Rattle.replay_theory.specs.declared.Replayed.{Replayed}
 use Rattle.replay_theory.proofs.Reported.{trace-is-followed, race-is-found, none-if-accepted}
-use Rattle.control.specs.Layout.{spaceSize}
+use Rattle.replay_control.specs.Layout.{spaceSize}
 
 -- ------------------------------------------------------------------ the space
 

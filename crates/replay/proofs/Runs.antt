@@ -10,16 +10,16 @@ use Rattle.spec.specs.Text.{Line, lines}
 use Rattle.spec.specs.Reading.{Result, refuse, ok}
 use Rattle.spec.specs.Program.{Program}
 use Rattle.spec.specs.declared.Refusal.{Refusal}
-use Rattle.control.specs.Layout.{spaceSize}
+use Rattle.replay_control.specs.Layout.{spaceSize}
 use Rattle.replay_theory.specs.Replay as definition
 use Rattle.replay_theory.specs.Replay.{replaySpace, judged, refused}
 use Rattle.replay_theory.specs.declared.Ending.{Ending}
 use Rattle.replay_theory.specs.declared.Replayed.{Replayed}
-use Rattle.machine.specs.Replay.{startReplay, ended, play, replayed, replay}
-use Rattle.machine.proofs.Replay.{machine-replays}
-use Rattle.play.specs.declared.Progress.the-variants.{Stops}
-use Rattle.play.specs.declared.Point.{Point}
-use Rattle.play.specs.Play.{LoopPost}
+use Rattle.replay_machine.specs.Replay.{startReplay, ended, play, replayed, replay}
+use Rattle.replay_machine.proofs.Replay.{machine-replays}
+use Rattle.replay_loop.specs.declared.Progress.the-variants.{Stops}
+use Rattle.replay_loop.specs.declared.Point.{Point}
+use Rattle.replay_loop.specs.Play.{LoopPost}
 use Rattle.replay.specs.Start.{refusedPoint}
 use Rattle.replay.specs.Pieces.{endsLine, tellingBy, telling, RunOf}
 use Rattle.replay.proofs.Starting.{room-enough}

@@ -20,25 +20,25 @@ use Rattle.workspace.proofs.Held.{ends-length, body-sized, root-sized}
 use Rattle.workspace.proofs.Expression.{codes, values, linesOf, Standing}
 use Rattle.workspace.proofs.Bodies.{AllHere, all-here}
 use Rattle.threads.specs.declared.Threads.{Threads}
-use Rattle.control.specs.Layout.{continuationsAt, spaceSize}
-use Rattle.control.specs.Control.{firstOf}
-use Rattle.control.specs.Continuations.{linked}
-use Rattle.engine.specs.Steps.{startOf}
+use Rattle.replay_control.specs.Layout.{continuationsAt, spaceSize}
+use Rattle.replay_control.specs.Control.{firstOf}
+use Rattle.replay_control.specs.Continuations.{linked}
+use Rattle.replay_engine.specs.Steps.{startOf}
 use Rattle.program.specs.Sheet.{Answered}
 use Rattle.program.specs.declared.ProgramRead.{ProgramRead}
 use Rattle.program.specs.declared.ProgramRead.the-variants.{Read, Refused}
 use Rattle.replay_theory.specs.Replay.{replaySpace, judged}
 use Rattle.replay_theory.specs.declared.FirstRace.{FirstRace}
 use Rattle.replay_theory.specs.declared.FirstRace.the-variants.{None}
-use Rattle.machine.specs.Replay.{startReplay, orRace, playFrom, play}
-use Rattle.simulation.proofs.Bodies.{allSize, AllStanding, FirstsAt, VariablesAt, ProgramStands, program-stands}
-use Rattle.simulation.proofs.Ranging.{ParametersLow, well-formed-ranged, well-formed-parameters}
-use Rattle.simulation.proofs.Holds.{Holds}
-use Rattle.simulation.proofs.Starting.{start-held}
-use Rattle.simulation.proofs.Racing.{lowest-pair-alike}
-use Rattle.simulation.proofs.Posting.{start-counts}
-use Rattle.play.specs.declared.Progress.the-variants.{Goes}
-use Rattle.play.specs.Play.{raceAfter, GoesTo}
+use Rattle.replay_machine.specs.Replay.{startReplay, orRace, playFrom, play}
+use Rattle.replay_simulation.proofs.Bodies.{allSize, AllStanding, FirstsAt, VariablesAt, ProgramStands, program-stands}
+use Rattle.replay_simulation.proofs.Ranging.{ParametersLow, well-formed-ranged, well-formed-parameters}
+use Rattle.replay_simulation.proofs.Holds.{Holds}
+use Rattle.replay_simulation.proofs.Starting.{start-held}
+use Rattle.replay_simulation.proofs.Racing.{lowest-pair-alike}
+use Rattle.replay_simulation.proofs.Posting.{start-counts}
+use Rattle.replay_loop.specs.declared.Progress.the-variants.{Goes}
+use Rattle.replay_loop.specs.Play.{raceAfter, GoesTo}
 use Rattle.replay.specs.Start.{Copied, HeldAs, Held}
 
 -- ------------------------------------------------------------------ the first point

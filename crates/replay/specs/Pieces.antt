@@ -8,11 +8,11 @@ use Rattle.spec.specs.Text.{lines}
 use Rattle.replay_theory.specs.Replay.{replaySpace, judged}
 use Rattle.replay_theory.specs.declared.Ending.the-variants.{Done}
 use Rattle.replay_theory.specs.declared.Replayed.{Replayed}
-use Rattle.machine.specs.Replay.{ended, replayed}
-use Rattle.play.specs.declared.Progress.{Progress}
-use Rattle.play.specs.declared.Progress.the-variants.{Stops, Goes}
-use Rattle.play.specs.declared.Point.{Point}
-use Rattle.play.specs.Play.{LoopPost}
+use Rattle.replay_machine.specs.Replay.{ended, replayed}
+use Rattle.replay_loop.specs.declared.Progress.{Progress}
+use Rattle.replay_loop.specs.declared.Progress.the-variants.{Stops, Goes}
+use Rattle.replay_loop.specs.declared.Point.{Point}
+use Rattle.replay_loop.specs.Play.{LoopPost}
 
 -- the text is empty, or ends with a line: its last byte is 10
 unfoldable pub endsLine : List ℕ → Bool

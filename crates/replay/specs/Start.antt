@@ -6,14 +6,14 @@ use lib.ListN.{length, getD}
 use Rattle.spec.specs.Program.{Program, program}
 use Rattle.program.specs.Sheet.{Answered}
 use Rattle.program.specs.declared.ProgramRead.{ProgramRead}
-use Rattle.control.specs.Layout.{continuationsAt, programSize, spaceSize}
+use Rattle.replay_control.specs.Layout.{continuationsAt, programSize, spaceSize}
 use Rattle.spec.specs.declared.Refusal.{Refusal}
 use Rattle.threads.specs.Threads.{started}
 use Rattle.replay_theory.specs.declared.Ending.the-variants.{Refused}
 use Rattle.replay_theory.specs.declared.FirstRace.the-variants.{None}
-use Rattle.play.specs.declared.Progress.the-variants.{Stops}
-use Rattle.play.specs.declared.Point.{Point}
-use Rattle.simulation.proofs.Bodies.{allSize, AllStanding, AllRanged, FirstsAt, VariablesAt, ProgramStands}
+use Rattle.replay_loop.specs.declared.Progress.the-variants.{Stops}
+use Rattle.replay_loop.specs.declared.Point.{Point}
+use Rattle.replay_simulation.proofs.Bodies.{allSize, AllStanding, AllRanged, FirstsAt, VariablesAt, ProgramStands}
 
 -- a program sheet has been read in the front of a space: what its reader leaves there, and what it answers
 pub record SheetIn (text s s′ : List ℕ) (r : ProgramRead) : Type 0 where

@@ -3,9 +3,9 @@
 mod pieces;
 mod start;
 
-use control::layout::PROGRAM;
 pub use pieces::more;
 pub use pieces::told;
+use replay_control::layout::PROGRAM;
 use replay_theory::Replayed;
 pub use start::begin;
 ghost use mathlib.Core.Path.{_≡_};

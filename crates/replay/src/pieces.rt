@@ -1,9 +1,9 @@
 // A replay whose trace comes in pieces: it begins with a program (`begin` in start.rt), and goes on with any number of pieces, each of them lines
 // of the trace. What it keeps between two calls is the job (the program as the run reads it), the space, and the run itself, a value.
-use control::layout::SPACE;
-use play::Point;
-use play::Progress;
-use play::play;
+use replay_control::layout::SPACE;
+use replay_loop::Point;
+use replay_loop::Progress;
+use replay_loop::play;
 use replay_theory::Ending;
 use replay_theory::Replayed;
 use replay_theory::Report;
@@ -15,7 +15,7 @@ ghost use lib.ListN.{length, drop};
 ghost use Rattle.spec.specs.Text.{Line, lines};
 ghost use Rattle.replay_theory.specs.Replay.{replaySpace, replay as replayed};
 ghost use Rattle.replay_theory.specs.declared.Replayed.{Replayed as Whole};
-ghost use Rattle.play.specs.Play.{LoopPost};
+ghost use Rattle.replay_loop.specs.Play.{LoopPost};
 ghost use Rattle.replay.specs.Pieces.{endsLine, telling, RunOf};
 
 // Goes on with the lines of a piece, in a space of just the size. A run whose counts have no room for them stays as it is.

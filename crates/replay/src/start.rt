@@ -1,12 +1,12 @@
 // The start of a replay: from the sheet that the space holds to the first line of the trace.
-use control::layout::CONTINUATIONS;
-use control::layout::PROGRAM;
-use control::layout::SPACE;
-use control::put;
-use play::Point;
-use play::Progress;
-use play::race_after;
 use program::ProgramRead;
+use replay_control::layout::CONTINUATIONS;
+use replay_control::layout::PROGRAM;
+use replay_control::layout::SPACE;
+use replay_control::put;
+use replay_loop::Point;
+use replay_loop::Progress;
+use replay_loop::race_after;
 use replay_theory::Ending;
 use replay_theory::FirstRace;
 use spec::Refusal;
@@ -19,10 +19,10 @@ ghost use Prim.Native.Nat.{_<_, _≤_};
 ghost use Rattle.spec.specs.Program.{Program};
 ghost use Rattle.spec.specs.declared.Refusal.the-variants.{ShortWorkspace};
 ghost use Rattle.replay_theory.specs.Replay.{replaySpace, judged, refused as refusedBy};
-ghost use Rattle.machine.specs.Replay.{startReplay, play as played, replayed as playedOf};
-ghost use Rattle.control.specs.Layout.{programSize};
-ghost use Rattle.simulation.proofs.Bodies.{ProgramStands};
-ghost use Rattle.play.specs.Play.{LoopPost};
+ghost use Rattle.replay_machine.specs.Replay.{startReplay, play as played, replayed as playedOf};
+ghost use Rattle.replay_control.specs.Layout.{programSize};
+ghost use Rattle.replay_simulation.proofs.Bodies.{ProgramStands};
+ghost use Rattle.replay_loop.specs.Play.{LoopPost};
 ghost use Rattle.replay.specs.Start.{SheetIn, Copied, Runs, HeldAs, Held, refusedPoint};
 ghost use Rattle.replay.specs.Pieces.{jobSize, telling, RunOf};
 
@@ -31,7 +31,7 @@ fn first_point(job: &[u32], space: &mut [u32]) -> Point
     requires { ⌜ Runs (now job) (now space) ⌝ }
     ensures { λ r. ⌜ ((P : Program) → ProgramStands (now (job .entry)) (P .procedures) (P .root) → LoopPost (r .progress) (played (startReplay P)) (now (job .entry)) (now (space .exit)) r) × (r .steps ≡ 0) ⌝ }
 {
-    let threads = engine::start(job, space);
+    let threads = replay_engine::start(job, space);
     let count = threads.count as u32;
     let race = race_after(job, space, count, FirstRace::None, 0);
     Point {
@@ -72,7 +72,7 @@ fn begin_held(job: &mut [u32], space: &mut [u32], steps: usize, procedures: usiz
     let n = steps as u32;
     let m = procedures as u32;
     copy_columns(job, space);
-    control::link(job, n, m);
+    replay_control::link(job, n, m);
     first_point(job, space)
 }
 

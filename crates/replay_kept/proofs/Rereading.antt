@@ -12,8 +12,8 @@ use Rattle.threads.specs.declared.Threads.{Threads}
 use Rattle.threads.specs.Records.{noRecord}
 use Rattle.replay_theory.specs.declared.FirstRace.{FirstRace}
 use Rattle.replay_theory.specs.declared.FirstRace.the-variants.{None, Found}
-use Rattle.replay_numbers.specs.declared.RaceNumbers.{RaceNumbers}
-use Rattle.replay_numbers.specs.Numbers.{raceNumbers}
+use Rattle.replay_answers.specs.declared.RaceNumbers.{RaceNumbers}
+use Rattle.replay_answers.specs.Numbers.{raceNumbers}
 use Rattle.replay_kept.specs.Kept.{racedNumber, recordIn, raceIn, RecordsKept, RaceKept}
 
 -- ------------------------------------------------------------------ the race

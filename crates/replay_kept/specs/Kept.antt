@@ -14,8 +14,8 @@ use Rattle.replay_theory.specs.declared.FirstRace.{FirstRace}
 use Rattle.replay_theory.specs.declared.FirstRace.the-variants.{None, Found}
 use Rattle.replay_theory.specs.declared.Replayed.{Replayed}
 use Rattle.replay_theory.specs.Replay.{returnedFor}
-use Rattle.replay_numbers.specs.declared.RaceNumbers.{RaceNumbers}
-use Rattle.replay_numbers.specs.Numbers.{answerTold, raceTold, raceNumbers}
+use Rattle.replay_answers.specs.declared.RaceNumbers.{RaceNumbers}
+use Rattle.replay_answers.specs.Numbers.{answerTold, raceTold, raceNumbers}
 use Rattle.replay_kept.specs.declared.numbers.Told.{Told}
 
 -- so many numbers keep a run

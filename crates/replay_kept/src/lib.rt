@@ -6,7 +6,7 @@ use lexer::narrow;
 pub use numbers::Told;
 pub use numbers::numbers_told;
 pub use numbers::short_told;
-use replay_numbers::RaceNumbers;
+use replay_answers::RaceNumbers;
 use replay_theory::FirstRace;
 use replay_theory::Numbers;
 use replay_theory::Status;

@@ -1,5 +1,5 @@
 // What a replay tells, in numbers.
-use replay_numbers::RaceNumbers;
+use replay_answers::RaceNumbers;
 use replay_theory::Ending;
 use replay_theory::FirstRace;
 use replay_theory::Numbers;
@@ -24,8 +24,8 @@ pub fn numbers_told(r: Replayed) -> Told
     let report = r.report;
     let steps = report.steps;
     let first = report.race;
-    let ending = replay_numbers::ending_numbers(end);
-    let race = replay_numbers::race_numbers(first);
+    let ending = replay_answers::ending_numbers(end);
+    let race = replay_answers::race_numbers(first);
     Told {
         ending,
         steps,

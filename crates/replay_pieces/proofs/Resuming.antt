@@ -11,12 +11,12 @@ use Rattle.replay_theory.specs.declared.Ending.{Ending}
 use Rattle.replay_theory.specs.declared.FirstRace.{FirstRace}
 use Rattle.replay_theory.specs.declared.Replayed.{Replayed}
 use Rattle.replay_theory.specs.Replay.{replay, judged, replaySpace, returnedFor}
-use Rattle.replay_numbers.specs.Numbers.{raceNumbers}
-use Rattle.machine.specs.Replay.{ended, replayed}
-use Rattle.play.specs.declared.Progress.{Progress}
-use Rattle.play.specs.declared.Progress.the-variants.{Stops, Goes}
-use Rattle.play.specs.declared.Point.{Point}
-use Rattle.play.specs.Play.{GoesTo, LoopPost}
+use Rattle.replay_answers.specs.Numbers.{raceNumbers}
+use Rattle.replay_machine.specs.Replay.{ended, replayed}
+use Rattle.replay_loop.specs.declared.Progress.{Progress}
+use Rattle.replay_loop.specs.declared.Progress.the-variants.{Stops, Goes}
+use Rattle.replay_loop.specs.declared.Point.{Point}
+use Rattle.replay_loop.specs.Play.{GoesTo, LoopPost}
 use Rattle.replay.specs.Pieces.{endsLine, tellingBy, telling, RunOf}
 use Rattle.replay.proofs.Runs.{stopped-run, told-replays}
 use Rattle.replay_kept.specs.declared.numbers.Told.{Told}

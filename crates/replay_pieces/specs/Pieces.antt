@@ -6,7 +6,7 @@ use mathlib.Core.List.{List}
 use lib.Dec.{leb}
 use lib.ListN.{length, take, drop}
 use Rattle.replay_theory.specs.Replay.{replay, returnedFor}
-use Rattle.play.specs.declared.Point.{Point}
+use Rattle.replay_loop.specs.declared.Point.{Point}
 use Rattle.replay.specs.Pieces.{jobSize, RunOf}
 use Rattle.replay_kept.specs.Kept.{keptSize}
 use Rattle.replay_pieces.specs.Runs.{Keeps}

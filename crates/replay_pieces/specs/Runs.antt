@@ -3,9 +3,9 @@ use Prim.Native.Nat.{ℕ}
 use mathlib.Core.Path.{_≡_}
 use mathlib.Core.List.{List}
 use lib.ListN.{getD}
-use Rattle.play.specs.declared.Progress.{Progress}
-use Rattle.play.specs.declared.Progress.the-variants.{Stops, Goes}
-use Rattle.play.specs.declared.Point.{Point}
+use Rattle.replay_loop.specs.declared.Progress.{Progress}
+use Rattle.replay_loop.specs.declared.Progress.the-variants.{Stops, Goes}
+use Rattle.replay_loop.specs.declared.Point.{Point}
 use Rattle.replay.specs.Pieces.{telling}
 use Rattle.replay_kept.specs.Kept.{toldNumbers, racedNumber, toldIn, RecordsKept}
 

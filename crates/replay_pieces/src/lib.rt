@@ -3,7 +3,7 @@
 // program as the run reads it, the space, and the run (crates/replay_kept).
 mod runs;
 
-use control::layout::PROGRAM;
+use replay_control::layout::PROGRAM;
 use replay_kept::GOES;
 use replay_kept::KEPT;
 use replay_kept::Told;

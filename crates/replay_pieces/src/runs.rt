@@ -1,6 +1,4 @@
 // A run as it is kept between two pieces. One that has stopped is told from its numbers, and never made anew.
-use play::Point;
-use play::Progress;
 use replay_kept::STEPS;
 use replay_kept::count_at;
 use replay_kept::keep_front;
@@ -9,9 +7,11 @@ use replay_kept::numbers_told;
 use replay_kept::race_in;
 use replay_kept::raced_number;
 use replay_kept::threads_in;
+use replay_loop::Point;
+use replay_loop::Progress;
 ghost use mathlib.Core.Path.{_≡_};
 ghost use lib.ListN.{length};
-ghost use Rattle.play.specs.declared.Point.{Point as Run};
+ghost use Rattle.replay_loop.specs.declared.Point.{Point as Run};
 ghost use Rattle.replay.specs.Pieces.{telling};
 ghost use Rattle.replay_kept.specs.Kept.{keptSize, toldNumbers};
 ghost use Rattle.replay_pieces.specs.Runs.{goesNumber, atStart, Keeps};

@@ -1,4 +1,4 @@
--- Replays with what they come to, as tables; crates/replays computes those that go to a limit. The bar (|) stands for byte 10.
+-- Replays with what they come to, as tables; crates/replay_examples computes those that go to a limit. The bar (|) stands for byte 10.
 use Prim.Native.Nat.{ℕ}
 use Prim.Native.String.{String, _++_}
 use mathlib.Core.Path.{_≡_}

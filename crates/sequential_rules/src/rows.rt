@@ -5,12 +5,12 @@ use conditions::and_then;
 use conditions::holds_at_least;
 use conditions::may_show;
 use conditions::type_false;
-use rules::at_least;
-use rules::equal;
-use rules::sum;
+use rule_rows::StepView;
+use rule_rows::at_least;
+use rule_rows::equal;
+use rule_rows::sum;
 use spec::Ruling;
 use spec::TypeLine;
-use views::StepView;
 use workspace::type_at;
 ghost use mathlib.Core.Path.{_≡_};
 ghost use Rattle.conditions.specs.Outcome.{outcome, firstFalseFrom};
@@ -18,7 +18,7 @@ ghost use Rattle.spec.specs.declared.Word.the-variants.{Leaf, Unary, Binary};
 ghost use Rattle.spec.specs.declared.LeafWord.the-variants.{Var, Int};
 ghost use Rattle.spec.specs.declared.UnaryWord.the-variants.{While, Ref, Read, Call};
 ghost use Rattle.spec.specs.declared.BinaryWord.the-variants.{Let, If, Write};
-ghost use Rattle.rules.specs.Table.{rowIn};
+ghost use Rattle.rule_rows.specs.Table.{rowIn};
 
 // VAR: 1 type is that of its let's e1, or for a lock a looser one; 2 post = pre.
 pub fn check_var(work: &[u32], s: StepView) -> Ruling

@@ -16,7 +16,7 @@ pub starred-pairs : Answered starred
 unfolding Answered found _with_is_ P S Z starred
 starred-pairs = refl
 
--- edge rows beside which nothing here tells a wrong definition of must-fail from the right one; crates/pairs has all edge rows
+-- edge rows beside which nothing here tells a wrong definition of must-fail from the right one; crates/compatibility has all edge rows
 pub record TellingRows : Type 0 where
   pub counts : Answered countRows
   pub locations : Answered intRows

@@ -1,7 +1,7 @@
 -- What the ranges of a split sheet's lines come to: every number that is used as one of its kind is one of its kind.
 -- This is no part of document 01's meaning, and no promise reaches it: it need not be believed. Well-formed sheets have it
 -- (proofs/Ranges.antt), and so does a split that filling has filled in, which is no sheet yet. It stands here because what the work
--- space holds (crates/workspace) and what can be written (crates/written) are both said with it, and of the crates below them there is
+-- space holds (crates/workspace) and what can be written (crates/text_theory) are both said with it, and of the crates below them there is
 -- only this one.
 use mathlib.Core.Path.{_≡_}
 use mathlib.Core.List.{List, [], _∷_}

@@ -24,7 +24,7 @@ use Rattle.workspace.proofs.Steps.{steps-kept}
 use Rattle.split_fields.specs.declared.LinesRead.{LinesRead}
 use Rattle.split_fields.specs.declared.LinesRead.the-variants as lines-read
 use Rattle.split_fields.specs.Answers.{SplitCursor}
-use Rattle.split_sections.specs.Stored.{HoldsTypes, HoldsRows, HoldsMaps, HoldsSignatures, EmptyStored, Storing, StoringRows, StoringSignatures, LinesAnswer, TypesRead, MapsRead, SignaturesRead, RowsRead}
+use Rattle.split.specs.Stored.{HoldsTypes, HoldsRows, HoldsMaps, HoldsSignatures, EmptyStored, Storing, StoringRows, StoringSignatures, LinesAnswer, TypesRead, MapsRead, SignaturesRead, RowsRead}
 use Rattle.split.specs.Sheet.{StoringBody, body, EndAnswer, BodyAnswer, BodyRead}
 
 module _ (purpose : Purpose) {text : List ℕ} {c : Cursor} {h : Header} {n k : ℕ} {w : List ℕ} (pre : StoringBody text c h n k w)

@@ -16,7 +16,7 @@ use Rattle.workspace.specs.Steps.{stepsFrom}
 use Rattle.lexer.specs.declared.Cursor.{Cursor}
 use Rattle.split_fields.specs.declared.LinesRead.{LinesRead}
 use Rattle.split_fields.specs.declared.LinesRead.the-variants as lines-read
-use Rattle.split_sections.specs.Stored.{Storing}
+use Rattle.split.specs.Stored.{Storing}
 use Rattle.split.specs.declared.Sheet.{Sheet}
 use Rattle.split.specs.declared.Sheet.the-variants as sheet
 use Rattle.workspace.specs.Sheets.{Small}

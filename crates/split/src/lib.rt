@@ -1,16 +1,21 @@
-// The split sheet, read into the work space line by line: its header, types, maps, signatures and rows.
+// The split sheet, read into the work space line by line: its header, then the sections behind it, types, maps, signatures and rows.
+mod map_lines;
+mod row_lines;
+mod signature_lines;
+mod type_lines;
+
 use lexer::Cursor;
+use map_lines::read_maps;
+use map_lines::store_empty;
+use row_lines::read_rows;
+use signature_lines::read_signatures;
 use spec::Header;
 use spec::Purpose;
 use spec::Refusal;
 use split_fields::LinesRead;
 use split_header::HeaderLine;
 use split_header::header_line;
-use split_sections::read_maps;
-use split_sections::read_rows;
-use split_sections::read_signatures;
-use split_sections::read_types;
-use split_sections::store_empty;
+use type_lines::read_types;
 ghost use Rattle.spec.specs.Reading.{splitSheet, end};
 ghost use Rattle.lexer.specs.Cursors.{placeAt};
 ghost use Rattle.split_fields.specs.Answers.{SplitCursor};

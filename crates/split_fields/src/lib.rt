@@ -1,11 +1,18 @@
 // What the lines of a split sheet share: their fields, which are the first one, a number with a comma behind it, and the m and
-// the s of a step line; two numbers in their ranges; and the answer to lines that are stored.
+// the s of a step line; two numbers in their ranges; and the answer to lines that are stored. `starts` has what the s may be.
+mod starts;
+
 use lexer::Cursor;
 use lexer::FieldEnd;
 use lexer::Number;
 use lexer::Numeral;
 use spec::Purpose;
 use spec::Refusal;
+pub use starts::RowStart;
+pub use starts::empty_refusal;
+pub use starts::may_be_empty;
+pub use starts::start_limit;
+pub use starts::start_number;
 ghost use mathlib.Core.Path.{_≡_};
 ghost use mathlib.Core.List.{[], _∷_};
 ghost use Rattle.spec.specs.Reading.{below, allInRange};

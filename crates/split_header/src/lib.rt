@@ -46,16 +46,16 @@ enum FoundHeader {
 fn heading_of(field: &[u8], purpose: Purpose) -> FoundHeading
     ensures { λ r. ⌜ r ≡ headingFound (lookUp (headings purpose) (now (field .entry))) ⌝ }
 {
-    if vocabulary::same(b"C", field) {
+    if keywords::same(b"C", field) {
         return match purpose {
             Purpose::Check => FoundHeading::Known(Heading::C),
             Purpose::Fill => FoundHeading::Unknown,
         };
     }
-    if vocabulary::same(b"C2", field) {
+    if keywords::same(b"C2", field) {
         return FoundHeading::Known(Heading::C2);
     }
-    if vocabulary::same(b"C3", field) {
+    if keywords::same(b"C3", field) {
         return FoundHeading::Known(Heading::C3);
     }
     FoundHeading::Unknown

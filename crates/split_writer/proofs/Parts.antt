@@ -18,9 +18,9 @@ use Rattle.spec.specs.declared.Location.{Location}
 use Rattle.spec.specs.declared.TypeLine.{TypeLine}
 use Rattle.spec.specs.declared.TypeLine.the-variants.{Int, Ref, Lock, Tid, Sem, Rwlock}
 use Rattle.workspace.specs.Layout.{rowTypesAt, postsAt, startsAt, sigBeforesAt, sigArgumentsAt, sigAftersAt, sigResultsAt, mapsAt, stride, emptyMap}
-use Rattle.written.specs.Text.{decimal, line, text}
-use Rattle.written.specs.Sheet.{headingName, headerNumbers, headerFields, outNumber, typeFields, mapFields, signatureFields, postShown, startShown, rowFields, splitLines, sheetText}
-use Rattle.written.proofs.Lines.{text-append}
+use Rattle.text_theory.specs.Text.{decimal, line, text}
+use Rattle.text_theory.specs.Sheet.{headingName, headerNumbers, headerFields, outNumber, typeFields, mapFields, signatureFields, postShown, startShown, rowFields, splitLines, sheetText}
+use Rattle.text_theory.proofs.Lines.{text-append}
 use Rattle.split_writer.specs.Stored.{inOrder, typeStored, mapIn, signatureIn, startStored, rowIn, splitIn}
 
 -- ------------------------------------------------------------------ lines in order

@@ -9,7 +9,7 @@ use Rattle.spec.specs.Ranges.{InRange}
 use Rattle.workspace.specs.Holds.{HoldsSplit}
 use Rattle.spec.specs.declared.Header.{Header}
 use Rattle.writer.specs.Buffer.{WrittenAt}
-use Rattle.written.specs.Sheet.{sheetText}
+use Rattle.text_theory.specs.Sheet.{sheetText}
 
 -- the work space w holds the split S, its numbers in range, with this header, a line for each of so many procedures and a row for each
 -- of so many steps

@@ -25,9 +25,9 @@ use Rattle.workspace.specs.Layout.{postsAt, startsAt, presAt}
 use Rattle.workspace.proofs.Codes.{word-of-code}
 use Rattle.workspace.proofs.Shown.{Stands, post-at, start-at}
 use Rattle.workspace.proofs.Expression.{here-index, leaf-code, unary-code, binary-code, here-first, here-second-at}
-use Rattle.views.specs.StepView.{cell}
-use Rattle.one_step.specs.Outcome.{stepOutcome}
-use Rattle.one_step.proofs.OneStep.{Ready, below, step-shown}
+use Rattle.rule_rows.specs.StepView.{cell}
+use Rattle.rule_table.specs.Outcome.{stepOutcome}
+use Rattle.rule_table.proofs.OneStep.{Ready, below, step-shown}
 use Rattle.step_walk.specs.Walk.{counted, putPre, passWord, passOn}
 use Rattle.step_walk.proofs.Asked.{row-counted}
 use Rattle.step_walk.proofs.Claims.{firstAsked}

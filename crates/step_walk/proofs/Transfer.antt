@@ -30,10 +30,10 @@ use Rattle.workspace.proofs.Expression.{Here, here-kept, here-index, here-part,
 use Rattle.workspace.proofs.Sheets.{split-kept-by-pres}
 use Rattle.conditions.specs.Outcome.{both}
 use Rattle.conditions.proofs.FirstFalse.{both-met, both-assoc}
-use Rattle.views.specs.StepView.{cell}
-use Rattle.views.proofs.Scopes.{by-let, Scoped, scoped-second}
-use Rattle.one_step.specs.Outcome.{stepOutcome}
-use Rattle.one_step.proofs.OneStep.{Ready}
+use Rattle.rule_rows.specs.StepView.{cell}
+use Rattle.rule_rows.proofs.Scopes.{by-let, Scoped, scoped-second}
+use Rattle.rule_table.specs.Outcome.{stepOutcome}
+use Rattle.rule_table.proofs.OneStep.{Ready}
 use Rattle.step_walk.specs.Walk.{counted, putPre, passOn, walk}
 use Rattle.step_walk.proofs.Walking.{put-before, put-within, put-at, put-other}
 use Rattle.step_walk.proofs.Claims.{firstAsked, claims-first, claims-one, claims-append}

@@ -19,8 +19,8 @@ use Rattle.workspace.specs.Layout.{wordsAt, presAt, wordOf}
 use Rattle.workspace.specs.Region.{ChangedWithin}
 use Rattle.workspace.proofs.Region.{changed-nothing, changed-store, changed-then}
 use Rattle.conditions.specs.Outcome.{both}
-use Rattle.views.specs.StepView.{cell}
-use Rattle.one_step.specs.Outcome.{stepOutcome}
+use Rattle.rule_rows.specs.StepView.{cell}
+use Rattle.rule_table.specs.Outcome.{stepOutcome}
 use Rattle.step_walk.specs.Walk.{counted, putPre, passWord, passOn, walk}
 
 module _ (purpose : Purpose) (locations denominator : ℕ) (w : List ℕ) (k n : ℕ) where

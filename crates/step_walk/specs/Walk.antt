@@ -17,8 +17,8 @@ use Rattle.spec.specs.declared.Word.{Word}
 use Rattle.spec.specs.declared.Word.the-variants.{Leaf, Unary, Binary}
 use Rattle.workspace.specs.Layout.{wordsAt, endsAt, postsAt, startsAt, presAt, wordOf}
 use Rattle.conditions.specs.Outcome.{both}
-use Rattle.views.specs.StepView.{cell}
-use Rattle.one_step.specs.Outcome.{stepOutcome}
+use Rattle.rule_rows.specs.StepView.{cell}
+use Rattle.rule_table.specs.Outcome.{stepOutcome}
 
 -- whether a refusal is on types: one on flow or access, 32 or 33, is not
 unfoldable pub refusesTypes : Refusal → Bool

@@ -1,5 +1,6 @@
 // The steps in line order. Each is judged once the map before it is known, and hands down the maps before its parts.
-use one_step::check_step;
+use rule_rows::cell;
+use rule_table::check_step;
 use spec::BinaryWord;
 use spec::MapNumber;
 use spec::Purpose;
@@ -7,7 +8,6 @@ use spec::Refusal;
 use spec::Ruling;
 use spec::UnaryWord;
 use spec::Word;
-use views::cell;
 use workspace::ENDS;
 use workspace::POSTS;
 use workspace::PRES;

@@ -79,7 +79,7 @@ fn answer_to(line: &[u8], work: &mut [u32]) -> Answer {
 
 // The four numbers that an answer returns, parted by commas.
 fn write_numbers(answer: Answer) {
-    let four = returned::numbers_of(answer);
+    let four = answers::numbers_of(answer);
     io::print_decimal(STDOUT_FILENO, four.number as u64);
     io::write_all(STDOUT_FILENO, b",");
     io::print_decimal(STDOUT_FILENO, four.line as u64);

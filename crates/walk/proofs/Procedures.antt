@@ -29,10 +29,10 @@ use Rattle.workspace.proofs.Sheets.{program-here, program-sized, root-here, roo
 use Rattle.conditions.specs.Outcome.{both}
 use Rattle.conditions.specs.SheetOutcomes.{startOutcome}
 use Rattle.conditions.proofs.Shown.{within-shown}
-use Rattle.views.specs.StepView.{cell}
-use Rattle.views.proofs.Scopes.{by-procedure, scoped-none, scoped-more}
-use Rattle.views.proofs.Views.{part-at, signed}
-use Rattle.rules.proofs.TableRows.{procedure-shown}
+use Rattle.rule_rows.specs.StepView.{cell}
+use Rattle.rule_rows.proofs.Scopes.{by-procedure, scoped-none, scoped-more}
+use Rattle.rule_rows.proofs.Views.{part-at, signed}
+use Rattle.rule_rows.proofs.TableRows.{procedure-shown}
 use Rattle.step_walk.specs.Walk.{counted, putPre, walk}
 use Rattle.walk.specs.Bodies.{procedureOutcome, bodyOutcome}
 use Rattle.walk.specs.Contract.{ruledFor}

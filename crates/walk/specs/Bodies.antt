@@ -5,8 +5,8 @@ use Rattle.spec.specs.Reading.{Result}
 use Rattle.spec.specs.declared.Purpose.{Purpose}
 use Rattle.workspace.specs.Layout.{procLinesAt, procFirstsAt, rowTypesAt, postsAt, sigBeforesAt}
 use Rattle.conditions.specs.Outcome.{both, firstFalseFrom}
-use Rattle.views.specs.StepView.{cell, signatureOf}
-use Rattle.rules.specs.Table.{procedureRow}
+use Rattle.rule_rows.specs.StepView.{cell, signatureOf}
+use Rattle.rule_rows.specs.Table.{procedureRow}
 use Rattle.step_walk.specs.Walk.{counted, putPre, walk}
 
 -- the conditions at the `proc` line of procedure f: its body begins where the next step stands

@@ -1,4 +1,6 @@
 // The bodies of the procedures, called or not, then the root.
+use rule_rows::cell;
+use rule_rows::signature_of;
 use sequential_rules::check_procedure;
 use spec::MapNumber;
 use spec::Purpose;
@@ -6,8 +8,6 @@ use spec::Ruling;
 use spec::TypeNumber;
 use step_walk::check_steps;
 use step_walk::refuses;
-use views::cell;
-use views::signature_of;
 use workspace::POSTS;
 use workspace::PROC_FIRSTS;
 use workspace::PROC_LINES;

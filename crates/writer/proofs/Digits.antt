@@ -6,8 +6,8 @@ use native.Mathlib.Nat.{le-refl, mod-lt, div-add-mod'}
 use native.Mathlib.Omega.{arith}
 use lib.Dec.{lit<}
 use lib.ListN.{length, set, length-set, length-append}
-use Rattle.written.specs.Text.{digit, decimal}
-use Rattle.written.proofs.Decimal.{decimal-small, decimal-large, decimal-length, decimal-long}
+use Rattle.text_theory.specs.Text.{digit, decimal}
+use Rattle.text_theory.proofs.Decimal.{decimal-small, decimal-large, decimal-length, decimal-long}
 use Rattle.writer.specs.Buffer.{overwrite}
 use Rattle.writer.proofs.Buffer.{overwrite-append, overwrite-behind}
 

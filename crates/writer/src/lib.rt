@@ -4,7 +4,7 @@ ghost use mathlib.Core.Path.{_≡_};
 ghost use mathlib.Core.List.{[], _∷_, _++_, map};
 ghost use Prim.Native.Nat.{_+_, _≤_, _<_};
 ghost use lib.ListN.{length, set};
-ghost use Rattle.written.specs.Text.{digit as digitOf, decimal, line};
+ghost use Rattle.text_theory.specs.Text.{digit as digitOf, decimal, line};
 ghost use Rattle.writer.specs.Buffer.{WrittenAt, counted, overwrite};
 
 // The last place that is counted.

@@ -1,7 +1,7 @@
 -- By what was read: a refusal is the answer, else the rules give it.
 use mathlib.Core.Path.{_∙_}
 use Rattle.spec.specs.declared.Purpose.the-variants.{Check}
-use Rattle.reading.proofs.Found.{held-by}
+use Rattle.sheets.proofs.Found.{held-by}
 use Rattle.checker.proofs.Stages.{sheet-refused, sheets-ruled}
 use borrow.Author.Needs.{needs}
 use Rattle.checker.proofs.check_texts.Statement.{statement}

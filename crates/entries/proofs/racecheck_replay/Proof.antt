@@ -2,7 +2,7 @@
 use mathlib.Core.Path.{refl, sym, _∙_, ap}
 use Rattle.replay_theory.specs.declared.Numbers.{Numbers}
 use Rattle.replay_theory.specs.declared.Report.{Report}
-use Rattle.replay_numbers.specs.Numbers.{raceNumbers}
+use Rattle.replay_answers.specs.Numbers.{raceNumbers}
 use borrow.Author.Needs.{needs}
 use Rattle.entries.proofs.racecheck_replay.Statement.{statement}
 use Rattle.entries.proofs.racecheck_replay.Tie as tie

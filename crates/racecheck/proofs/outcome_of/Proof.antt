@@ -1,7 +1,7 @@
 -- A file that can't be read is told as such; else both texts are judged.
 use mathlib.Core.Path.{sym, _∙_}
 use borrow.Author.Needs.{needs}
-use Rattle.files.proofs.Buffers.{bytes-part, text-read}
+use Rattle.file_io.proofs.Buffers.{bytes-part, text-read}
 use Rattle.racecheck.specs.Told.{told, toldOf}
 use Rattle.racecheck.proofs.outcome_of.Statement.{statement}
 use Rattle.racecheck.proofs.outcome_of.Tie as tie

@@ -3,8 +3,8 @@ use mathlib.Core.Path.{sym, subst}
 use mathlib.Core.List.{List}
 use Prim.Native.Nat.{ℕ}
 use borrow.Author.Needs.{needs}
-use Rattle.files.specs.Files.{InFront}
-use Rattle.files.proofs.Buffers.{bytes-part, text-read}
+use Rattle.file_io.specs.Files.{InFront}
+use Rattle.file_io.proofs.Buffers.{bytes-part, text-read}
 use Rattle.racefill.specs.Output.{outputFor}
 use Rattle.racefill.proofs.Outputs.{program-unread, split-unread}
 use Rattle.racefill.proofs.output_of.Statement.{statement}

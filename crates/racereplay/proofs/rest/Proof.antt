@@ -3,7 +3,7 @@ use Prim.Native.Nat.{ℕ}
 use mathlib.Core.List.{_++_}
 use mathlib.Core.Path.{_∙_, ap}
 use Rattle.replay_theory.specs.Replay.{replay}
-use Rattle.replay_line.specs.declared.Outcome.the-variants.{Ran}
+use Rattle.replay_answers.specs.declared.line.Outcome.the-variants.{Ran}
 use borrow.Author.Needs.{needs}
 use Rattle.racereplay.proofs.rest.Statement.{statement}
 use Rattle.racereplay.proofs.rest.Tie as tie

@@ -1,7 +1,7 @@
 -- The program is a part of its buffer.
 use native.Mathlib.Omega.{arith}
 use borrow.Author.Needs.{needs}
-use Rattle.files.proofs.Buffers.{bytes-within, bytes-part}
+use Rattle.file_io.proofs.Buffers.{bytes-within, bytes-part}
 use Rattle.racereplay.proofs.run.Statement.{statement}
 use Rattle.racereplay.proofs.run.Tie as tie
 

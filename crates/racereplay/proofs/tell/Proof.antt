@@ -2,7 +2,7 @@
 use mathlib.Core.Path.{sym}
 use native.Mathlib.Omega.{arith}
 use lib.Seq.{length-take-le}
-use Rattle.files.proofs.Buffers.{line-in-front}
+use Rattle.file_io.proofs.Buffers.{line-in-front}
 use borrow.Author.Needs.{needs}
 use Rattle.racereplay.proofs.tell.Statement.{statement}
 use Rattle.racereplay.proofs.tell.Tie as tie

@@ -1,4 +1,4 @@
-use Rattle.written.specs.Sheet.{outNumber}
+use Rattle.text_theory.specs.Sheet.{outNumber}
 use borrow.Author.Needs.{needs}
 use Rattle.split_writer.proofs.out_number.Statement.{statement}
 use Rattle.split_writer.proofs.out_number.Tie as tie

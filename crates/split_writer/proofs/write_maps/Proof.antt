@@ -4,8 +4,8 @@ use mathlib.Core.List.{map}
 use Prim.Native.Nat.{_-_}
 use native.Mathlib.Nat.{sub-zero}
 use native.Mathlib.Omega.{arith}
-use Rattle.written.specs.Text.{text}
-use Rattle.written.specs.Sheet.{mapFields}
+use Rattle.text_theory.specs.Text.{text}
+use Rattle.text_theory.specs.Sheet.{mapFields}
 use Rattle.writer.proofs.Buffer.{Remains, parted, restated, onward, done}
 use Rattle.split_writer.specs.Stored.{inOrder, mapIn}
 use Rattle.split_writer.proofs.Parts.{maps-next, lines-none, map-long}

@@ -5,9 +5,9 @@ use Prim.Native.Nat.{_-_}
 use native.Mathlib.Nat.{sub-zero}
 use native.Mathlib.Omega.{arith}
 use Rattle.spec.specs.declared.Purpose.the-variants.{Check}
-use Rattle.written.specs.Text.{text}
+use Rattle.text_theory.specs.Text.{text}
 use Rattle.writer.proofs.Buffer.{Remains, parted, restated, onward, done}
-use Rattle.written.specs.Sheet.{rowFields}
+use Rattle.text_theory.specs.Sheet.{rowFields}
 use Rattle.split_writer.specs.Stored.{inOrder, rowIn}
 use Rattle.split_writer.proofs.Parts.{lines-next, lines-none}
 use Rattle.split_writer.proofs.write_rows.Statement.{statement}

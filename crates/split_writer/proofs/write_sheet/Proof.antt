@@ -2,7 +2,7 @@
 use mathlib.Core.Path.{sym, ap, _∙_}
 use lib.Dec.{lit<}
 use borrow.Author.Needs.{needs}
-use Rattle.written.specs.Sheet.{sheetText}
+use Rattle.text_theory.specs.Sheet.{sheetText}
 use Rattle.writer.proofs.Buffer.{parted, onward, finish}
 use Rattle.split_writer.specs.Contract.{SheetWritten}
 use Rattle.split_writer.proofs.Parts.{sheet-parts}

@@ -4,9 +4,9 @@ use mathlib.Core.List.{map}
 use Prim.Native.Nat.{_-_}
 use native.Mathlib.Nat.{sub-zero}
 use native.Mathlib.Omega.{arith}
-use Rattle.written.specs.Text.{text}
+use Rattle.text_theory.specs.Text.{text}
 use Rattle.writer.proofs.Buffer.{Remains, parted, restated, onward, done}
-use Rattle.written.specs.Sheet.{signatureFields}
+use Rattle.text_theory.specs.Sheet.{signatureFields}
 use Rattle.split_writer.specs.Stored.{inOrder, signatureIn}
 use Rattle.split_writer.proofs.Parts.{lines-next, lines-none}
 use Rattle.split_writer.proofs.write_signatures.Statement.{statement}

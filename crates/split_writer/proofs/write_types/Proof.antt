@@ -5,8 +5,8 @@ use Prim.Native.Nat.{_-_}
 use native.Mathlib.Nat.{sub-zero}
 use native.Mathlib.Omega.{arith}
 use borrow.Author.Needs.{needs}
-use Rattle.written.specs.Text.{text}
-use Rattle.written.specs.Sheet.{typeFields}
+use Rattle.text_theory.specs.Text.{text}
+use Rattle.text_theory.specs.Sheet.{typeFields}
 use Rattle.writer.proofs.Buffer.{Remains, parted, restated, onward, done}
 use Rattle.split_writer.specs.Stored.{inOrder, typeStored}
 use Rattle.split_writer.proofs.Parts.{lines-next, lines-none}

@@ -4,7 +4,7 @@ use Prim.Native.Nat.{_+_}
 use native.Mathlib.Nat.{div-add-mod'}
 use native.Mathlib.Omega.{arith}
 use lib.ListN.{length}
-use Rattle.written.specs.Text.{decimal}
+use Rattle.text_theory.specs.Text.{decimal}
 use Rattle.writer.proofs.Digits.{one-digit, two-digits, two-more-digits, few-digits}
 use Rattle.writer.proofs.width.Statement.{statement}
 use Rattle.writer.proofs.width.Tie as tie

@@ -1,7 +1,7 @@
 -- The loop's invariant: the digits of the rest remain to be written, in front of those that are.
 use Prim.Native.Nat.{_/_}
 use native.Mathlib.Omega.{arith}
-use Rattle.written.proofs.Decimal.{tenth-less, decimal-long}
+use Rattle.text_theory.proofs.Decimal.{tenth-less, decimal-long}
 use Rattle.writer.proofs.Digits.{DigitsLeft, more-digits, all-left, as-long, digit-written, digits-written}
 use Rattle.writer.proofs.write_digits.Statement.{statement}
 use Rattle.writer.proofs.write_digits.Tie as tie

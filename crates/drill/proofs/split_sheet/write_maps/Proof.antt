@@ -2,7 +2,7 @@
 use mathlib.Core.Path.{refl}
 use native.Mathlib.Omega.{arith}
 use borrow.Author.Needs.{needs}
-use Rattle.written.specs.Text.{text}
+use Rattle.text_theory.specs.Text.{text}
 use Rattle.writer.proofs.Buffer.{Remains, parted, restated, onward, done}
 use Rattle.drill_theory.specs.Pair.{fallingMaps}
 use Rattle.drill.proofs.Parts.{maps-next, maps-none}

@@ -2,7 +2,7 @@
 use mathlib.Core.Path.{refl, sym, _∙_}
 use lib.Seq.{length-take-le}
 use Rattle.replay_theory.specs.Replay.{replaySpace}
-use Rattle.control.specs.Layout.{spaceSize}
+use Rattle.replay_control.specs.Layout.{spaceSize}
 use Rattle.replay.proofs.Promises.{space-counted, long-space-after}
 use Rattle.replay.proofs.Runs.{short-run, further-run}
 use borrow.Author.Needs.{needs}

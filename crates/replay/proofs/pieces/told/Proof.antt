@@ -1,6 +1,6 @@
 -- By whether the run has stopped.
 use mathlib.Core.Path.{_≡_, refl, _∙_}
-use Rattle.machine.specs.Replay.{ended}
+use Rattle.replay_machine.specs.Replay.{ended}
 use Rattle.replay.specs.Pieces.{tellingBy, telling}
 use Rattle.replay.proofs.Runs.{told-replays}
 use borrow.Author.Needs.{needs}

@@ -2,7 +2,7 @@
 use mathlib.Core.Path.{refl, sym, _∙_}
 use lib.Seq.{length-take-le}
 use Rattle.replay_theory.specs.Replay.{replaySpace}
-use Rattle.control.specs.Layout.{spaceSize}
+use Rattle.replay_control.specs.Layout.{spaceSize}
 use Rattle.replay.proofs.Starting.{short-room}
 use Rattle.replay.proofs.Promises.{space-counted, front-long, long-space-after}
 use Rattle.replay.proofs.Runs.{no-steps, refused-telling, refused-run, begun-run}

@@ -1,7 +1,7 @@
 -- The loop's invariant: the places below i are copied.
 use mathlib.Core.Path.{sym, _∙_}
 use Prim.Native.Nat.{_-_}
-use Rattle.control.specs.Layout.{continuationsAt}
+use Rattle.replay_control.specs.Layout.{continuationsAt}
 use Rattle.replay.proofs.Copying.{CopiedTo, copy-none, copy-more, copy-all}
 use borrow.Author.Needs.{needs}
 use Rattle.replay.proofs.start.copy_columns.Statement.{statement}

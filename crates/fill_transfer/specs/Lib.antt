@@ -1,0 +1,4 @@
+pub mod AfterSteps
+pub mod Bounds
+pub mod Transfers
+pub mod Shows

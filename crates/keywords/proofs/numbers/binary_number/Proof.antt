@@ -1,0 +1,22 @@
+use Rattle.spec.specs.Words.{role, leastValue, largestValue}
+use borrow.Author.Needs.{needs}
+use Rattle.keywords.proofs.numbers.binary_number.Statement.{statement}
+use Rattle.keywords.proofs.numbers.binary_number.Tie as tie
+
+pub binary-number-spec : {M : Type 1} → statement M
+unfolding role leastValue largestValue
+binary-number-spec =
+    tie.close
+    (tie.spec
+    (λ c. search needs)
+    (λ c κs. search needs)
+    (λ c. search needs)
+    (λ c κs. search needs)
+    (λ c. search needs)
+    (λ c κs. search needs)
+    (λ c. search needs)
+    (λ c κs. search needs)
+    (λ c. rw (c .numbered .ensures, c .before .enum-told .given .1))
+    (λ c. rw (c .numbered2 .ensures, c .before .enum-told2 .given .1))
+    (λ c. rw (c .numbered3 .ensures, c .before .enum-told3 .given .1))
+    (λ c. rw (c .numbered4 .ensures, c .before .enum-told4 .given .1)))

@@ -1,8 +1,0 @@
-use mathlib.Core.Path.{refl}
-use Rattle.play.specs.Play.{stoppedBy}
-use Rattle.play.proofs.stopped.Statement.{statement}
-use Rattle.play.proofs.stopped.Tie as tie
-
-pub stopped-spec : {M : Type 1} → statement M
-unfolding stoppedBy
-stopped-spec = tie.close (tie.spec (λ c. refl))

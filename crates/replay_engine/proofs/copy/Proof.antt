@@ -1,0 +1,56 @@
+-- The loop's invariant: copying what is left gives what copying all of it gives.
+use mathlib.Core.Path.{_≡_, refl, sym, ap, _∙_}
+use mathlib.Core.List.{List}
+use Prim.Native.Nat.{ℕ, _+_, _-_, _≤_}
+use native.Mathlib.Omega.{arith}
+use lib.ListN.{length, length-set}
+use Rattle.replay_engine.specs.Steps.{copiedFrom, copied}
+use Rattle.replay_engine.proofs.Copying.{copied-more, copied-end}
+use borrow.Author.Needs.{needs}
+use Rattle.replay_engine.proofs.copy.Statement.{statement}
+use Rattle.replay_engine.proofs.copy.Tie as tie
+
+abbrev Inv-loop : tie.InvT-loop
+Inv-loop space₀ t u x₀ space x = (x ≤ 256) × (length space ≡ length space₀) × (copiedFrom space t u x (256 - x) ≡ copiedFrom space₀ t u 0 256)
+
+abbrev μ-loop : tie.MeasureT-loop
+μ-loop space₀ t u x₀ space x = 256 - x
+
+loop-holds : tie.Need-loop-holds Inv-loop μ-loop
+loop-holds c = (omega arith, refl, refl)
+
+loop-again : tie.Need-loop-again Inv-loop μ-loop
+loop-again c =
+    let put = c .before .before .put .ensures in
+    let test = c .before .before .before .before .before .before .before .before in
+    let inv = test .before .loop .inv in
+    let args = test .before .before .before .args in
+    let copied-one = rw (c .before .before .before .before .index .ensures .0, c .before .before .before .index2 .ensures .0, c .before .before .before .before .before .before .variable .ensures) at put in (
+      omega (arith, test .loop-test .taken),
+      ap length put ∙ length-set (test .before .loop .space) _ _ ∙ inv .1,
+      ap (λ (s : List ℕ). copiedFrom s (args .from) (args .to) (test .before .loop .x + 1) (256 - (test .before .loop .x + 1))) copied-one ∙ sym (copied-more _ _ _ _ (test .loop-test .taken)) ∙ inv .2,
+    )
+
+returns : tie.Need-returns Inv-loop μ-loop
+unfolding copied
+returns c = sym (copied-end _ _ _ _ (c .loop-test .left)) ∙ c .before .loop .inv .2
+
+pub copy-spec : {M : Type 1} → statement M
+copy-spec =
+    tie.close
+    (tie.spec
+    Inv-loop
+    μ-loop
+    loop-holds
+    (λ c κs. search needs)
+    (λ c κs. search needs)
+    (λ c. search needs)
+    (λ c. search needs)
+    (λ c κs. search needs)
+    (λ c. search needs)
+    (λ c κs. search needs)
+    (λ c. search needs)
+    (λ c. search needs)
+    loop-again
+    (λ c. search needs)
+    returns)

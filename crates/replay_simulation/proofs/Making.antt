@@ -1,0 +1,275 @@
+-- The words that make a new thing, on numbers, are the machine's; past 64 of a kind they answer that a limit is passed.
+use Prim.Native.Nat.{ℕ, suc, _+_, _<_, _≤_}
+use mathlib.Core.Path.{_≡_, refl, sym, _∙_, ap, subst}
+use mathlib.Core.Logic.{_≢_}
+use mathlib.Core.Bool.{false}
+use mathlib.Core.List.{List, []}
+use mathlib.Core.Option.{some}
+use native.Mathlib.Omega.{arith}
+use native.Mathlib.Decide.{ℕ-discrete, decLt}
+use borrow.Author.Tests.{le-leb, lt-leb}
+use lib.Dec.{eqb, ltb}
+use lib.ListN.{length, getD, set, getElem?, length-set}
+use lib.Seq.{getD-set-same, getD-set-other}
+use Rattle.spec.specs.Choice.{if_then_else_}
+use Rattle.spec.specs.Expression.{Position}
+use Rattle.spec.specs.declared.Word.the-variants.{Leaf, Unary}
+use Rattle.spec.specs.declared.UnaryWord.the-variants.{Ref}
+use Rattle.calculus.specs.Expression as calculus
+use Rattle.calculus.specs.Expression.{name, choose, newtid, newlock, newsem, newrwlock}
+use Rattle.calculus.specs.State as state
+use Rattle.calculus.specs.State.{update}
+use Rattle.calculus.specs.Reduction.{made}
+use Rattle.calculus.proofs.Laws.Maps.{update-other}
+use Rattle.workspace.specs.Layout.{ruleOf, printed}
+use Rattle.threads.specs.declared.Threads.{Threads}
+use Rattle.replay_control.specs.Layout.{thingCountsAt, nextValueAt, thingKindsAt, thingFirstsAt, thingSecondsAt, spaceSize}
+use Rattle.replay_control.specs.Shapes.{shapeAt, isWrite}
+use Rattle.replay_control.specs.Control.{continuation, returning, stoppedAt, readyAt}
+use Rattle.replay_objects.specs.declared.Slot.{Slot}
+use Rattle.replay_control.specs.declared.ControlPoint.{ControlPoint}
+use Rattle.replay_step.specs.declared.words.Act.{Act}
+use Rattle.replay_step.specs.declared.words.Act.the-variants as act
+use Rattle.replay_objects.specs.Uses.{slot, madeOf, effectOf}
+use Rattle.replay_step.specs.Slots.{slotAt, slotPut}
+use Rattle.replay_step.specs.Words.{given, withThing, newThing, subject, operand, effected, wordUsed, actedBy, acted}
+use Rattle.replay_engine.specs.Steps.{actStep, afterAct}
+use Rattle.replay_theory.specs.Run.{ObjectKind, cells, locks, rwlocks, semaphores, identifiers, sameKind, oneMore, threadLimit, thingLimit, withinLimits, kindMade}
+use Rattle.replay_theory.specs.Replay.{checkLimits}
+use Rattle.replay_machine.specs.Environment.{Env}
+use Rattle.replay_machine.specs.Control as machine
+use Rattle.replay_machine.specs.Control.{Frame, at, return}
+use Rattle.replay_machine.specs.State.{Machine, running}
+use Rattle.replay_machine.specs.Step.{creates}
+use Rattle.replay_machine.specs.Replay.{Replay, within}
+use Rattle.replay_simulation.proofs.Held.{noPartWord, NoPartNumber, RowOf, Values, Frames}
+use Rattle.replay_simulation.proofs.Advancing.{same-all, RowIn}
+use Rattle.replay_simulation.proofs.Finding.{frames-same, returns-word}
+use Rattle.replay_simulation.proofs.Agreeing.{Agree, rows-same, agree-then, agree-shared}
+use Rattle.replay_simulation.proofs.Holds.{SlotIs, kindCode, kind-low, allThings, NamesHeld, Holds}
+use Rattle.replay_simulation.proofs.Naming.{slot-put-length, put-elsewhere, slot-here, slot-there, slot-agree}
+use Rattle.replay_simulation.proofs.Moving.{Answered, moves, pausing}
+
+-- ------------------------------------------------------------------ counts
+
+kindAt : ℕ → ObjectKind
+kindAt n = if eqb n 1 then identifiers else if eqb n 2 then cells else if eqb n 3 then locks else if eqb n 4 then semaphores else rwlocks
+
+kind-at : (k : ObjectKind) → kindAt (kindCode k) ≡ k
+unfolding kindAt
+kind-at identifiers = refl
+kind-at cells = refl
+kind-at locks = refl
+kind-at semaphores = refl
+kind-at rwlocks = refl
+
+kind-apart : (l k : ObjectKind) → l ≢ k → kindCode l ≢ kindCode k
+kind-apart l k n e = n (sym (kind-at l) ∙ ap kindAt e ∙ kind-at k)
+
+one-more-all : (k : ObjectKind) (things : ObjectKind → ℕ) → allThings (oneMore k things) ≡ suc (allThings things)
+unfolding oneMore
+one-more-all cells things = omega arith
+one-more-all locks things = omega arith
+one-more-all rwlocks things = omega arith
+one-more-all semaphores things = omega arith
+one-more-all identifiers things = omega arith
+
+one-more-few : (k : ObjectKind) (things : ObjectKind → ℕ) → ((l : ObjectKind) → things l ≤ 64) → things k < 64 → (l : ObjectKind) → oneMore k things l ≤ 64
+unfolding oneMore
+one-more-few k things few h l = go (sameKind l k)
+  where
+    go : (d : Dec (l ≡ k)) → choose d (suc (things l)) (things l) ≤ 64
+    go (yes e) = let z = ap things e in omega (arith, z, h)
+    go (no n) = few l
+
+-- one of a kind too many
+past-limits : (n : ℕ) (k : ObjectKind) (things : ObjectKind → ℕ) → n ≤ 16 → ((l : ObjectKind) → things l ≤ 64) → 64 ≤ things k → withinLimits n (oneMore k things) ≡ false
+unfolding withinLimits threadLimit thingLimit oneMore
+past-limits n cells things h few p = rw (le-leb n 16 h, lt-leb (suc (things cells)) 64 (omega (arith, p)))
+past-limits n locks things h few p = rw (le-leb n 16 h, le-leb (things cells) 64 (few cells), lt-leb (suc (things locks)) 64 (omega (arith, p)))
+past-limits n rwlocks things h few p =
+    rw (le-leb n 16 h, le-leb (things cells) 64 (few cells), le-leb (things locks) 64 (few locks), lt-leb (suc (things rwlocks)) 64 (omega (arith, p)))
+past-limits n semaphores things h few p =
+    rw (le-leb n 16 h, le-leb (things cells) 64 (few cells), le-leb (things locks) 64 (few locks), le-leb (things rwlocks) 64 (few rwlocks), lt-leb (suc (things semaphores)) 64 (omega (arith, p)))
+past-limits n identifiers things h few p =
+    rw (le-leb n 16 h, le-leb (things cells) 64 (few cells), le-leb (things locks) 64 (few locks), le-leb (things rwlocks) 64 (few rwlocks), le-leb (things semaphores) 64 (few semaphores), lt-leb (suc (things identifiers)) 64 (omega (arith, p)))
+
+-- ------------------------------------------------------------------ names
+
+slot-set : (s : List ℕ) (j y v : ℕ) → j < thingKindsAt → slotAt (set s j y) v ≡ slotAt s v
+unfolding slotAt
+slot-set s j y v h = λ z. if ltb v 322 then slot
+    (getD-set-other s j (thingKindsAt + v) y 0 (λ e. omega (arith, e, h)) z)
+    (getD-set-other s j (thingFirstsAt + v) y 0 (λ e. omega (arith, e, h)) z)
+    (getD-set-other s j (thingSecondsAt + v) y 0 (λ e. omega (arith, e, h)) z) else slot 0 0 0
+
+module _ {s : List ℕ} {names : ℕ → state.Slot} {next : ℕ} {things : ObjectKind → ℕ} (N : NamesHeld s names next things) (long : length s ≡ spaceSize)
+    (k : ObjectKind) (x : Slot) (new : state.Slot) (is-kind : x .kind ≡ kindCode k) (is : SlotIs x new) (room : things k < 64) where
+  abbrev s₁ : List ℕ
+  s₁ = slotPut s (suc next) x
+
+  abbrev s₂ : List ℕ
+  s₂ = set s₁ (thingCountsAt + kindCode k) (things k + 1)
+
+  abbrev s₃ : List ℕ
+  s₃ = set s₂ nextValueAt (suc next + 1)
+
+  next-low : suc next < 322
+  next-low =
+      let a = N .all in
+      let b = N .few identifiers in
+      let c = N .few cells in
+      let d = N .few locks in
+      let e = N .few semaphores in
+      let f = N .few rwlocks in
+      less k room a b c d e f
+    where
+      less : (k : ObjectKind) → things k < 64 → next ≡ suc (allThings things) → things identifiers ≤ 64 → things cells ≤ 64 → things locks ≤ 64 → things semaphores ≤ 64 → things rwlocks ≤ 64 → suc next < 322
+      less identifiers h a b c d e f = omega arith
+      less cells h a b c d e f = omega arith
+      less locks h a b c d e f = omega arith
+      less semaphores h a b c d e f = omega arith
+      less rwlocks h a b c d e f = omega arith
+
+  long₁ : length s₁ ≡ spaceSize
+  long₁ = slot-put-length s (suc next) x ∙ long
+
+  long₂ : length s₂ ≡ spaceSize
+  long₂ = length-set s₁ (thingCountsAt + kindCode k) (things k + 1) ∙ long₁
+
+  pub long₃ : length s₃ ≡ spaceSize
+  long₃ = length-set s₂ nextValueAt (suc next + 1) ∙ long₂
+
+  slot-after : (v : ℕ) → slotAt s₃ v ≡ slotAt s₁ v
+  slot-after v = slot-set s₂ nextValueAt (suc next + 1) v (omega arith) ∙ slot-set s₁ (thingCountsAt + kindCode k) (things k + 1) v (let l = kind-low k in omega arith)
+
+  pub names-made : NamesHeld s₃ (update names next new) (suc next) (oneMore k things)
+  unfolding oneMore
+  names-made = record {
+    constant = ap (λ (y : Slot). y .kind) (slot-after 0 ∙ slot-there s (suc next) x next-low 0 (λ e. omega (arith, e))) ∙ N .constant;
+    slots = λ m h. by-name m h (ℕ-discrete m next);
+    unused-from = λ m h. update-other names next m new (λ e. omega (arith, e, h)) ∙ N .unused-from m (omega (arith, h));
+    nextStored = getD-set-same s₂ nextValueAt (suc next + 1) 0 (omega (arith, long₂)) ∙ (let e : suc next + 1 ≡ suc (suc next) = omega arith in e);
+    counted = λ l. by-kind l (sameKind l k);
+    few = one-more-few k things (N .few) room;
+    all = (let a = N .all in let b = one-more-all k things in omega (arith, a, b));
+  }
+    where
+      by-name : (m : ℕ) → suc m < 322 → (d : Dec (m ≡ next)) → SlotIs (slotAt s₃ (suc m)) (choose d new (names m))
+      by-name m h (yes e) = subst (λ (y : Slot). SlotIs y new) (sym (slot-after (suc m) ∙ ap (λ (j : ℕ). slotAt s₁ (suc j)) e ∙ slot-here s (suc next) x next-low long)) is
+      by-name m h (no f) = subst (λ (y : Slot). SlotIs y (names m)) (sym (slot-after (suc m) ∙ slot-there s (suc next) x next-low (suc m) (λ e. f (omega (arith, e))))) (N .slots m h)
+
+      by-kind : (l : ObjectKind) → (d : Dec (l ≡ k)) → getD s₃ (thingCountsAt + kindCode l) 0 ≡ choose d (suc (things l)) (things l)
+      by-kind l (yes e) =
+          getD-set-other s₂ nextValueAt (thingCountsAt + kindCode l) (suc next + 1) 0 (λ z. let a = kind-low l in omega (arith, z, a))
+          ∙ ap (λ (m : ObjectKind). getD s₂ (thingCountsAt + kindCode m) 0) e
+          ∙ getD-set-same s₁ (thingCountsAt + kindCode k) (things k + 1) 0 (let a = kind-low k in omega (arith, a, long₁))
+          ∙ (let z : things k + 1 ≡ suc (things k) = omega arith in z) ∙ ap (λ (m : ObjectKind). suc (things m)) (sym e)
+      by-kind l (no n) =
+          let a = kind-low l in
+          getD-set-other s₂ nextValueAt (thingCountsAt + kindCode l) (suc next + 1) 0 (λ z. omega (arith, z, a))
+          ∙ getD-set-other s₁ (thingCountsAt + kindCode k) (thingCountsAt + kindCode l) (things k + 1) 0 (λ z. kind-apart l k n (omega (arith, z)))
+          ∙ put-elsewhere s (suc next) x next-low (thingCountsAt + kindCode l) (λ z. omega (arith, z, a)) (λ z. omega (arith, z, a)) (λ z. omega (arith, z, a))
+          ∙ N .counted l
+
+  pub agree-made : (i : ℕ) → i < 16 → Agree i s s₃
+  agree-made i h =
+      agree-then (slot-agree i s (suc next) x h)
+      (agree-then (agree-shared i (thingCountsAt + kindCode k) (things k + 1) s₁ h (omega arith)) (agree-shared i nextValueAt (suc next + 1) s₂ h (omega arith)))
+
+  -- the space that the code leaves
+  pub thing-added : withThing s x ≡ s₃
+  unfolding withThing
+  thing-added = rw (is-kind, N .counted k, N .nextStored)
+
+-- ------------------------------------------------------------------ the machine's word
+
+module _ (p s : List ℕ) (T : Threads) (R : Replay) (t tid : ℕ) (σ : Env) (K : List Frame) (H : Holds p s T R) (low : t < 16) (row : ℕ) (inside : RowIn t row) (values : Values p s row σ)
+    (w : machine.Word) (f : ControlPoint) (j : ℕ) (j-low : j < 256) (F : Frames p s t row j (continuation p j) K) (there : getElem? (R .machine .threads) t ≡ some (running tid (at σ w K)))
+    (k : ObjectKind) (x : Slot) (new : state.Slot) (is-kind : x .kind ≡ kindCode k) (is : SlotIs x new) where
+  abbrev M : Machine
+  M = R .machine
+
+  abbrev Created : Replay
+  Created = record { machine = creates M t tid σ K new; things = oneMore k (R .things) }
+
+  counted-here : getD s (thingCountsAt + x .kind) 0 ≡ R .things k
+  counted-here = ap (λ (i : ℕ). getD s (thingCountsAt + i) 0) is-kind ∙ H .names .counted k
+
+  makes-room : R .things k < 64 → Answered p (checkLimits within (some Created)) (afterAct p T t f (newThing p s row j x))
+  unfolding newThing given
+  makes-room room =
+      subst (λ (a : Act × List ℕ). Answered p (checkLimits within (some Created)) (afterAct p T t f a)) (sym made-here)
+      (moves p after T (M .threads) t tid f
+      (pausing p s T R t tid (at σ w K) H there refl after (long₃ (H .names) (H .long) k x new is-kind is room) (λ i h m. agree-made (H .names) (H .long) k x new is-kind is room i h))
+      (M .procedures) (H .bodies) (update (M .names) (M .next) new) (suc (M .next)) (oneMore k (R .things)) (names-made (H .names) (H .long) k x new is-kind is room)
+      (returning row (continuation p j) (suc (M .next))) (return σ (name (M .next)) K)
+      (returns-word p t low σ row after (name (M .next)) j (continuation p j) K after
+      (record {
+        same = same-all t after;
+        long = long₃ (H .names) (H .long) k x new is-kind is room;
+        inside = inside;
+        values = λ y h. a .rows .variables row y inside h ∙ values y h;
+        frames = frames-same p t s after row j (continuation p j) K (rows-same p t s after (a .rows) row j inside (omega (arith, j-low))) F;
+      })))
+    where
+      after : List ℕ
+      after = s₃ (H .names) (H .long) k x new is-kind is room
+
+      a : Agree t s after
+      a = agree-made (H .names) (H .long) k x new is-kind is room t low
+
+      made-here : newThing p s row j x ≡ (act.Go (returning row (continuation p j) (suc (M .next))), after)
+      made-here =
+          rw (counted-here, H .names .nextStored, lt-leb 64 (R .things k) room, lt-leb 322 (suc (M .next)) (next-low (H .names) (H .long) k x new is-kind is room))
+          (ap (λ (z : List ℕ). (act.Go (returning row (continuation p j) (suc (M .next))), z)) (thing-added (H .names) (H .long) k x new is-kind is room))
+
+  makes-none : 64 ≤ R .things k → Answered p (checkLimits within (some Created)) (afterAct p T t f (newThing p s row j x))
+  unfolding checkLimits within newThing afterAct actStep
+  makes-none full =
+      rw (
+        ap (λ (n : ℕ). withinLimits n (oneMore k (R .things))) (length-set (M .threads) t (running tid (return σ (name (M .next)) K))) ∙ past-limits (length (M .threads)) k (R .things) (H .sized .fits) (H .names .few) full,
+        counted-here,
+        le-leb 64 (R .things k) full,
+      )
+      refl
+
+  pub making-goes : Answered p (checkLimits within (some Created)) (afterAct p T t f (newThing p s row j x))
+  making-goes = go (decLt (R .things k) 64)
+    where
+      go : Dec (R .things k < 64) → Answered p (checkLimits within (some Created)) (afterAct p T t f (newThing p s row j x))
+      go (yes room) = makes-room room
+      go (no f) = makes-none (omega (arith, f))
+
+-- ------------------------------------------------------------------ what the code does
+
+abbrev pub makerSlot : calculus.Nullary → Slot
+makerSlot newtid = slot 1 0 0
+makerSlot newlock = slot 3 0 0
+makerSlot newsem = slot 4 0 0
+makerSlot (newrwlock N) = slot 5 N 0
+
+module _ (p s : List ℕ) (row c : ℕ) {q : Position} {v : ℕ} where
+  pub maker-acts : (o : calculus.Nullary) → NoPartNumber o v → RowOf p q (Leaf (noPartWord o)) v → acted p s (stoppedAt row (q .index)) c ≡ newThing p s row (q .index) (makerSlot o)
+  unfolding acted actedBy wordUsed effected subject operand effectOf madeOf shapeAt isWrite ruleOf printed
+  maker-acts newtid n r = rw (r .code) (rw (r .code))
+  maker-acts newlock n r = rw (r .code) (rw (r .code))
+  maker-acts newsem n r = rw (r .code) (rw (r .code))
+  maker-acts (newrwlock N) n r = rw (r .code) (rw (r .code, r .number, n))
+
+  pub ref-acts : (w : ℕ) → RowOf p q (Unary Ref) v → acted p s (readyAt row (q .index) w) c ≡ newThing p s row (q .index) (slot 2 w 0)
+  unfolding acted actedBy wordUsed effected subject operand effectOf madeOf shapeAt isWrite ruleOf printed
+  ref-acts w r = rw (r .code) (rw (r .code))
+
+pub maker-kind : (o : calculus.Nullary) → makerSlot o .kind ≡ kindCode (kindMade o)
+unfolding kindMade
+maker-kind newtid = refl
+maker-kind newlock = refl
+maker-kind newsem = refl
+maker-kind (newrwlock N) = refl
+
+pub maker-slot : (o : calculus.Nullary) → SlotIs (makerSlot o) (made o)
+maker-slot newtid = refl
+maker-slot newlock = (refl, refl)
+maker-slot newsem = (refl, refl, omega arith)
+maker-slot (newrwlock N) = (refl, refl, refl)

@@ -1,3 +1,0 @@
-pub mod RowFields
-pub mod RowLaws
-pub mod SignatureLaws

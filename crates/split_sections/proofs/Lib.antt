@@ -1,3 +1,0 @@
-pub mod LoopSteps
-pub mod Stores
-pub mod Loops

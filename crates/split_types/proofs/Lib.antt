@@ -1,3 +1,0 @@
-pub mod Tests
-pub mod TypeLaws
-pub mod MapLaws

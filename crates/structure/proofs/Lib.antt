@@ -1,6 +1,0 @@
-pub mod ScopeLaws
-pub mod ScopeLoop
-pub mod Tables
-pub mod Walk
-pub mod Bodies
-pub mod Resolved

@@ -1,8 +1,0 @@
-use Rattle.things.specs.Uses.{madeOf}
-use mathlib.Core.Path.{refl}
-use Rattle.things.proofs.made.Statement.{statement}
-use Rattle.things.proofs.made.Tie as tie
-
-pub made-spec : {M : Type 1} → statement M
-unfolding madeOf
-made-spec = tie.close (tie.spec (λ c. refl))

@@ -1,2 +1,0 @@
-pub mod AfterSteps
-pub mod Bounds

@@ -1,6 +1,0 @@
-use borrow.Author.Needs.{needs}
-use Rattle.views.proofs.columns.cell.Statement.{statement}
-use Rattle.views.proofs.columns.cell.Tie as tie
-
-pub cell-spec : {M : Type 1} → statement M
-cell-spec = tie.close (tie.spec (λ c κs. search needs) (λ c. search needs) (λ c κs. search needs) (λ c. cc))

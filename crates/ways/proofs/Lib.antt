@@ -1,4 +1,0 @@
-pub mod Accesses
-pub mod Calling
-pub mod Held
-pub mod Light

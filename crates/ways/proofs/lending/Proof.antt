@@ -1,8 +1,0 @@
-use mathlib.Core.Path.{refl}
-use Rattle.fill_theory.specs.Flow.{lending}
-use Rattle.ways.proofs.lending.Statement.{statement}
-use Rattle.ways.proofs.lending.Tie as tie
-
-pub lending-spec : {M : Type 1} → statement M
-unfolding lending
-lending-spec = tie.close (tie.spec (λ c. refl))

@@ -1,8 +1,0 @@
-use mathlib.Core.Path.{refl}
-use Rattle.fill_theory.specs.Flow.{needing}
-use Rattle.ways.proofs.needing.Statement.{statement}
-use Rattle.ways.proofs.needing.Tie as tie
-
-pub needing-spec : {M : Type 1} → statement M
-unfolding needing
-needing-spec = tie.close (tie.spec (λ c. refl))

@@ -1,8 +1,0 @@
-use Rattle.ways.specs.Transfers.{typeLineIn}
-use borrow.Author.Needs.{needs}
-use Rattle.ways.proofs.type_in.Statement.{statement}
-use Rattle.ways.proofs.type_in.Tie as tie
-
-pub type-in-spec : {M : Type 1} → statement M
-unfolding typeLineIn
-type-in-spec = tie.close (tie.spec (λ c. search needs) (λ c κs. tt) (λ c κs. tt) (λ c. cc))

@@ -1,8 +1,0 @@
-use mathlib.Core.Path.{refl}
-use Rattle.fill_theory.specs.Flow.{unchanged}
-use Rattle.ways.proofs.unchanged.Statement.{statement}
-use Rattle.ways.proofs.unchanged.Tie as tie
-
-pub unchanged-spec : {M : Type 1} → statement M
-unfolding unchanged
-unchanged-spec = tie.close (tie.spec (λ c. refl))
