@@ -1,4 +1,4 @@
-// What the programs of the house share of the outside: reading a sheet into a lent buffer, making a file, telling an outcome in one
+// What the programs share of the outside: reading a sheet into a lent buffer, making a file, telling an outcome in one
 // line, writing bytes to a descriptor. No contract of the kit says what a file holds. So what is to go in and out stands in the
 // `requires` of the functions that meet the outside: which file is read into how much room, which bytes are a line.
 mod making;
@@ -47,7 +47,7 @@ pub fn fill(fd: i32, buffer: &mut [u8], held: usize) -> Contents
     Contents::Bytes(n)
 }
 
-// Reads a file of the house by its name, into as much room as its text asks for.
+// Reads one of the files by its name, into as much room as its text asks for.
 fn read_file(name: &[u8], buffer: &mut [u8]) -> Contents
     requires { ⌜ ReadInto (now name) (length (now buffer)) ⌝ }
     ensures { λ r. ⌜ Within r (length (now (buffer .exit))) ⌝ }

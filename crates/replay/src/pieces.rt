@@ -52,6 +52,7 @@ fn go_on(job: &[u32], space: &mut [u32], run: Point, piece: &[u8]) -> Point
 // goes_on: if the job, the space and the run are those of a program behind lines of its trace, the run is the one behind those lines and
 // the piece, as long as its steps can be counted; the next piece may follow if this one ends with a line;
 // unchanged: the job and the piece are as they were;
+// kept: a space that is too short is as it was;
 // free: behind the numbers that a replay needs the space is as it was.
 pub fn more(job: &[u32], space: &mut [u32], run: Point, piece: &[u8]) -> Point
     ensures goes_on { λ r. ⌜ ((program trace : List ℕ) → RunOf program trace (now (job .entry)) (now (space .entry)) run → endsLine trace ≡ true → run .steps + length (now (piece .entry)) < 18446744073709551616 → RunOf program (trace ++ now (piece .entry)) (now (job .entry)) (now (space .exit)) r) ⌝ }
