@@ -7,7 +7,7 @@ use Rattle.entries.proofs.racecheck_replay_told.Tie as tie
 
 returns : tie.Need-returns
 returns c =
-    let at-told = c in
+    let at-told = c .before .before in
     let t = at-told .told .result in
     let told = at-told .told .ensures .0 in (
       telling.answers _ t told,

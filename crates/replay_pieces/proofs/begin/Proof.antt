@@ -47,12 +47,12 @@ begin-spec =
     (tie.spec
     (λ c κs. search needs)
     (λ c. room-there _ _ (sym (c .before .roomy .ensures) ∙ c .if1 .taken) .0)
-    (λ c. let then = c .before in sym (length-take-le jobSize _ (room-there _ _ (sym (then .before .roomy .ensures) ∙ then .if1 .taken) .0)))
+    (λ c. let then = c .before in sym (length-take-le jobSize (then .before .before .before .before .before .before .before .before .args .job .now) (room-there _ _ (sym (then .before .roomy .ensures) ∙ then .if1 .taken) .0)))
     (λ c. let then = c .before .before in room-there _ _ (sym (then .before .roomy .ensures) ∙ then .if1 .taken) .1)
-    (λ c. let then = c .before .before .before in sym (length-take-le keptSize _ (room-there _ _ (sym (then .before .roomy .ensures) ∙ then .if1 .taken) .1)))
+    (λ c. let then = c .before .before .before in sym (length-take-le keptSize (then .before .before .before .before .before .before .before .before .args .run .now) (room-there _ _ (sym (then .before .roomy .ensures) ∙ then .if1 .taken) .1)))
     (λ c κs. let then = c .before .before .before in
     let fit = room-there _ _ (sym (then .before .roomy .ensures) ∙ then .if1 .taken) in
-    (length-take-le jobSize _ (fit .0), length-take-le keptSize _ (fit .1)))
+    (length-take-le jobSize (then .before .before .before .before .before .before .before .before .args .job .now) (fit .0), length-take-le keptSize (then .before .before .before .before .before .before .before .before .args .run .now) (fit .1)))
     (λ c. search needs)
     (λ c. search needs)
     (λ c. search needs)

@@ -35,10 +35,10 @@ more-spec =
     tie.close
     (tie.spec
     (λ c κs. search needs)
-    (λ c. let then = c .before in sym (length-take-le jobSize _ (room-there _ _ (sym (then .before .roomy .ensures) ∙ then .if1 .taken) .0)))
+    (λ c. let then = c .before in sym (length-take-le jobSize (then .before .before .before .before .before .before .before .args .job .now) (room-there _ _ (sym (then .before .roomy .ensures) ∙ then .if1 .taken) .0)))
     (λ c. let then = c .before .before in room-there _ _ (sym (then .before .roomy .ensures) ∙ then .if1 .taken) .1)
-    (λ c. let then = c .before .before .before in sym (length-take-le keptSize _ (room-there _ _ (sym (then .before .roomy .ensures) ∙ then .if1 .taken) .1)))
-    (λ c κs. let then = c .before .before .before in length-take-le keptSize _ (room-there _ _ (sym (then .before .roomy .ensures) ∙ then .if1 .taken) .1))
+    (λ c. let then = c .before .before .before in sym (length-take-le keptSize (then .before .before .before .before .before .before .before .args .run .now) (room-there _ _ (sym (then .before .roomy .ensures) ∙ then .if1 .taken) .1)))
+    (λ c κs. let then = c .before .before .before in length-take-le keptSize (then .before .before .before .before .before .before .before .args .run .now) (room-there _ _ (sym (then .before .roomy .ensures) ∙ then .if1 .taken) .1))
     (λ c. search needs)
     (λ c. search needs)
     returns
