@@ -88,13 +88,24 @@ def check_again(desk, binary):
     check("reports without a name", names, ["release-report-2.txt", "release-report-3.txt", "release-report.txt"])
 
 
+def read_to_end(terminal):
+    """All that was written to a terminal whose other end is closed. It may come in parts, and its end is an error."""
+    said = b""
+    try:
+        while part := os.read(terminal, 4096):
+            said += part
+    except OSError:
+        pass
+    return said.decode()
+
+
 def check_terminal(desk, binary):
     """How far it is, on a terminal: one line that is written again, and closed."""
     terminal, end = pty.openpty()
     process = desk.start("two", "report", error=end, RACECHECK=binary)
     os.close(end)
     process.wait()
-    said = os.read(terminal, 4096).decode()
+    said = read_to_end(terminal)
     os.close(terminal)
     check("progress on a terminal", bool(re.match(r"(\rchecked \d of 2)*\rchecked 2 of 2\r\n", said)), True)
 
