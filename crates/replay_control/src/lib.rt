@@ -25,7 +25,7 @@ ghost use mathlib.Core.Path.{_≡_};
 ghost use Prim.Native.Nat.{_<_, _-_};
 ghost use lib.ListN.{set};
 ghost use Rattle.replay_control.specs.Shapes.{shapeAt};
-ghost use Rattle.replay_control.specs.Control.{variable as variableOf, behind as behindOf, second as secondOf, firstOf, rootOf, entering as enteringAt, returning as returningTo, stoppedAt, enteredBy, entered, halfWritten, left, returned, returnedSpace, advanced, advancedSpace, found};
+ghost use Rattle.replay_control.specs.Control.{variable as variableOf, kept, behind as behindOf, second as secondOf, firstOf, rootOf, entering as enteringAt, returning as returningTo, stoppedAt, enteredBy, entered, halfWritten, left, returned, returnedSpace, advanced, advancedSpace, found};
 
 // Where a thread is, while its next word is looked for and once it is found; its variables stand in that row.
 pub struct ControlPoint {
@@ -241,7 +241,14 @@ fn return_to(program: &[u32], space: &[u32], row: u32, c: u32, v: u32) -> Contro
     leave(program, space, row, v)
 }
 
-// The value of the first part of a `write` is kept until its second part has one.
+// The value that the first part of the `write` of step k gave.
+pub fn kept_value(space: &[u32], row: u32, k: u32) -> u32
+    ensures { λ r. ⌜ r ≡ kept (now (space .entry)) row k ⌝ }
+{
+    at(space, KEPT_VALUES + ROW * index(row) + index(k))
+}
+
+// It is kept until the second part has a value.
 fn keep(program: &[u32], space: &mut [u32], row: u32, c: u32, v: u32)
     ensures { λ _. ⌜ now (space .exit) ≡ returnedSpace (now (program .entry)) (now (space .entry)) row c v ⌝ }
 {

@@ -5,14 +5,13 @@ use mathlib.Core.List.{List}
 use lib.Dec.{eqb}
 use lib.ListN.{getD}
 use Rattle.spec.specs.Choice.{if_then_else_}
-use Rattle.workspace.specs.Layout.{wordsAt, ruleOf}
+use Rattle.workspace.specs.Layout.{wordsAt, ruleOf, touchOf}
+use Rattle.workspace.specs.declared.Touch.{Touch}
+use Rattle.workspace.specs.declared.Touch.the-variants.{Nothing, Reads, Writes}
 use Rattle.replay_control.specs.declared.ControlPoint.{ControlPoint}
-use Rattle.replay_objects.specs.Uses.{effectOf}
-use Rattle.replay_objects.specs.declared.StepEffect.{StepEffect}
-use Rattle.replay_objects.specs.declared.StepEffect.the-variants.{Returns, Updates, Makes, Spawns, Joins, Stuck}
+use Rattle.replay_control.specs.Control.{kept}
 use Rattle.replay_step.specs.Slots.{slotAt}
 use Rattle.replay_engine.specs.ControlPoints.{controlPointAt}
-use Rattle.replay_step.specs.Words.{subject}
 use Rattle.replay_engine.specs.declared.races.Access.{Access}
 use Rattle.replay_engine.specs.declared.races.Access.the-variants.{None, Read, Write}
 use Rattle.replay_engine.specs.declared.races.Partner.{Partner}
@@ -22,21 +21,17 @@ use Rattle.replay_engine.specs.declared.races.Pair.the-variants as pair
 
 -- ------------------------------------------------------------------ one thread
 
--- of a word at the cell that v names: it reads the cell if it becomes what the cell holds, and writes it if it leaves something there
-abbrev pub accessBy : StepEffect → (v : ℕ) → Access
-accessBy (Returns w) v = Read v
-accessBy (Updates x) v = Write v
-accessBy (Makes x) v = None
-accessBy Spawns v = None
-accessBy Joins v = None
-accessBy Stuck v = None
+unfoldable pub namesCell : (s : List ℕ) (v : ℕ) → Bool
+namesCell s v = eqb (slotAt s v .kind) 2
 
--- the value that a `write` would store is no matter here, so it is 0
+-- of a word that touches a cell so: `read` that which its value names, `write` that which its first part gave
+unfoldable pub accessBy : Touch → (s : List ℕ) → ControlPoint → Access
+accessBy Nothing s f = None
+accessBy Reads s f = let v = f .value in if namesCell s v then Read v else None
+accessBy Writes s f = let v = kept s (f .row) (f .at) in if namesCell s v then Write v else None
+
 unfoldable pub accessAt : (p s : List ℕ) → ControlPoint → Access
-accessAt p s f = let v = subject p s f in
-    if eqb (f .mode) 3
-    then (if eqb (slotAt s v .kind) 2 then accessBy (effectOf (ruleOf (getD p (wordsAt + f .at) 0)) (slotAt s v) 0) v else None)
-    else None
+accessAt p s f = if eqb (f .mode) 3 then accessBy (touchOf (ruleOf (getD p (wordsAt + f .at) 0))) s f else None
 
 unfoldable pub accessOf : (p s : List ℕ) (t : ℕ) → Access
 accessOf p s t = accessAt p s (controlPointAt s t)

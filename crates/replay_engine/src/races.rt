@@ -1,16 +1,18 @@
 // The lowest pair of threads that race: the first thread that clashes with a later one, and the first of those.
 use crate::control_points::control_point_at;
+use replay_control::ControlPoint;
 use replay_control::READY;
+use replay_control::kept_value;
 use replay_objects::CELL;
-use replay_objects::StepEffect;
-use replay_objects::effect_of;
 use replay_step::slot_at;
-use replay_step::subject;
+use workspace::Touch;
 use workspace::at;
 use workspace::index;
+use workspace::rule_of;
+use workspace::touch_of;
 ghost use mathlib.Core.Path.{_≡_};
 ghost use Prim.Native.Nat.{_≤_};
-ghost use Rattle.replay_engine.specs.Races.{accessBy, accessOf, reads, writes, clash as clashOf, partnerFrom, isWrite, anyWrites, lowestPair};
+ghost use Rattle.replay_engine.specs.Races.{namesCell, accessBy, accessOf, reads, writes, clash as clashOf, partnerFrom, isWrite, anyWrites, lowestPair};
 
 // The cell that a thread is about to use, by the value that names it.
 pub enum Access {
@@ -31,18 +33,33 @@ pub enum Partner {
     Is(u32),
 }
 
-// What a word does with the cell that v names: it reads the cell if it becomes what the cell holds, and writes it if it leaves something
-// there.
-fn access_by(u: StepEffect, v: u32) -> Access
-    ensures { λ a. ⌜ a ≡ accessBy u v ⌝ }
+// Whether v names a cell.
+fn names_cell(space: &[u32], v: u32) -> bool
+    ensures { λ r. ⌜ r ≡ namesCell (now (space .entry)) v ⌝ }
+{
+    slot_at(space, v).kind == CELL
+}
+
+// What a word that touches a cell so is about to use: `read` the cell that its value names, `write` the one that its first part gave.
+fn access_by(space: &[u32], u: Touch, f: ControlPoint) -> Access
+    ensures { λ a. ⌜ a ≡ accessBy u (now (space .entry)) f ⌝ }
 {
     match u {
-        StepEffect::Returns(_) => Access::Read(v),
-        StepEffect::Updates(_) => Access::Write(v),
-        StepEffect::Makes(_) => Access::None,
-        StepEffect::Spawns => Access::None,
-        StepEffect::Joins => Access::None,
-        StepEffect::Stuck => Access::None,
+        Touch::Nothing => Access::None,
+        Touch::Reads => {
+            let v = f.value;
+            if names_cell(space, v) {
+                return Access::Read(v);
+            }
+            Access::None
+        }
+        Touch::Writes => {
+            let v = kept_value(space, f.row, f.at);
+            if names_cell(space, v) {
+                return Access::Write(v);
+            }
+            Access::None
+        }
     }
 }
 
@@ -51,14 +68,9 @@ fn access_of(program: &[u32], space: &[u32], t: u32) -> Access
     ensures { λ r. ⌜ r ≡ accessOf (now (program .entry)) (now (space .entry)) t ⌝ }
 {
     let f = control_point_at(space, t);
-    let k = f.at;
     if f.mode == READY {
-        let v = subject(program, space, f);
-        let x = slot_at(space, v);
-        if x.kind == CELL {
-            let r = workspace::rule_of(at(program, workspace::WORDS + index(k)));
-            return access_by(effect_of(r, x, 0), v);
-        }
+        let r = rule_of(at(program, workspace::WORDS + index(f.at)));
+        return access_by(space, touch_of(r), f);
     }
     Access::None
 }

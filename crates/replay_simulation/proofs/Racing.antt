@@ -6,7 +6,7 @@ use mathlib.Core.List.{List, [], _∷_}
 use mathlib.Core.Option.{Option, none, some}
 use native.Mathlib.Omega.{arith}
 use native.Mathlib.Decide.{ℕ-discrete}
-use borrow.Author.Tests.{eqb-true, eq-eqb, ne-eqb}
+use borrow.Author.Tests.{eq-eqb, ne-eqb}
 use lib.Dec.{eqb}
 use lib.ListN.{length, getElem?}
 use Rattle.spec.specs.Choice.{if_then_else_}
@@ -19,13 +19,13 @@ use Rattle.calculus.specs.Expression.{Value, int, name, read, Redex}
 use Rattle.calculus.specs.State as state
 use Rattle.calculus.specs.State.{unused, identifier, cell, aLock, opened, closed, semaphore, rwlock, readers, writer}
 use Rattle.calculus.specs.Reduction.{_>>=_, _>>_, cellValue}
-use Rattle.workspace.specs.Layout.{ruleOf, codeOf, printed}
+use Rattle.workspace.specs.Layout.{ruleOf, codeOf, touchOf, printed}
+use Rattle.workspace.specs.declared.Touch.{Touch}
+use Rattle.workspace.specs.declared.Touch.the-variants.{Nothing, Reads}
 use Rattle.threads.specs.declared.Threads.{Threads}
 use Rattle.replay_control.specs.declared.ControlPoint.{ControlPoint}
-use Rattle.replay_control.specs.Shapes.{shapeAt, isWrite}
 use Rattle.replay_control.specs.Control.{kept, readyAt}
 use Rattle.replay_objects.specs.declared.Slot.{Slot}
-use Rattle.replay_objects.specs.Uses.{madeOf, spawnedOf, joinedOf, readOf, writtenOf, lockedOf, unlockedOf, postedOf, waitedOf, rdlockedOf, rdunlockedOf, wrlockedOf, wrunlockedOf, effectOf}
 use Rattle.replay_engine.specs.declared.races.Access.{Access}
 use Rattle.replay_engine.specs.declared.races.Access.the-variants.{None, Read, Write}
 use Rattle.replay_engine.specs.declared.races.Partner.{Partner}
@@ -34,8 +34,7 @@ use Rattle.replay_engine.specs.declared.races.Pair.{Pair}
 use Rattle.replay_engine.specs.declared.races.Pair.the-variants as pair
 use Rattle.replay_step.specs.Slots.{slotAt}
 use Rattle.replay_engine.specs.ControlPoints.{controlPointAt}
-use Rattle.replay_step.specs.Words.{subject}
-use Rattle.replay_engine.specs.Races.{accessBy, accessAt, accessOf, reads, writes, clash, partnerOf, partnerFrom, pairWith, pairOf, lowestPair}
+use Rattle.replay_engine.specs.Races.{namesCell, accessBy, accessAt, accessOf, reads, writes, clash, partnerOf, partnerFrom, pairWith, pairOf, lowestPair}
 use Rattle.replay_theory.specs.Run.{ofUnary}
 use Rattle.replay_theory.specs.LowestPair as uses
 use Rattle.replay_theory.specs.LowestPair.{Uses, usesOf, ifCell, sameCell, clashing, pairOr, lowestAmong}
@@ -175,9 +174,12 @@ module _ (p s : List ℕ) (usesAt : ℕ → MachineThread → ℕ × Uses) (numb
 
 -- ------------------------------------------------------------------ one thread
 
+-- the cell that a value names is shown as the access f to it
+abbrev CellShown : Slot → (ℕ → Access) → (n : ℕ) → Uses → Type 0
+CellShown x f n u = AccessIs (if eqb (x .kind) 2 then f (suc n) else None) u
+
 module _ (n : ℕ) (x : Slot) where
-  reads-cell : (sl : state.Slot) → SlotIs x sl → AccessIs (if eqb (x .kind) 2 then accessBy (readOf x) (suc n) else None) (usesBoth (cellValue sl >> some n) none)
-  unfolding readOf
+  reads-cell : (sl : state.Slot) → SlotIs x sl → CellShown x Read n (usesBoth (cellValue sl >> some n) none)
   reads-cell unused h = rw h (refl, refl)
   reads-cell identifier h = rw h (refl, refl)
   reads-cell (cell v) h = rw (h .0) (refl, refl)
@@ -187,8 +189,7 @@ module _ (n : ℕ) (x : Slot) where
   reads-cell (rwlock N (readers k)) h = rw (h .0) (refl, refl)
   reads-cell (rwlock N writer) h = rw (h .0) (refl, refl)
 
-  writes-cell : (sl : state.Slot) → SlotIs x sl → AccessIs (if eqb (x .kind) 2 then accessBy (writtenOf x 0) (suc n) else None) (usesBoth none (cellValue sl >> some n))
-  unfolding writtenOf
+  writes-cell : (sl : state.Slot) → SlotIs x sl → CellShown x Write n (usesBoth none (cellValue sl >> some n))
   writes-cell unused h = rw h (refl, refl)
   writes-cell identifier h = rw h (refl, refl)
   writes-cell (cell v) h = rw (h .0) (refl, refl)
@@ -198,23 +199,19 @@ module _ (n : ℕ) (x : Slot) where
   writes-cell (rwlock N (readers k)) h = rw (h .0) (refl, refl)
   writes-cell (rwlock N writer) h = rw (h .0) (refl, refl)
 
--- a word that neither reads a cell nor writes it
-abbrev Quiet : Word → Type 0
-Quiet w = (x : Slot) (v : ℕ) → x .kind ≡ 2 → accessBy (effectOf (ruleOf (codeOf w)) x 0) v ≡ None
+-- what a word does with a cell
+abbrev touched : Word → Touch
+touched w = touchOf (ruleOf (codeOf w))
 
 module _ (p s : List ℕ) (row : ℕ) {q : Position} {w : Word} {n : ℕ} (r : RowOf p q w n) where
   -- a word that has its last value
-  ready-access : (x v : ℕ) → subject p s (readyAt row (q .index) x) ≡ v →
-      accessAt p s (readyAt row (q .index) x) ≡ (if eqb (slotAt s v .kind) 2 then accessBy (effectOf (ruleOf (codeOf w)) (slotAt s v) 0) v else None)
+  ready-access : (x : ℕ) → accessAt p s (readyAt row (q .index) x) ≡ accessBy (touched w) s (readyAt row (q .index) x)
   unfolding accessAt
-  ready-access x v e = rw (e, r .code)
+  ready-access x = rw (r .code)
 
-  quiet : (x : ℕ) → Quiet w → accessAt p s (readyAt row (q .index) x) ≡ None
-  quiet x none-of = let v = subject p s (readyAt row (q .index) x) in ready-access x v refl ∙ by-kind v (eqb (slotAt s v .kind) 2) refl
-    where
-      by-kind : (v : ℕ) (b : Bool) → eqb (slotAt s v .kind) 2 ≡ b → (if b then accessBy (effectOf (ruleOf (codeOf w)) (slotAt s v) 0) v else None) ≡ None
-      by-kind v true h = none-of (slotAt s v) v (eqb-true _ _ h)
-      by-kind v false h = refl
+  quiet : (x : ℕ) → touched w ≡ Nothing → accessAt p s (readyAt row (q .index) x) ≡ None
+  unfolding accessBy
+  quiet x e = ready-access x ∙ ap (λ (u : Touch). accessBy u s (readyAt row (q .index) x)) e
 
 module _ (p s : List ℕ) (row : ℕ) (names : ℕ → state.Slot) (slot-of : (n : ℕ) → SlotIs (slotAt s (suc n)) (names n)) (constant : slotAt s 0 .kind ≡ 0) where
   -- the thread shows what its word is about to use
@@ -224,62 +221,58 @@ module _ (p s : List ℕ) (row : ℕ) (names : ℕ → state.Slot) (slot-of : (n
   silent : (f : ControlPoint) (u : Uses) → accessAt p s f ≡ None → (u .reading ≡ none) × (u .writing ≡ none) → AccessIs (accessAt p s f) u
   silent f u e h = subst (λ (a : Access). AccessIs a u) (sym e) h
 
-  read-subject : {q : Position} {n : ℕ} → RowOf p q (Unary (partWord read)) n → (x : ℕ) → subject p s (readyAt row (q .index) x) ≡ x
-  unfolding subject shapeAt isWrite ruleOf printed
-  read-subject r x = rw (r .code)
-
-  write-subject : {q : Position} {n : ℕ} → RowOf p q (Binary WriteWord) n → (x : ℕ) → subject p s (readyAt row (q .index) x) ≡ kept s row (q .index)
-  unfolding subject shapeAt isWrite ruleOf printed
-  write-subject r x = rw (r .code)
-
   read-shows : (σ : _) (q : Position) (v : Value) {n : ℕ} → RowOf p q (Unary (partWord read)) n → ShowsUse (readyAt row (q .index) (codeValue v)) (redex σ (machine.unaryWord q read v))
-  unfolding ofUnary usesOf ifCell uses.reads uses.unaryReads uses.writes effectOf ruleOf printed
+  unfolding ofUnary usesOf ifCell uses.reads uses.unaryReads uses.writes accessBy namesCell ruleOf printed
   read-shows σ q v r =
-      subst (λ (a : Access). AccessIs a (usesOf names (some (redex σ (machine.unaryWord q read v))))) (sym (ready-access p s row r (codeValue v) (codeValue v) (read-subject r (codeValue v)))) (by-value v)
+      subst (λ (a : Access). AccessIs a (usesOf names (some (redex σ (machine.unaryWord q read v))))) (sym (ready-access p s row r (codeValue v))) (by-value v)
     where
-      by-value : (v : Value) → AccessIs (if eqb (slotAt s (codeValue v) .kind) 2 then accessBy (readOf (slotAt s (codeValue v))) (codeValue v) else None) (usesOf names (some (redex σ (machine.unaryWord q read v))))
+      by-value : (v : Value) → AccessIs (accessBy Reads s (readyAt row (q .index) (codeValue v))) (usesOf names (some (redex σ (machine.unaryWord q read v))))
       by-value (int k) = rw constant (refl, refl)
       by-value (name m) = reads-cell m (slotAt s (suc m)) (names m) (slot-of m)
 
   write-shows : (σ : _) (q : Position) (v w : Value) {n : ℕ} → RowOf p q (Binary WriteWord) n → kept s row (q .index) ≡ codeValue v → ShowsUse (readyAt row (q .index) (codeValue w)) (redex σ (machine.writeWord q v w))
-  unfolding ofUnary usesOf ifCell uses.reads uses.writes effectOf ruleOf printed
+  unfolding ofUnary usesOf ifCell uses.reads uses.writes accessBy namesCell ruleOf printed
   write-shows σ q v w r held =
-      subst (λ (a : Access). AccessIs a (usesOf names (some (redex σ (machine.writeWord q v w))))) (sym (ready-access p s row r (codeValue w) (codeValue v) (write-subject r (codeValue w) ∙ held))) (by-value v)
+      subst (λ (a : Access). AccessIs a (usesOf names (some (redex σ (machine.writeWord q v w))))) (sym (ready-access p s row r (codeValue w))) (rw held (by-value v))
     where
-      by-value : (v : Value) → AccessIs (if eqb (slotAt s (codeValue v) .kind) 2 then accessBy (writtenOf (slotAt s (codeValue v)) 0) (codeValue v) else None) (usesOf names (some (redex σ (machine.writeWord q v w))))
+      by-value : (v : Value) → AccessIs (if namesCell s (codeValue v) then Write (codeValue v) else None) (usesOf names (some (redex σ (machine.writeWord q v w))))
       by-value (int k) = rw constant (refl, refl)
       by-value (name m) = writes-cell m (slotAt s (suc m)) (names m) (slot-of m)
 
   -- any other word with one part
-  part-silent : (σ : _) (q : Position) (o : calculus.Unary) (v : Value) {n : ℕ} → RowOf p q (Unary (partWord o)) n → Quiet (Unary (partWord o)) → ((x : Value) → uses.unaryReads o x ≡ none) →
+  part-silent : (σ : _) (q : Position) (o : calculus.Unary) (v : Value) {n : ℕ} → RowOf p q (Unary (partWord o)) n → touched (Unary (partWord o)) ≡ Nothing → ((x : Value) → uses.unaryReads o x ≡ none) →
       ShowsUse (readyAt row (q .index) (codeValue v)) (redex σ (machine.unaryWord q o v))
   unfolding ofUnary usesOf ifCell uses.reads uses.writes uses.unaryReads
-  part-silent σ q o v r quiet-rule no-read =
-      silent (readyAt row (q .index) (codeValue v)) (usesOf names (some (redex σ (machine.unaryWord q o v)))) (quiet p s row r (codeValue v) quiet-rule)
+  part-silent σ q o v r no-touch no-read =
+      silent (readyAt row (q .index) (codeValue v)) (usesOf names (some (redex σ (machine.unaryWord q o v)))) (quiet p s row r (codeValue v) no-touch)
       (ap (λ (z : Option ℕ). z >>= λ n. cellValue (names n) >> some n) (no-read v), refl)
 
+  part-shows : (σ : _) (q : Position) (o : calculus.Unary) (v : Value) {n : ℕ} → RowOf p q (Unary (partWord o)) n → ShowsUse (readyAt row (q .index) (codeValue v)) (redex σ (machine.unaryWord q o v))
+  unfolding uses.unaryReads ruleOf printed
+  part-shows σ q read v r = read-shows σ q v r
+  part-shows σ q calculus.join v r = part-silent σ q calculus.join v r refl (λ x. refl)
+  part-shows σ q calculus.ref v r = part-silent σ q calculus.ref v r refl (λ x. refl)
+  part-shows σ q calculus.lock v r = part-silent σ q calculus.lock v r refl (λ x. refl)
+  part-shows σ q calculus.unlock v r = part-silent σ q calculus.unlock v r refl (λ x. refl)
+  part-shows σ q calculus.post v r = part-silent σ q calculus.post v r refl (λ x. refl)
+  part-shows σ q calculus.wait v r = part-silent σ q calculus.wait v r refl (λ x. refl)
+  part-shows σ q (calculus.hold calculus.rdlock) v r = part-silent σ q (calculus.hold calculus.rdlock) v r refl (λ x. refl)
+  part-shows σ q (calculus.hold calculus.rdunlock) v r = part-silent σ q (calculus.hold calculus.rdunlock) v r refl (λ x. refl)
+  part-shows σ q (calculus.hold calculus.wrlock) v r = part-silent σ q (calculus.hold calculus.wrlock) v r refl (λ x. refl)
+  part-shows σ q (calculus.hold calculus.wrunlock) v r = part-silent σ q (calculus.hold calculus.wrunlock) v r refl (λ x. refl)
+  part-shows σ q (calculus.call called) v r = part-silent σ q (calculus.call called) v r refl (λ x. refl)
+
   word-shows : (σ : _) (w : machine.Word) (f : ControlPoint) → WordAt p s row f w → ShowsUse f (redex σ w)
-  unfolding ofUnary usesOf ifCell uses.reads uses.unaryReads uses.writes accessAt effectOf spawnedOf joinedOf madeOf lockedOf unlockedOf postedOf waitedOf rdlockedOf rdunlockedOf wrlockedOf wrunlockedOf ruleOf printed
-  word-shows σ (machine.letWord q x v e) f (z, r, S) = subst (λ (g : ControlPoint). ShowsUse g (redex σ (machine.letWord q x v e))) (sym z) (silent (readyAt row (q .index) (codeValue v)) (usesBoth none none) (quiet p s row r (codeValue v) (λ x y h. refl)) (refl, refl))
+  unfolding ofUnary usesOf ifCell uses.reads uses.writes accessAt ruleOf printed
+  word-shows σ (machine.letWord q x v e) f (z, r, S) = subst (λ (g : ControlPoint). ShowsUse g (redex σ (machine.letWord q x v e))) (sym z) (silent (readyAt row (q .index) (codeValue v)) (usesBoth none none) (quiet p s row r (codeValue v) refl) (refl, refl))
   word-shows σ (machine.ifWord q e₁ e₂) f (z, n, r, S₁, S₂) = subst (λ (g : ControlPoint). ShowsUse g (redex σ (machine.ifWord q e₁ e₂))) (sym z) (refl, refl)
   word-shows σ (machine.whileWord q e) f (z, n, r, S) = subst (λ (g : ControlPoint). ShowsUse g (redex σ (machine.whileWord q e))) (sym z) (refl, refl)
-  word-shows σ (machine.spawnWord q v e) f (z, n, r, S) = subst (λ (g : ControlPoint). ShowsUse g (redex σ (machine.spawnWord q v e))) (sym z) (silent (readyAt row (q .index) (codeValue v)) (usesBoth none none) (quiet p s row r (codeValue v) (λ x y h. rw h)) (refl, refl))
+  word-shows σ (machine.spawnWord q v e) f (z, n, r, S) = subst (λ (g : ControlPoint). ShowsUse g (redex σ (machine.spawnWord q v e))) (sym z) (silent (readyAt row (q .index) (codeValue v)) (usesBoth none none) (quiet p s row r (codeValue v) refl) (refl, refl))
   word-shows σ (machine.writeWord q v w) f (z, n, r, held) = subst (λ (g : ControlPoint). ShowsUse g (redex σ (machine.writeWord q v w))) (sym z) (write-shows σ q v w r held)
-  word-shows σ (machine.unaryWord q read v) f (z, n, r, N) = subst (λ (g : ControlPoint). ShowsUse g (redex σ (machine.unaryWord q read v))) (sym z) (read-shows σ q v r)
-  word-shows σ (machine.unaryWord q calculus.join v) f (z, n, r, N) = subst (λ (g : ControlPoint). ShowsUse g (redex σ (machine.unaryWord q calculus.join v))) (sym z) (part-silent σ q calculus.join v r (λ x y h. rw h) (λ x. refl))
-  word-shows σ (machine.unaryWord q calculus.ref v) f (z, n, r, N) = subst (λ (g : ControlPoint). ShowsUse g (redex σ (machine.unaryWord q calculus.ref v))) (sym z) (part-silent σ q calculus.ref v r (λ x y h. refl) (λ x. refl))
-  word-shows σ (machine.unaryWord q calculus.lock v) f (z, n, r, N) = subst (λ (g : ControlPoint). ShowsUse g (redex σ (machine.unaryWord q calculus.lock v))) (sym z) (part-silent σ q calculus.lock v r (λ x y h. rw h) (λ x. refl))
-  word-shows σ (machine.unaryWord q calculus.unlock v) f (z, n, r, N) = subst (λ (g : ControlPoint). ShowsUse g (redex σ (machine.unaryWord q calculus.unlock v))) (sym z) (part-silent σ q calculus.unlock v r (λ x y h. rw h) (λ x. refl))
-  word-shows σ (machine.unaryWord q calculus.post v) f (z, n, r, N) = subst (λ (g : ControlPoint). ShowsUse g (redex σ (machine.unaryWord q calculus.post v))) (sym z) (part-silent σ q calculus.post v r (λ x y h. rw h) (λ x. refl))
-  word-shows σ (machine.unaryWord q calculus.wait v) f (z, n, r, N) = subst (λ (g : ControlPoint). ShowsUse g (redex σ (machine.unaryWord q calculus.wait v))) (sym z) (part-silent σ q calculus.wait v r (λ x y h. rw h) (λ x. refl))
-  word-shows σ (machine.unaryWord q (calculus.hold calculus.rdlock) v) f (z, n, r, N) = subst (λ (g : ControlPoint). ShowsUse g (redex σ (machine.unaryWord q (calculus.hold calculus.rdlock) v))) (sym z) (part-silent σ q (calculus.hold calculus.rdlock) v r (λ x y h. rw h) (λ x. refl))
-  word-shows σ (machine.unaryWord q (calculus.hold calculus.rdunlock) v) f (z, n, r, N) = subst (λ (g : ControlPoint). ShowsUse g (redex σ (machine.unaryWord q (calculus.hold calculus.rdunlock) v))) (sym z) (part-silent σ q (calculus.hold calculus.rdunlock) v r (λ x y h. rw h) (λ x. refl))
-  word-shows σ (machine.unaryWord q (calculus.hold calculus.wrlock) v) f (z, n, r, N) = subst (λ (g : ControlPoint). ShowsUse g (redex σ (machine.unaryWord q (calculus.hold calculus.wrlock) v))) (sym z) (part-silent σ q (calculus.hold calculus.wrlock) v r (λ x y h. rw h) (λ x. refl))
-  word-shows σ (machine.unaryWord q (calculus.hold calculus.wrunlock) v) f (z, n, r, N) = subst (λ (g : ControlPoint). ShowsUse g (redex σ (machine.unaryWord q (calculus.hold calculus.wrunlock) v))) (sym z) (part-silent σ q (calculus.hold calculus.wrunlock) v r (λ x y h. rw h) (λ x. refl))
-  word-shows σ (machine.unaryWord q (calculus.call called) v) f (z, n, r, N) = subst (λ (g : ControlPoint). ShowsUse g (redex σ (machine.unaryWord q (calculus.call called) v))) (sym z) (part-silent σ q (calculus.call called) v r (λ x y h. refl) (λ x. refl))
+  word-shows σ (machine.unaryWord q o v) f (z, n, r, N) = subst (λ (g : ControlPoint). ShowsUse g (redex σ (machine.unaryWord q o v))) (sym z) (part-shows σ q o v r)
   word-shows σ (machine.nullaryWord q o) f (z, n, r, N) = subst (λ (g : ControlPoint). ShowsUse g (redex σ (machine.nullaryWord q o))) (sym z) (refl, refl)
   word-shows σ (machine.unrolledWord q e) f (z, n, r, S) = subst (λ (g : ControlPoint). ShowsUse g (redex σ (machine.unrolledWord q e))) (sym z) (refl, refl)
-  word-shows σ (machine.againWord q v e) f (z, n, r, S) = subst (λ (g : ControlPoint). ShowsUse g (redex σ (machine.againWord q v e))) (sym z) (silent (readyAt row (q .index) (codeValue v)) (usesBoth none none) (quiet p s row r (codeValue v) (λ x y h. refl)) (refl, refl))
+  word-shows σ (machine.againWord q v e) f (z, n, r, S) = subst (λ (g : ControlPoint). ShowsUse g (redex σ (machine.againWord q v e))) (sym z) (silent (readyAt row (q .index) (codeValue v)) (usesBoth none none) (quiet p s row r (codeValue v) refl) (refl, refl))
 
 -- ------------------------------------------------------------------ the lowest pair
 

@@ -8,4 +8,3 @@ pub use slots::slot_at;
 pub use words::Act;
 pub use words::gives;
 pub use words::reduce;
-pub use words::subject;

@@ -140,15 +140,12 @@ fn make(program: &[u32], space: &mut [u32], row: u32, k: u32, x: Slot) -> Act
 }
 
 // The value that names what the word is about: of a `write` its first part's, else its last part's.
-pub fn subject(program: &[u32], space: &[u32], f: ControlPoint) -> u32
+fn subject(program: &[u32], space: &[u32], f: ControlPoint) -> u32
     ensures { λ r. ⌜ r ≡ subjectOf (now (program .entry)) (now (space .entry)) f ⌝ }
 {
     let k = f.at;
     if replay_control::is_write(replay_control::shape_at(program, k)) {
-        return at(
-            space,
-            layout::KEPT_VALUES + layout::ROW * index(f.row) + index(k),
-        );
+        return replay_control::kept_value(space, f.row, k);
     }
     f.value
 }

@@ -23,6 +23,8 @@ use Rattle.workspace.specs.declared.Rule.the-variants.{VAR, INT, LET, IF
 use Rattle.workspace.specs.declared.Traits.{Traits}
 use Rattle.workspace.specs.declared.Shape.{Shape}
 use Rattle.workspace.specs.declared.Shape.the-variants as shape
+use Rattle.workspace.specs.declared.Touch.{Touch}
+use Rattle.workspace.specs.declared.Touch.the-variants.{Nothing, Reads, Writes}
 
 -- ------------------------------------------------------------------ offsets
 
@@ -123,9 +125,13 @@ printed =
 unfoldable pub ruleOf : ℕ → Rule
 ruleOf k = getD printed k CALL
 
--- what is known of a rule: the word that it is for, and how that is evaluated
+-- what is known of a rule: the word that it is for, how that is evaluated, and what it does with a cell
+abbrev pub touching : Word → Shape → Touch → Traits
+touching x s u = record { word = x; shape = s; touch = u }
+
+-- of a word that touches no cell
 abbrev pub known : Word → Shape → Traits
-known x s = record { word = x; shape = s }
+known x s = touching x s Nothing
 
 abbrev pub traitsOf : Rule → Traits
 traitsOf VAR = known (Leaf Var) shape.Variable
@@ -137,8 +143,8 @@ traitsOf NEWT = known (Leaf Newtid) shape.NoPart
 traitsOf SPAWN = known (Binary Spawn) shape.Spawn
 traitsOf JOIN = known (Unary Join) shape.OnePart
 traitsOf REF = known (Unary Ref) shape.OnePart
-traitsOf WRITE = known (Binary Write) shape.Write
-traitsOf READ = known (Unary Read) shape.OnePart
+traitsOf WRITE = touching (Binary Write) shape.Write Writes
+traitsOf READ = touching (Unary Read) shape.OnePart Reads
 traitsOf NEWL = known (Leaf Newlock) shape.NoPart
 traitsOf LCK = known (Unary Lock) shape.OnePart
 traitsOf ULCK = known (Unary Unlock) shape.OnePart
@@ -157,6 +163,9 @@ wordBy r = traitsOf r .word
 
 abbrev pub shapeOf : Rule → Shape
 shapeOf r = traitsOf r .shape
+
+abbrev pub touchOf : Rule → Touch
+touchOf r = traitsOf r .touch
 
 unfoldable pub wordOf : ℕ → Word
 wordOf k = wordBy (ruleOf k)

@@ -11,7 +11,7 @@ use spec::Word;
 ghost use mathlib.Core.Path.{_≡_};
 ghost use Prim.Native.Nat.{_+_, _*_, _<_};
 ghost use lib.ListN.{length, getD, replicate};
-ghost use Rattle.workspace.specs.Layout.{codeOf, leafCode, unaryCode, binaryCode, ruleOf, known as knownBy, traitsOf, shapeOf, wordOf, kindCode, firstOf, secondOf, typeOf, typeAt, mapCell};
+ghost use Rattle.workspace.specs.Layout.{codeOf, leafCode, unaryCode, binaryCode, ruleOf, touching as touchingBy, known as knownBy, traitsOf, shapeOf, touchOf, wordOf, kindCode, firstOf, secondOf, typeOf, typeAt, mapCell};
 
 // How many 32-bit numbers a check works in.
 pub const SIZE: usize = 16384;
@@ -142,10 +142,18 @@ pub enum Shape {
     Write,
 }
 
-// What is known of a rule: the word that it is for, and how that is evaluated.
+// What a word does with the cell that it is about, if it is about one.
+pub enum Touch {
+    Nothing,
+    Reads,
+    Writes,
+}
+
+// What is known of a rule: the word that it is for, how that is evaluated, and what it does with a cell.
 struct Traits {
     word: Word,
     shape: Shape,
+    touch: Touch,
 }
 
 fn leaf_code(w: LeafWord) -> u32
@@ -234,10 +242,17 @@ pub fn rule_of(code: u32) -> Rule
     }
 }
 
+fn touching(word: Word, shape: Shape, touch: Touch) -> Traits
+    ensures { λ r. ⌜ r ≡ touchingBy word shape touch ⌝ }
+{
+    Traits { word, shape, touch }
+}
+
+// Of a word that touches no cell.
 fn known(word: Word, shape: Shape) -> Traits
     ensures { λ r. ⌜ r ≡ knownBy word shape ⌝ }
 {
-    Traits { word, shape }
+    touching(word, shape, Touch::Nothing)
 }
 
 fn traits_of(r: Rule) -> Traits
@@ -253,8 +268,8 @@ fn traits_of(r: Rule) -> Traits
         Rule::SPAWN => known(Word::Binary(BinaryWord::Spawn), Shape::Spawn),
         Rule::JOIN => known(Word::Unary(UnaryWord::Join), Shape::OnePart),
         Rule::REF => known(Word::Unary(UnaryWord::Ref), Shape::OnePart),
-        Rule::WRITE => known(Word::Binary(BinaryWord::Write), Shape::Write),
-        Rule::READ => known(Word::Unary(UnaryWord::Read), Shape::OnePart),
+        Rule::WRITE => touching(Word::Binary(BinaryWord::Write), Shape::Write, Touch::Writes),
+        Rule::READ => touching(Word::Unary(UnaryWord::Read), Shape::OnePart, Touch::Reads),
         Rule::NEWL => known(Word::Leaf(LeafWord::Newlock), Shape::NoPart),
         Rule::LCK => known(Word::Unary(UnaryWord::Lock), Shape::OnePart),
         Rule::ULCK => known(Word::Unary(UnaryWord::Unlock), Shape::OnePart),
@@ -276,6 +291,14 @@ pub fn shape_of(r: Rule) -> Shape
 {
     let t = traits_of(r);
     t.shape
+}
+
+// What the word of a rule does with a cell.
+pub fn touch_of(r: Rule) -> Touch
+    ensures { λ u. ⌜ u ≡ touchOf r ⌝ }
+{
+    let t = traits_of(r);
+    t.touch
 }
 
 // The word that a number stands for.

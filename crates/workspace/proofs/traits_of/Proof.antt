@@ -1,4 +1,4 @@
--- A rule a line: its word and how that is evaluated.
+-- A rule a line: its word, how that is evaluated and what it does with a cell.
 use borrow.Author.Needs.{needs}
 use Rattle.workspace.proofs.traits_of.Statement.{statement}
 use Rattle.workspace.proofs.traits_of.Tie as tie
@@ -62,17 +62,17 @@ traits-of-spec =
     (λ c. rw (c .known7 .ensures, c .before .enum-told7 .given .1))
     (λ c. rw (c .known8 .ensures, c .before .enum-told8 .given .1))
     (λ c. rw (c .known9 .ensures, c .before .enum-told9 .given .1))
-    (λ c. rw (c .known10 .ensures, c .before .enum-told10 .given .1))
-    (λ c. rw (c .known11 .ensures, c .before .enum-told11 .given .1))
-    (λ c. rw (c .known12 .ensures, c .before .enum-told12 .given .1))
-    (λ c. rw (c .known13 .ensures, c .before .enum-told13 .given .1))
-    (λ c. rw (c .known14 .ensures, c .before .enum-told14 .given .1))
-    (λ c. rw (c .known15 .ensures, c .before .enum-told15 .given .1))
-    (λ c. rw (c .known16 .ensures, c .before .enum-told16 .given .1))
-    (λ c. rw (c .known17 .ensures, c .before .enum-told17 .given .1))
-    (λ c. rw (c .known18 .ensures, c .before .enum-told18 .given .1))
-    (λ c. rw (c .known19 .ensures, c .before .enum-told19 .given .1))
-    (λ c. rw (c .known20 .ensures, c .before .enum-told20 .given .1))
-    (λ c. rw (c .known21 .ensures, c .before .enum-told21 .given .1))
-    (λ c. rw (c .known22 .ensures, c .before .enum-told22 .given .1))
-    (λ c. rw (c .known23 .ensures, c .before .enum-told23 .given .1)))
+    (λ c. rw (c .touching .ensures, c .before .enum-told10 .given .1))
+    (λ c. rw (c .touching2 .ensures, c .before .enum-told11 .given .1))
+    (λ c. rw (c .known10 .ensures, c .before .enum-told12 .given .1))
+    (λ c. rw (c .known11 .ensures, c .before .enum-told13 .given .1))
+    (λ c. rw (c .known12 .ensures, c .before .enum-told14 .given .1))
+    (λ c. rw (c .known13 .ensures, c .before .enum-told15 .given .1))
+    (λ c. rw (c .known14 .ensures, c .before .enum-told16 .given .1))
+    (λ c. rw (c .known15 .ensures, c .before .enum-told17 .given .1))
+    (λ c. rw (c .known16 .ensures, c .before .enum-told18 .given .1))
+    (λ c. rw (c .known17 .ensures, c .before .enum-told19 .given .1))
+    (λ c. rw (c .known18 .ensures, c .before .enum-told20 .given .1))
+    (λ c. rw (c .known19 .ensures, c .before .enum-told21 .given .1))
+    (λ c. rw (c .known20 .ensures, c .before .enum-told22 .given .1))
+    (λ c. rw (c .known21 .ensures, c .before .enum-told23 .given .1)))

@@ -1,4 +1,3 @@
-use Rattle.replay_control.specs.Control.{kept}
 use Rattle.replay_step.specs.Words.{subject}
 use mathlib.Core.Path.{sym, _∙_}
 use borrow.Author.Needs.{needs}
@@ -6,11 +5,11 @@ use Rattle.replay_step.proofs.words.subject.Statement.{statement}
 use Rattle.replay_step.proofs.words.subject.Tie as tie
 
 returns : tie.Need-returns
-unfolding subject kept
-returns c = rw (c .at .ensures, c .before .index2 .ensures .0, c .before .before .index .ensures .0, rw (c .before .before .before .before .before .shape-at .ensures) at (sym (c .before .before .before .before .is-write .ensures) ∙ c .before .before .before .if1 .taken))
+unfolding subject
+returns c = rw (c .kept-value .ensures, rw (c .before .before .before .shape-at .ensures) at (sym (c .before .before .is-write .ensures) ∙ c .before .if1 .taken))
 
 returns-2 : tie.Need-returns-2
-unfolding subject kept
+unfolding subject
 returns-2 c = rw (rw (c .before .before .shape-at .ensures) at (sym (c .before .is-write .ensures) ∙ c .if1 .left))
 
 pub subject-spec : {M : Type 1} → statement M
@@ -19,11 +18,6 @@ subject-spec =
     (tie.spec
     (λ c κs. search needs)
     (λ c κs. search needs)
-    (λ c κs. search needs)
-    (λ c. search needs)
-    (λ c. search needs)
-    (λ c κs. search needs)
-    (λ c. search needs)
     (λ c κs. search needs)
     returns
     returns-2)
