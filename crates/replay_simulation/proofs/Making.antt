@@ -262,7 +262,6 @@ module _ (p s : List ℕ) (row c : ℕ) {q : Position} {v : ℕ} where
   ref-acts w r = rw (r .code) (rw (r .code))
 
 pub maker-kind : (o : calculus.Nullary) → makerSlot o .kind ≡ kindCode (kindMade o)
-unfolding kindMade
 maker-kind newtid = refl
 maker-kind newlock = refl
 maker-kind newsem = refl

@@ -7,7 +7,7 @@ use lib.ListN.{length, replicate}
 use Rattle.calculus.specs.Expression.{int, name, value, ref, call, newtid, newlock, newsem, newrwlock, nullary, Redex, spawnRedex, unaryRedex, nullaryRedex}
 use Rattle.calculus.specs.Reduction.{startState}
 use Rattle.replay_theory.specs.Paths.{partAt}
-use Rattle.replay_theory.specs.Run.{ObjectKind, cells, locks, rwlocks, semaphores, identifiers, Run, startRun, placeOf, hasFinished, isOpen, makes, unaryEffect, kindMade, effect, threadLimit, thingLimit, callLimit}
+use Rattle.replay_theory.specs.Run.{ObjectKind, cells, locks, rwlocks, semaphores, identifiers, Run, startRun, placeOf, hasFinished, isOpen, makes, unaryEffect, effect, threadLimit, thingLimit, callLimit}
 use Rattle.replay_theory.specs.Claim.{Reduced, partIn, openThrough, takesCall, openCallsOf, howMany, Within}
 
 -- Thread 0 reduces that word so many times.
@@ -53,7 +53,7 @@ threads-at-limit = (
 
 -- 64 things of every kind are within the limit: each kind is counted by itself. 65 of one kind are not.
 pub things-at-limit : Within [] (making 64) × ((k : ObjectKind) → ¬ Within [] (steps 65 (made k)))
-unfolding making made steps howMany openCallsOf effect unaryEffect kindMade threadLimit thingLimit callLimit
+unfolding making made steps howMany openCallsOf effect unaryEffect threadLimit thingLimit callLimit
 things-at-limit = (
   record { threads = omega arith; things = λ k. let made-of = by-itself k in omega (arith, made-of); calls = λ i. omega arith },
   λ k W. let many = W .things k in let made-of = one-past k in omega (arith, many, made-of),

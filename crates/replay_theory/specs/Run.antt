@@ -149,7 +149,7 @@ unaryEffect wait = plain
 unaryEffect (hold w) = plain
 unaryEffect (call f) = opens
 
-unfoldable pub kindMade : Nullary → ObjectKind
+abbrev pub kindMade : Nullary → ObjectKind
 kindMade newtid = identifiers
 kindMade newlock = locks
 kindMade newsem = semaphores

@@ -1,6 +1,6 @@
 -- The numbers that stand for words and types give them back.
 use mathlib.Core.Path.{_≡_, refl}
-use Prim.Native.Nat.{ℕ, _+_, _≤_}
+use Prim.Native.Nat.{ℕ, zero, suc, _≤_}
 use native.Mathlib.Omega.{arith}
 use Rattle.spec.specs.declared.TypeLine.{TypeLine}
 use Rattle.spec.specs.declared.TypeLine.the-variants as type-line
@@ -11,9 +11,14 @@ use Rattle.spec.specs.declared.UnaryWord.the-variants.{While, Join, Ref, Read, 
 use Rattle.spec.specs.declared.BinaryWord.the-variants.{Let, If, Spawn, Write}
 use Rattle.workspace.specs.Layout.{codeOf, printed, ruleOf, wordOf, kindCode, firstOf, secondOf, typeOf}
 
--- one more than n is passed, for a number that is not n
-pub up : (n : ℕ) {k : ℕ} → n ≤ k → (k ≡ n → ⊥) → n + 1 ≤ k
-up n h e = omega arith
+-- k is none of the first n numbers, as the last arm of a `match` on k knows it
+abbrev pub NoneOf : ℕ → ℕ → Type 0
+NoneOf zero k = Unit {0}
+NoneOf (suc n) k = NoneOf n k × (k ≡ n → ⊥)
+
+pub past : (n : ℕ) {k : ℕ} → NoneOf n k → n ≤ k
+past zero h = omega arith
+past (suc n) h = let l = past n (h .0) in let e = h .1 in omega arith
 
 pub word-of-code : (w : Word) → wordOf (codeOf w) ≡ w
 unfolding printed ruleOf wordOf
