@@ -7,6 +7,7 @@ from checks import ROOT, check
 # The same notion twice, of the sheets and of the calculus, read and written, or of two calls: one meaning, so one name.
 TWICE = {
     "Env": "the types of the variables in scope, by number and as trees",
+    "Every": "that it is so of each of a list, of conditions and of states",
     "Procedure": "as the sheet lists it, and as the calculus runs it",
     "Program": "as the sheet lists it, and as the calculus runs it",
     "_>>=_": "going on, after an outcome and after an option",

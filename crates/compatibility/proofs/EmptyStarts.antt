@@ -10,16 +10,17 @@ use lib.ListN.{length, replicate}
 use borrow.Author.Tests.{ltb-true, lt-ltb, le-leb}
 use Rattle.spec.specs.Choice.{if_then_else_}
 use Rattle.spec.specs.Text.{bytes, Line, closed, unclosed, lines, Field, onField, fields, digitLimit, digits, leadingZero, value, numeral}
-use Rattle.spec.specs.Reading.{Result, refuse, ok, _>>=_, LineResult, good, bad, badRange, seen, below, inRange, allInRange, withNumeral, numerals, ranged, numbers, splitSheet, Place, passed, nextLine, readLine, readLines, begin, end}
+use Rattle.spec.specs.Reading.{Result, refuse, ok, _>>=_, LineResult, good, bad, badRange, seen, below, inRange, allInRange, withNumeral, numerals, numbers, splitSheet, Place, passed, nextLine, readLine, readLines, begin, end, orBadForm}
 use Rattle.spec.specs.Words.{takesStart, keepsBack}
 use Rattle.spec.specs.Expression.{Step}
 use Rattle.spec.specs.Program.{Program, program}
-use Rattle.spec.specs.Split.{splitLimit, headerLine, typeLines, mapLine, signatureLine, rowOf, startGiven, startRange, postRange, postField, rowLine, split}
+use Rattle.spec.specs.Split.{splitLimit, headerLine, typeLines, mapLine, signatureLine, rowOf, startRange, postRange, postField, rowLine, split, nthMap}
 use Rattle.spec.specs.declared.Header.{Header}
 use Rattle.spec.specs.Verdict.{sheets, conditionsHold, checked, verdict}
 use Rattle.spec.specs.declared.Purpose.the-variants.{Check}
 use Rattle.spec.proofs.Outcomes.{bind-alike}
 use Rattle.spec.proofs.Tests.{both-true}
+use Rattle.spec.proofs.Seen.{ranged}
 use Rattle.compatibility.specs.Texts.{onClosed}
 use Rattle.compatibility.specs.Judging.{splitBy, sheetsBy, checkedBy, verdictBy}
 use Rattle.compatibility.specs.EmptyStarts.{startLeft, rowLineWithMapZero, linesWithMapZero, verdictWithMapZero, writeZero, asItWas, changedInTurn, zerosBehind, zerosWritten, ZeroWritten, ZeroKeepsTheAnswer}
@@ -61,17 +62,17 @@ zero-in-range types maps t m = ap (ltb t types &&_) (by-map (ltb m maps) refl)
 
 judged-alike : (t m : ℕ) (b : Bool)
     → seen (rowOf (some (record { 0 = 0 }))) (if b then good (t ∷ m ∷ []) else bad badRange)
-    ≡ seen (λ ns. rowOf (some (startGiven ns)) ns) (if b then good (t ∷ m ∷ 0 ∷ []) else bad badRange)
-unfolding seen rowOf startGiven
+    ≡ seen (λ ns. rowOf (some (nthMap 2 ns)) ns) (if b then good (t ∷ m ∷ 0 ∷ []) else bad badRange)
+unfolding seen rowOf
 judged-alike t m true = refl
 judged-alike t m false = refl
 
 module _ (H : Header) (s : Step) where
   numbers-alike : (t m : Option ℕ)
       → seen (rowOf (some (record { 0 = 0 }))) (ranged (below (H .types) ∷ below (H .maps) ∷ []) (withNumeral t (withNumeral m (some []))))
-      ≡ seen (λ ns. rowOf (some (startGiven ns)) ns)
+      ≡ seen (λ ns. rowOf (some (nthMap 2 ns)) ns)
       (ranged (below (H .types) ∷ below (H .maps) ∷ below (H .maps) ∷ []) (withNumeral t (withNumeral m (some (0 ∷ [])))))
-  unfolding seen ranged withNumeral
+  unfolding seen orBadForm withNumeral
   numbers-alike none m = refl
   numbers-alike (some t) none = refl
   numbers-alike (some t) (some m) =

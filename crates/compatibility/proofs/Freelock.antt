@@ -5,11 +5,11 @@ use mathlib.Core.Bool.{Bool, true, false}
 use Prim.Native.Nat.{ℕ, zero, suc, _+_, _≤_}
 use native.Mathlib.Omega.{arith}
 use lib.Dec.{leb}
-use lib.ListN.{length, drop, length-append, length-drop}
+use lib.ListN.{length, drop, length-append, length-drop, length-map}
 use borrow.Author.Tests.{leb-true, le-leb}
 use Rattle.spec.specs.Choice.{if_then_else_}
 use Rattle.spec.specs.Text.{bytes, same, Line, closed, unclosed, lines, Field, fields, lookUp}
-use Rattle.spec.specs.Reading.{Result, refuse, ok, _>>=_, require, LineResult, good, bad, programSheet, Place, passed, nextLine, readLine, readLines, begin, noneLeft, end}
+use Rattle.spec.specs.Reading.{Result, refuse, ok, _>>=_, require, LineResult, good, bad, orBadForm, programSheet, Place, passed, nextLine, readLine, readLines, begin, end}
 use Rattle.spec.specs.Words.{leafWords, cellWords, lockWords, unaryWords, words, wordsUnder}
 use Rattle.spec.specs.Expression.{Item}
 use Rattle.spec.specs.Program.{programLimit, Counts, programHeadings, countLine, itemLine, itemLines, Program, program}
@@ -65,8 +65,8 @@ item-alike h k = changed-alike (itemLineWithFreelock h k) (itemLine h k) no-fiel
     no-fields = unfold itemLineWithFreelock itemLine in refl
 
     changed : (h : ProgramHeading) (fs : List Field) → itemLineWithFreelock h k (bytes "freelock" ∷ fs) ≡ itemLine h k (bytes "lock" ∷ fs)
-    changed heading.P fs = unfold itemLineWithFreelock itemLine lookUp wordsUnder words leafWords unaryWords cellWords lockWords same bytes in refl
-    changed heading.P2 fs = unfold itemLineWithFreelock itemLine lookUp wordsUnder words leafWords unaryWords cellWords lockWords same bytes in refl
+    changed heading.P fs = unfold itemLineWithFreelock itemLine orBadForm lookUp wordsUnder words leafWords unaryWords cellWords lockWords same bytes in refl
+    changed heading.P2 fs = unfold itemLineWithFreelock itemLine orBadForm lookUp wordsUnder words leafWords unaryWords cellWords lockWords same bytes in refl
 
     other : (f : Field) (fs : List Field) → same f (bytes "freelock") ≡ false → itemLineWithFreelock h k (f ∷ fs) ≡ itemLine h k (f ∷ fs)
     other f fs w = unfold itemLineWithFreelock itemLine in rw w
@@ -126,11 +126,7 @@ items-moved h k (suc n) p =
 
 end-moved : (p : Place) → end programSheet (changedPlace p) ≡ end programSheet p
 unfolding end changedPlace
-end-moved p = by-lines (p .rest)
-  where
-    by-lines : (ls : List Line) → noneLeft programSheet (p .last) (map (onClosed lockInstead) ls) ≡ noneLeft programSheet (p .last) ls
-    by-lines [] = unfold noneLeft in refl
-    by-lines (l ∷ ls) = unfold noneLeft in refl
+end-moved p = rw (length-map (p .rest) (onClosed lockInstead)) refl
 
 -- ------------------------------------------------------------------ the sheet
 

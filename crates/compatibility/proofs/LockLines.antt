@@ -12,10 +12,10 @@ use lib.ListN.{length}
 use borrow.Author.Tests.{le-leb}
 use Rattle.spec.specs.Choice.{if_then_else_}
 use Rattle.spec.specs.Text.{bytes, same, Line, closed, lines, Field, lookUp, numeral}
-use Rattle.spec.specs.Reading.{ok, _>>=_, good, bad, badRange, seen, _to_, below, inRange, allInRange, withNumeral, numerals, ranged, numbers}
+use Rattle.spec.specs.Reading.{ok, _>>=_, good, bad, badRange, seen, _to_, below, inRange, allInRange, withNumeral, numerals, numbers, orBadForm}
 use Rattle.spec.specs.Expression.{Step}
 use Rattle.spec.specs.Program.{Program}
-use Rattle.spec.specs.Split.{headings, headerRanges, startOf, headerOf, headed, headerLine, lockOf, outRange, typeLine, typeLines, mapLine, signatureLine, startRange, mayBeEmpty, postRange, rowLine, Split, split, splitLimit}
+use Rattle.spec.specs.Split.{headings, headerRanges, startOf, headerOf, headerLine, lockOf, outRange, typeLine, typeLines, mapLine, signatureLine, startRange, mayBeEmpty, postRange, rowLine, Split, split, splitLimit}
 use Rattle.spec.specs.declared.Header.{Header}
 use Rattle.spec.specs.Verdict.{checked, answer, verdict}
 use Rattle.spec.specs.WellFormed.{Parses, nothing, line, WellFormedSplit}
@@ -24,7 +24,7 @@ use Rattle.spec.specs.declared.Purpose.the-variants.{Check}
 use Rattle.spec.specs.declared.TypeLine.{TypeLine}
 use Rattle.spec.proofs.Tests.{same-equal}
 use Rattle.spec.proofs.Outcomes.{bind-alike}
-use Rattle.spec.proofs.Seen.{wrong-is-not-right, seen-right, numbers-right, numbers-spelled, numerals-counted}
+use Rattle.spec.proofs.Seen.{wrong-is-not-right, seen-right, numbers-right, numbers-spelled, numerals-counted, ranged}
 use Rattle.spec.proofs.WellFormed.{split-well-formed, well-formed-split}
 use Rattle.spec.proofs.Sheets.{sheets-then}
 use Rattle.compatibility.specs.LockLines.{secondToo, outWritten, OutsWritten, stay, change, WrittenOut, heading, LocksWritten, InIsOutStays}
@@ -37,7 +37,7 @@ module _ (maps : ℕ) where
   out-numbers : (k z : Option ℕ) (x : TypeLine)
       → seen (lockOf C2) (ranged (below maps ∷ (0 to 0) ∷ []) (withNumeral k (withNumeral z (some [])))) ≡ good x
       → seen (lockOf C3) (ranged (below maps ∷ below maps ∷ []) (withNumeral k (withNumeral k (some [])))) ≡ good x
-  unfolding withNumeral ranged seen allInRange inRange lockOf
+  unfolding withNumeral orBadForm seen allInRange inRange lockOf
   out-numbers none z x h = wrong-is-not-right h
   out-numbers (some k) none x h = wrong-is-not-right h
   out-numbers (some k) (some z) x h = in-range (ltb k maps) (inRange (0 to 0) z && true) h
@@ -113,7 +113,7 @@ numbers-written ns = refl
 
 header-written : (fs : List Field) (H : Header) → headerLine Check (bytes "C2" ∷ fs) ≡ good H
     → (headerLine Check (bytes "C3" ∷ fs) ≡ good (headedAs C3 H)) × (H .heading ≡ C2)
-unfolding headerLine headings lookUp same bytes headed headerRanges headerOf
+unfolding headerLine headings lookUp same bytes orBadForm headerRanges headerOf
 header-written fs H h =
     let (ns, n, e) = seen-right _ h in
     (ap (seen (headerOf C3)) n ∙ numbers-written ns ∙ ap (λ (x : Header). good (headedAs C3 x)) e, sym (ap (λ (x : Header). x .heading) e))

@@ -10,10 +10,10 @@ use lib.ListN.{length, length-append}
 use borrow.Author.Tests.{le-leb, ne-eqb}
 use Rattle.spec.specs.Choice.{if_then_else_}
 use Rattle.spec.specs.Text.{bytes, same, Line, closed, unclosed, lines, Field, onField, fields, lookUp}
-use Rattle.spec.specs.Reading.{Result, ok, _>>=_, programSheet, LineResult, good, bad, badRange, freelock, seen, refuseAfter, _to_, inRange, allInRange, numerals, ranged, numbers, Place, passed, nextLine, readLine, readLines}
+use Rattle.spec.specs.Reading.{Result, ok, _>>=_, programSheet, LineResult, good, bad, badRange, freelock, seen, refuseAfter, _to_, inRange, allInRange, numerals, numbers, Place, passed, nextLine, readLine, readLines, orBadForm}
 use Rattle.spec.specs.Words.{words, wordsUnder}
 use Rattle.spec.specs.Expression.{Item, Procedure}
-use Rattle.spec.specs.Program.{programLimit, Counts, firstNumber, programHeadings, countRanges, proceduresOf, countsOf, counted, countLine, wordLine, procLine, itemLine, itemLines, Program, program}
+use Rattle.spec.specs.Program.{programLimit, Counts, programHeadings, countRanges, proceduresOf, countsOf, countLine, wordLine, procLine, itemLine, itemLines, Program, program}
 use Rattle.spec.specs.Verdict.{sheets, checked, verdict}
 use Rattle.spec.specs.WellFormed.{WellFormedProgram}
 use Rattle.spec.specs.declared.ProgramHeading.{ProgramHeading}
@@ -26,7 +26,7 @@ use Rattle.compatibility.specs.PlainPrograms.{plainHeader, headerWithNon
 use Rattle.compatibility.proofs.Texts.{fields-append}
 use Rattle.compatibility.proofs.ZeroField.{withZero, numerals-zero, one-line-append, not-ten}
 use Rattle.compatibility.proofs.ProgramStages.{afterItems, afterCount, program-stages}
-use Rattle.spec.proofs.Seen.{wrong-is-not-right, seen-right}
+use Rattle.spec.proofs.Seen.{wrong-is-not-right, seen-right, formed-right, ranged}
 
 -- ------------------------------------------------------------------ line 1
 
@@ -37,7 +37,7 @@ underP2 N = record { heading = P2; steps = N .steps; procedures = N .procedures 
 -- one numeral is judged as that one and a 0; more or fewer are of the wrong form on both sheets
 judged : (o : Option (List ℕ))
     → seen (countsOf P2) (ranged (countRanges P2) (withZero o)) ≡ seen underP2 (seen (countsOf P) (ranged (countRanges P) o))
-unfolding withZero ranged seen countRanges allInRange inRange countsOf proceduresOf firstNumber underP2
+unfolding withZero orBadForm seen countRanges allInRange inRange countsOf proceduresOf underP2
 judged none = refl
 judged (some []) = refl
 judged (some (n ∷ [])) = go (allInRange (countRanges P) (n ∷ []))
@@ -53,12 +53,12 @@ judged (some (n ∷ k ∷ ns)) =
     )
 
 count-counted : (fs : List Field) → countLine (bytes "P2" ∷ fs ++ (48 ∷ []) ∷ []) ≡ seen underP2 (countLine (bytes "P" ∷ fs))
-unfolding countLine counted programHeadings lookUp same bytes numbers
+unfolding countLine orBadForm programHeadings lookUp same bytes numbers
 count-counted fs = ap (λ (o : Option (List ℕ)). seen (countsOf P2) (ranged (countRanges P2) o)) (numerals-zero fs) ∙ judged (numerals fs)
 
 -- such a sheet is headed `P`
 count-plain : (fs : List Field) (N : Counts) → countLine (bytes "P" ∷ fs) ≡ good N → N .heading ≡ P
-unfolding countLine counted programHeadings lookUp same bytes countsOf
+unfolding countLine orBadForm programHeadings lookUp same bytes countsOf
 count-plain fs N h = let (ns, _, e) = seen-right _ h in sym (ap (λ (x : Counts). x .heading) e)
 
 module _ (a : List ℕ) where
@@ -80,9 +80,9 @@ item-same k (f ∷ fs) h = by-word (same f (bytes "proc")) (same (bytes "call") 
   where
     by-word : (b c : Bool) → (b || c) ≡ false
         → (if same f (bytes "freelock") then refuseAfter freelock (numbers ((0 to 0) ∷ []) fs)
-        else if b then procLine P2 k fs else wordLine k (if c then some (Unary Call) else lookUp words f) fs)
+        else if b then procLine P2 k fs else orBadForm (if c then some (Unary Call) else lookUp words f) λ w. wordLine k w fs)
         ≡ (if same f (bytes "freelock") then refuseAfter freelock (numbers ((0 to 0) ∷ []) fs)
-        else if b then procLine P k fs else wordLine k (lookUp words f) fs)
+        else if b then procLine P k fs else orBadForm (lookUp words f) λ w. wordLine k w fs)
     by-word true c h = true-is-not-false h
     by-word false true h = true-is-not-false h
     by-word false false h = refl
@@ -157,12 +157,11 @@ plain-has-no-procedures {Q = Q} w is-plain = none-there (Q .procedures) (none-co
     none-there [] h = refl
     none-there (p ∷ ps) h = absurd (omega (arith, h))
 
-    by-heading : (o : Option ProgramHeading) (fs : List Field) (N : Counts) → counted o fs ≡ good N → N .heading ≡ P → N .procedures ≡ 0
-    by-heading none fs N h e = unfold counted in wrong-is-not-right h
-    by-heading (some P) fs N h e = unfold counted countsOf proceduresOf in
+    by-heading : (h : ProgramHeading) (fs : List Field) (N : Counts) → seen (countsOf h) (numbers (countRanges h) fs) ≡ good N → N .heading ≡ P → N .procedures ≡ 0
+    by-heading P fs N h e = unfold countsOf proceduresOf in
         let (ns, _, is) = seen-right _ h in
         sym (ap (λ (x : Counts). x .procedures) is)
-    by-heading (some P2) fs N h e = unfold counted countsOf in
+    by-heading P2 fs N h e = unfold countsOf in
         let (ns, _, is) = seen-right _ h in
         let other : P2 ≡ P = ap (λ (x : Counts). x .heading) is ∙ e in
         let clash : _≡_ {A = ℕ} 0 1 = cc in
@@ -170,4 +169,4 @@ plain-has-no-procedures {Q = Q} w is-plain = none-there (Q .procedures) (none-co
 
     none-counted : (fs : List Field) (N : Counts) → countLine fs ≡ good N → N .heading ≡ P → N .procedures ≡ 0
     none-counted [] N h e = unfold countLine in wrong-is-not-right h
-    none-counted (f ∷ fs) N h e = unfold countLine in by-heading (lookUp programHeadings f) fs N h e
+    none-counted (f ∷ fs) N h e = unfold countLine in let (heading, _, shown) = formed-right _ _ h in by-heading heading fs N shown e

@@ -6,10 +6,10 @@ use mathlib.Core.Option.{Option, some}
 use Prim.Native.Nat.{ℕ, zero, suc, _+_}
 use Rattle.spec.specs.Choice.{if_then_else_}
 use Rattle.spec.specs.Text.{bytes, same as same-bytes, Line, closed, unclosed, lines, Field, fields, lookUp}
-use Rattle.spec.specs.Reading.{Result, _>>=_, Fault, badForm, LineResult, good, bad, freelock, refuseAfter, _to_, numbers, programSheet, form, faulty, passed, nextLine, readLine, begin}
+use Rattle.spec.specs.Reading.{Result, _>>=_, Fault, badForm, LineResult, good, bad, freelock, refuseAfter, _to_, numbers, programSheet, form, faulty, passed, nextLine, readLine, begin, orBadForm, seen}
 use Rattle.spec.specs.Words.{leafWords, unaryWords, cellWords, lockWords, holdWords, binaryWords, words, wordsUnder}
 use Rattle.spec.specs.Expression.{Item}
-use Rattle.spec.specs.Program.{Counts, programHeadings, countsOf, counted, countLine, wordLine, procLine, itemLine, itemLines, program}
+use Rattle.spec.specs.Program.{Counts, programHeadings, countsOf, countLine, wordLine, procLine, itemLine, itemLines, program, countRanges}
 use Rattle.spec.specs.Split.{split}
 use Rattle.spec.specs.Verdict.{sheets, conditionsHold, checked, answer, verdict}
 use Rattle.spec.specs.declared.Answer.the-variants.{Refuse}
@@ -33,10 +33,11 @@ item-alike k [] = refl
 item-alike k (f ∷ fs) = ap (λ (x : LineResult Item). if same-bytes f (bytes "freelock") then refuseAfter freelock (numbers ((0 to 0) ∷ []) fs) else x)
     (by-word (same-bytes f (bytes "proc")) refl)
   where
-    by-word : (b : Bool) → same-bytes f (bytes "proc") ≡ b → wordLine k (lookUp words f) fs ≡ (if b then procLine P k fs else wordLine k (lookUp words f) fs)
+    by-word : (b : Bool) → same-bytes f (bytes "proc") ≡ b
+        → orBadForm (lookUp words f) (λ w. wordLine k w fs) ≡ (if b then procLine P k fs else orBadForm (lookUp words f) λ w. wordLine k w fs)
     by-word true e =
         let is : f ≡ bytes "proc" = same-equal f (bytes "proc") e in
-        rw is (unfold procLine wordLine lookUp words leafWords unaryWords cellWords lockWords holdWords binaryWords same-bytes bytes in refl)
+        rw is (unfold procLine orBadForm lookUp words leafWords unaryWords cellWords lockWords holdWords binaryWords same-bytes bytes in refl)
     by-word false e = refl
 
 items-alike : (k n : ℕ) → plainItemLines P k n ≡ itemLines P k n
@@ -56,18 +57,18 @@ data CountAlike : (former now : LineResult Counts) → Type 0 where
   plain-read : (N : Counts) → N .heading ≡ P → CountAlike (good N) (good N)
 
 count-alike : (fs : List Field) → CountAlike (plainCountLine fs) (countLine fs)
-unfolding plainCountLine countLine counted lookUp programHeadings
+unfolding plainCountLine countLine orBadForm lookUp programHeadings
 count-alike [] = refused _
 count-alike (f ∷ fs) = by-heading (same-bytes (bytes "P") f) _
   where
-    headed : (x : LineResult Counts) → counted (some P) fs ≡ x → CountAlike x x
+    headed : (x : LineResult Counts) → seen (countsOf P) (numbers (countRanges P) fs) ≡ x → CountAlike x x
     headed (bad w) e = too-refused w
-    headed (good N) e = unfold counted countsOf in
+    headed (good N) e = unfold countsOf in
         let (ns, _, is) = seen-right _ e in
         plain-read N (sym (ap (λ (x : Counts). x .heading) is))
 
-    by-heading : (b : Bool) (other : Option ProgramHeading) → CountAlike (if b then counted (some P) fs else bad badForm)
-        (counted (if b then some P else other) fs)
+    by-heading : (b : Bool) (other : Option ProgramHeading) → CountAlike (if b then seen (countsOf P) (numbers (countRanges P) fs) else bad badForm)
+        (orBadForm (if b then some P else other) λ h. seen (countsOf h) (numbers (countRanges h) fs))
     by-heading true other = headed _ refl
     by-heading false other = refused _
 

@@ -12,11 +12,11 @@ use lib.ListN.{length, replicate, length-append}
 use borrow.Author.Tests.{le-leb, ne-eqb}
 use Rattle.spec.specs.Choice.{if_then_else_}
 use Rattle.spec.specs.Text.{bytes, same, Line, closed, unclosed, lines, Field, onField, fields, lookUp}
-use Rattle.spec.specs.Reading.{splitSheet, Result, refuse, ok, _>>=_, require, noStart, LineResult, good, bad, badRange, seen, ensure, allInRange, numerals, ranged, numbers, faulty, passed, nextLine, readLine, readLines, begin, end, Place}
+use Rattle.spec.specs.Reading.{splitSheet, Result, refuse, ok, _>>=_, require, noStart, LineResult, good, bad, badRange, seen, ensure, allInRange, numerals, numbers, faulty, passed, nextLine, readLine, readLines, begin, end, Place, orBadForm}
 use Rattle.spec.specs.Expression.{Step}
 use Rattle.spec.specs.Words.{keepsBack}
 use Rattle.spec.specs.Program.{Program, programLimit, program}
-use Rattle.spec.specs.Split.{Map, headings, headerRanges, mapsOf, mapsIn, startOf, headerOf, headed, headerLine, lockOf, outRange, typeLine, typeLines, mapLine, signatureLine, Row, startRange, mayBeEmpty, emptyFault, postRange, rowLine, Split, splitLimit, split}
+use Rattle.spec.specs.Split.{Map, headings, headerRanges, mapsOf, mapsIn, startOf, headerOf, headerLine, lockOf, outRange, typeLine, typeLines, mapLine, signatureLine, Row, startRange, mayBeEmpty, emptyFault, postRange, rowLine, Split, splitLimit, split}
 use Rattle.spec.specs.declared.Signature.{Signature}
 use Rattle.spec.specs.declared.Header.{Header}
 use Rattle.spec.specs.Workspace.{workspaceSize}
@@ -30,7 +30,7 @@ use Rattle.compatibility.specs.StartNamed.{headerUnnamed, headerNamed, M
 use Rattle.compatibility.proofs.Texts.{above-lines, fields-append}
 use Rattle.spec.proofs.Sheets.{sheets-then}
 use Rattle.compatibility.proofs.NoHeading.{headedAs, under, ruling, same-ruling}
-use Rattle.spec.proofs.Seen.{seen-right, first-map-fits}
+use Rattle.spec.proofs.Seen.{seen-right, first-map-fits, ranged}
 use Rattle.spec.proofs.Starts.{never-empty}
 use Rattle.compatibility.proofs.ZeroField.{withZero, numerals-zero, one-line-append, not-ten}
 use Rattle.spec.specs.declared.Purpose.the-variants.{Check}
@@ -40,7 +40,7 @@ use Rattle.spec.specs.declared.Purpose.the-variants.{Check}
 -- four numerals are judged as those four and a 0; more or fewer are of the wrong form on both sheets
 judged : (o : Option (List ℕ))
     → seen (headerOf C2) (ranged (headerRanges C2 (mapsIn (withZero o))) (withZero o)) ≡ seen (headedAs C2) (seen (headerOf C) (ranged (headerRanges C (mapsIn o)) o))
-unfolding withZero mapsIn ranged seen headerRanges mapsOf headerOf startOf headedAs
+unfolding withZero mapsIn orBadForm seen headerRanges mapsOf headerOf startOf headedAs
 judged none = refl
 judged (some []) = refl
 judged (some (d ∷ [])) = refl
@@ -61,13 +61,13 @@ judged (some (d ∷ l ∷ t ∷ m ∷ r ∷ ns)) =
     )
 
 header-named : (fs : List Field) → headerLine Check (bytes "C2" ∷ fs ++ (48 ∷ []) ∷ []) ≡ seen (headedAs C2) (headerLine Check (bytes "C" ∷ fs))
-unfolding headerLine headings lookUp same bytes headed numbers
+unfolding headerLine headings lookUp same bytes orBadForm numbers
 header-named fs =
     ap (λ (o : Option (List ℕ)). seen (headerOf C2) (ranged (headerRanges C2 (mapsIn o)) o)) (numerals-zero fs) ∙ judged (numerals fs)
 
 -- such a header is headed `C`
 header-plain : (fs : List Field) (H : Header) → headerLine Check (bytes "C" ∷ fs) ≡ good H → H .heading ≡ C
-unfolding headerLine headings lookUp same bytes headed headerOf
+unfolding headerLine headings lookUp same bytes orBadForm headerOf
 header-plain fs H h = let (ns, _, e) = seen-right _ h in sym (ap (λ (x : Header). x .heading) e)
 
 -- ------------------------------------------------------------------ line 1

@@ -2,7 +2,6 @@
 use mathlib.Core.Path.{_≡_}
 use mathlib.Core.List.{List, [], _∷_, map}
 use mathlib.Core.Bool.{Bool, true, false, _&&_, _||_}
-use mathlib.Core.Option.{some}
 use Prim.Native.Nat.{ℕ, zero, suc, _+_}
 use lib.Dec.{eqb, leb}
 use lib.ListN.{drop}
@@ -26,7 +25,7 @@ use Rattle.compatibility.specs.Judging.{programBy, verdictBy}
 -- `freelock,v` was read as `lock,v`; other lines are read as they are now
 unfoldable pub itemLineWithFreelock : ProgramHeading → (line : ℕ) → List Field → LineResult Item
 itemLineWithFreelock h k [] = itemLine h k []
-itemLineWithFreelock h k (f ∷ fs) = if same f (bytes "freelock") then wordLine k (some (Unary Lock)) fs else itemLine h k (f ∷ fs)
+itemLineWithFreelock h k (f ∷ fs) = if same f (bytes "freelock") then wordLine k (Unary Lock) fs else itemLine h k (f ∷ fs)
 
 unfoldable pub itemLinesWithFreelock : ProgramHeading → (line n : ℕ) → List (List Field → LineResult Item)
 itemLinesWithFreelock h k zero = []

@@ -6,7 +6,7 @@ use Prim.Native.Nat.{ℕ, zero, suc, _+_, _≤_}
 use lib.ListN.{length}
 use Rattle.spec.specs.Choice.{if_then_else_}
 use Rattle.spec.specs.Text.{bytes, same, Line, closed, unclosed, lines, Field, fields, lookUp}
-use Rattle.spec.specs.Reading.{Result, LineResult, bad, badForm, freelock, seen, refuseAfter, _to_, numbers}
+use Rattle.spec.specs.Reading.{Result, LineResult, bad, badForm, freelock, seen, refuseAfter, _to_, numbers, orBadForm}
 use Rattle.spec.specs.Words.{words}
 use Rattle.spec.specs.Expression.{Item}
 use Rattle.spec.specs.Program.{programLimit, Counts, countRanges, countsOf, wordLine, Program}
@@ -30,7 +30,7 @@ plainCountLine (f ∷ fs) = if same (bytes "P") f then seen (countsOf P) (number
 unfoldable pub plainItemLine : (line : ℕ) → List Field → LineResult Item
 plainItemLine k [] = bad badForm
 plainItemLine k (f ∷ fs) =
-    if same f (bytes "freelock") then refuseAfter freelock (numbers ((0 to 0) ∷ []) fs) else wordLine k (lookUp words f) fs
+    if same f (bytes "freelock") then refuseAfter freelock (numbers ((0 to 0) ∷ []) fs) else orBadForm (lookUp words f) λ w. wordLine k w fs
 
 unfoldable pub plainItemLines : ProgramHeading → (line n : ℕ) → List (List Field → LineResult Item)
 plainItemLines h k zero = []

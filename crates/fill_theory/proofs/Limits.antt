@@ -1,6 +1,5 @@
 -- The size limits of a filled sheet: its numbers, and its steps.
 use mathlib.Core.Path.{_≡_, refl, subst}
-use mathlib.Core.Option.{Option, none, some}
 use mathlib.Core.Bool.{Bool, true, false, _&&_}
 use mathlib.Core.List.{List, [], _∷_}
 use mathlib.Core.Logic.{_↔_}
@@ -9,9 +8,9 @@ use native.Mathlib.Omega.{arith}
 use lib.Dec.{leb}
 use lib.ListN.{length, getD}
 use borrow.Author.Tests.{leb-true, leb-false, le-leb}
-use Rattle.spec.specs.Text.{Field, lookUp, fields}
-use Rattle.spec.specs.Reading.{good, _to_}
-use Rattle.spec.specs.Program.{Program, Counts, firstNumber, programHeadings, countRanges, proceduresOf, countsOf, counted, countLine}
+use Rattle.spec.specs.Text.{Field, fields}
+use Rattle.spec.specs.Reading.{good, _to_, seen, numbers}
+use Rattle.spec.specs.Program.{Program, Counts, countRanges, proceduresOf, countsOf, countLine}
 use Rattle.spec.specs.Split.{Map}
 use Rattle.spec.specs.WellFormed.{WellFormedProgram}
 use Rattle.spec.specs.Accepted.{AtMost, none as noneAtMost, more as moreAtMost}
@@ -19,7 +18,7 @@ use Rattle.spec.specs.declared.ProgramHeading.{ProgramHeading}
 use Rattle.spec.specs.declared.ProgramHeading.the-variants as heading
 use Rattle.spec.proofs.Clashes.{true-is-not-false}
 use Rattle.spec.proofs.Tests.{both-true}
-use Rattle.spec.proofs.Seen.{wrong-is-not-right, seen-right, in-range-at, in-to}
+use Rattle.spec.proofs.Seen.{wrong-is-not-right, seen-right, in-range-at, in-to, formed-right}
 use Rattle.fill_theory.specs.Answer.{mapAtMost, allAtMost}
 
 -- at most d at each place
@@ -78,39 +77,37 @@ some-above limit (m ∷ ms) h = go (mapAtMost limit m) refl h (some-above limit 
     go true e h rest = let (i, l, above) = rest h in (suc i, l, above)
 
 -- a program has at most 256 steps
-counted-few : (o : Option ProgramHeading) (fs : List Field) (N : Counts) → counted o fs ≡ good N → N .steps ≤ 256
-unfolding counted countsOf countRanges firstNumber
-counted-few none fs N h = wrong-is-not-right h
-counted-few (some heading.P) fs N h =
+counted-few : (h : ProgramHeading) (fs : List Field) (N : Counts) → seen (countsOf h) (numbers (countRanges h) fs) ≡ good N → N .steps ≤ 256
+unfolding countsOf countRanges
+counted-few heading.P fs N h =
     let (ns, r, e) = seen-right _ h in
     subst (λ (M : Counts). M .steps ≤ 256) e (in-to _ _ _ (in-range-at ((1 to 256) ∷ []) fs ns r 0 (omega arith)) .1)
-counted-few (some heading.P2) fs N h =
+counted-few heading.P2 fs N h =
     let (ns, r, e) = seen-right _ h in
     subst (λ (M : Counts). M .steps ≤ 256) e (in-to _ _ _ (in-range-at ((1 to 256) ∷ (0 to 16) ∷ []) fs ns r 0 (omega arith)) .1)
 
 count-few : (fs : List Field) (N : Counts) → countLine fs ≡ good N → N .steps ≤ 256
 unfolding countLine
 count-few [] N h = wrong-is-not-right h
-count-few (f ∷ fs) N h = counted-few (lookUp programHeadings f) fs N h
+count-few (f ∷ fs) N h = let (heading, _, shown) = formed-right _ _ h in counted-few heading fs N shown
 
 pub steps-few : {text : List ℕ} (P : Program) → WellFormedProgram text P → length (P .steps) ≤ 256
 steps-few P W = count-few (fields (W .first)) _ (W .counted)
 
 -- and at most 16 procedures
-counted-procedures : (o : Option ProgramHeading) (fs : List Field) (N : Counts) → counted o fs ≡ good N → N .procedures ≤ 16
-unfolding counted countsOf countRanges proceduresOf
-counted-procedures none fs N h = wrong-is-not-right h
-counted-procedures (some heading.P) fs N h =
+counted-procedures : (h : ProgramHeading) (fs : List Field) (N : Counts) → seen (countsOf h) (numbers (countRanges h) fs) ≡ good N → N .procedures ≤ 16
+unfolding countsOf countRanges proceduresOf
+counted-procedures heading.P fs N h =
     let (ns, r, e) = seen-right _ h in
     subst (λ (M : Counts). M .procedures ≤ 16) e (omega arith)
-counted-procedures (some heading.P2) fs N h =
+counted-procedures heading.P2 fs N h =
     let (ns, r, e) = seen-right _ h in
     subst (λ (M : Counts). M .procedures ≤ 16) e (in-to _ _ _ (in-range-at ((1 to 256) ∷ (0 to 16) ∷ []) fs ns r 1 (omega arith)) .1)
 
 count-procedures : (fs : List Field) (N : Counts) → countLine fs ≡ good N → N .procedures ≤ 16
 unfolding countLine
 count-procedures [] N h = wrong-is-not-right h
-count-procedures (f ∷ fs) N h = counted-procedures (lookUp programHeadings f) fs N h
+count-procedures (f ∷ fs) N h = let (heading, _, shown) = formed-right _ _ h in counted-procedures heading fs N shown
 
 pub procedures-few : {text : List ℕ} (P : Program) → WellFormedProgram text P → length (P .procedures) ≤ 16
 procedures-few P W = count-procedures (fields (W .first)) _ (W .counted)

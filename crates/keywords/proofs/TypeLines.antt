@@ -6,7 +6,7 @@ use Prim.Native.Nat.{ℕ}
 use Rattle.spec.specs.Choice.{if_then_else_}
 use Rattle.spec.specs.Text.{bytes, same, Field}
 use Rattle.spec.specs.Reading.{LineResult, bad, badForm, seen, _to_, below, numbers}
-use Rattle.spec.specs.Split.{refOf, lockOf, outRange, tidOf, semOf, rwlockOf, typeLine}
+use Rattle.spec.specs.Split.{lockOf, outRange, typeLine, nthMap, nthType, nthLocation}
 use Rattle.spec.specs.declared.Header.{Header}
 use Rattle.spec.specs.declared.TypeLine.{TypeLine}
 use Rattle.spec.specs.declared.TypeLine.the-variants as line
@@ -17,11 +17,11 @@ use Rattle.keywords.specs.declared.TypeWord.the-variants.{Int, Ref, Lock
 -- what the fields behind the kind show
 unfoldable pub ofKind : Header → (own : ℕ) → List Field → TypeWord → LineResult TypeLine
 ofKind H own fs Int = seen (λ ns. line.Int) (numbers ((0 to 0) ∷ (0 to 0) ∷ []) fs)
-ofKind H own fs Ref = seen refOf (numbers (below (H .locations) ∷ below own ∷ []) fs)
+ofKind H own fs Ref = seen (λ ns. line.Ref (nthLocation 0 ns) (nthType 1 ns)) (numbers (below (H .locations) ∷ below own ∷ []) fs)
 ofKind H own fs Lock = seen (lockOf (H .heading)) (numbers (below (H .maps) ∷ outRange (H .heading) (H .maps) ∷ []) fs)
-ofKind H own fs Tid = seen tidOf (numbers (below (H .maps) ∷ (0 to 0) ∷ []) fs)
-ofKind H own fs Sem = seen semOf (numbers (below (H .maps) ∷ (0 to 0) ∷ []) fs)
-ofKind H own fs Rwlock = seen rwlockOf (numbers (below (H .maps) ∷ below (H .maps) ∷ []) fs)
+ofKind H own fs Tid = seen (λ ns. line.Tid (nthMap 0 ns)) (numbers (below (H .maps) ∷ (0 to 0) ∷ []) fs)
+ofKind H own fs Sem = seen (λ ns. line.Sem (nthMap 0 ns)) (numbers (below (H .maps) ∷ (0 to 0) ∷ []) fs)
+ofKind H own fs Rwlock = seen (λ ns. line.Rwlock (nthMap 0 ns) (nthMap 1 ns)) (numbers (below (H .maps) ∷ below (H .maps) ∷ []) fs)
 ofKind H own fs Unknown = bad badForm
 
 pub type-line : (H : Header) (own : ℕ) (f : Field) (fs : List Field) → typeLine H own (f ∷ fs) ≡ ofKind H own fs (typeWordOf f)

@@ -7,10 +7,10 @@ use Prim.Native.Nat.{ℕ, _+_, _<_}
 use native.Mathlib.Omega.{arith}
 use lib.Dec.{eqb}
 use lib.ListN.{length}
-use borrow.Author.Tests.{eqb-true}
+use borrow.Author.Tests.{eqb-true, ne-eqb}
 use Rattle.spec.specs.Choice.{if_then_else_}
 use Rattle.spec.specs.Text.{Line, closed, unclosed, onLine, lines, Field, fields}
-use Rattle.spec.specs.Reading.{SheetName, refuse, ok, LineResult, form, miscounted, passed, nextLine, begin, noneLeft}
+use Rattle.spec.specs.Reading.{SheetName, refuse, ok, LineResult, form, miscounted, passed, nextLine, begin, require, end}
 use Rattle.lexer.specs.Views.{withField, withByte, lineAt}
 
 -- ------------------------------------------------------------------ the first of the lines
@@ -124,15 +124,15 @@ module _ (sheet : SheetName) where
   begin-some [] h = absurd (omega arith)
   begin-some (b ∷ t) h = begin-lines (lines (b ∷ t)) (some-lines b t)
 
-  pub end-none : (k : ℕ) → noneLeft sheet k (lines []) ≡ ok tt
-  unfolding noneLeft lines
+  pub end-none : (k : ℕ) → end sheet (record { last = k; rest = lines [] }) ≡ ok tt
+  unfolding end require lines
   end-none k = refl
 
-  spare-lines : (k : ℕ) (ls : List Line) → (ls ≡ [] → ⊥) → noneLeft sheet k ls ≡ refuse (miscounted sheet (k + 1))
-  unfolding noneLeft
+  spare-lines : (k : ℕ) (ls : List Line) → (ls ≡ [] → ⊥) → end sheet (record { last = k; rest = ls }) ≡ refuse (miscounted sheet (k + 1))
+  unfolding end require
   spare-lines k [] n = absurd (n refl)
-  spare-lines k (l ∷ r) n = refl
+  spare-lines k (l ∷ r) n = rw (ne-eqb (length (l ∷ r)) 0 (λ e. omega (arith, e))) refl
 
-  pub end-spare : (k : ℕ) (t : List ℕ) → 0 < length t → noneLeft sheet k (lines t) ≡ refuse (miscounted sheet (k + 1))
+  pub end-spare : (k : ℕ) (t : List ℕ) → 0 < length t → end sheet (record { last = k; rest = lines t }) ≡ refuse (miscounted sheet (k + 1))
   end-spare k [] h = absurd (omega arith)
   end-spare k (b ∷ t) h = spare-lines k (lines (b ∷ t)) (some-lines b t)

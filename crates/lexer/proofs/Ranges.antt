@@ -12,7 +12,8 @@ use lib.Seq.{drop-cons}
 use borrow.Author.Tests.{eqb-true}
 use Rattle.spec.specs.Choice.{if_then_else_}
 use Rattle.spec.specs.Text.{lines, Field}
-use Rattle.spec.specs.Reading.{SheetName, refuse, LineResult, good, bad, badForm, badRange, Range, allInRange, numerals, ranged, numbers, form, faulty, passed, nextLine}
+use Rattle.spec.specs.Reading.{SheetName, refuse, LineResult, good, bad, badForm, badRange, Range, allInRange, numerals, numbers, form, faulty, passed, nextLine, orBadForm}
+use Rattle.spec.proofs.Seen.{ranged}
 use Rattle.lexer.specs.Views.{withField, lineAt}
 use Rattle.lexer.specs.Cursors.{rest}
 use Rattle.lexer.specs.Numbers.{stored, withRest, numbersIn, counted, numbersAt}
@@ -63,7 +64,7 @@ module _ {A : Type 0} (rs : List Range) (g : LineResult (List ℕ) → LineResul
   judged ns = g (if allInRange rs ns then good ns else bad badRange)
 
   judged-many : (fs : List Field) → g (numbers rs fs) ≡ many (length rs) judged (g (bad badForm)) (numerals fs)
-  unfolding numbers ranged many
+  unfolding numbers orBadForm many
   judged-many fs = go (numerals fs)
     where
       counts : (x : Bool) (ns : List ℕ) → g (if x then (if allInRange rs ns then good ns else bad badRange) else bad badForm) ≡ (if x then judged ns else g (bad badForm))

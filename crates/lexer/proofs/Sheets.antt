@@ -4,7 +4,7 @@ use mathlib.Core.List.{List, []}
 use Prim.Native.Nat.{ℕ, _+_, _<_}
 use lib.ListN.{length}
 use Rattle.spec.specs.Text.{lines, Field}
-use Rattle.spec.specs.Reading.{SheetName, refuse, ok, LineResult, good, form, miscounted, faulty, passed, nextLine, readLine, begin, noneLeft, end}
+use Rattle.spec.specs.Reading.{SheetName, refuse, ok, LineResult, good, form, miscounted, faulty, passed, nextLine, readLine, begin, end}
 use Rattle.lexer.specs.Cursors.{start, rest, placeAt}
 use Rattle.lexer.specs.declared.Cursor.{Cursor}
 use Rattle.lexer.proofs.Lines.{next-missing, begin-empty, begin-some, end-none, end-spare}
@@ -34,9 +34,9 @@ module _ (sheet : SheetName) (text : List ℕ) where
 
   -- behind the last line
   pub end-at-none : (c : Cursor) → rest text c ≡ [] → end sheet (placeAt text c) ≡ ok tt
-  unfolding end placeAt
-  end-at-none c e = ap (λ (t : List ℕ). noneLeft sheet (c .line) (lines t)) e ∙ end-none sheet (c .line)
+  unfolding placeAt
+  end-at-none c e = ap (λ (t : List ℕ). end sheet (record { last = c .line; rest = lines t })) e ∙ end-none sheet (c .line)
 
   pub end-at-some : (c : Cursor) → 0 < length (rest text c) → end sheet (placeAt text c) ≡ refuse (miscounted sheet (c .line + 1))
-  unfolding end placeAt
+  unfolding placeAt
   end-at-some c h = end-spare sheet (c .line) (rest text c) h

@@ -9,8 +9,8 @@ use lib.ListN.{length}
 use borrow.Author.Tests.{le-leb, lt-leb}
 use Rattle.spec.specs.Choice.{if_then_else_}
 use Rattle.spec.specs.Text.{bytes, same, lines, Field, lookUp}
-use Rattle.spec.specs.Reading.{programSheet, _>>=_, good, bad, badForm, badRange, seen, Range, _to_, inRange, allInRange, numerals, ranged, numbers, form, outside, faulty, passed, nextLine}
-use Rattle.spec.specs.Program.{firstNumber, programHeadings, countRanges, proceduresOf, countsOf, counted, countLine}
+use Rattle.spec.specs.Reading.{programSheet, _>>=_, good, bad, badForm, badRange, seen, Range, _to_, inRange, allInRange, numerals, numbers, form, outside, faulty, passed, nextLine, orBadForm}
+use Rattle.spec.specs.Program.{programHeadings, countRanges, proceduresOf, countsOf, countLine}
 use Rattle.spec.specs.declared.Refusal.the-variants.{ProgramForm, ProgramRange}
 use Rattle.spec.specs.declared.ProgramHeading.the-variants.{P, P2}
 use Rattle.spec.proofs.Seen.{up-to-in, up-to-out}
@@ -50,7 +50,7 @@ module _ (text : List ℕ) (c : Cursor) (top : c ≡ start) where
   -- no heading
   pub count-other : textEnded (rest text c) ≡ false → same (bytes "P") (firstField (rest text c)) ≡ false → same (bytes "P2") (firstField (rest text c)) ≡ false
       → CountShown text (count.Refused (ProgramForm 1))
-  unfolding form countLine counted lookUp programHeadings
+  unfolding form countLine orBadForm lookUp programHeadings
   count-other e u v =
       counts e
       ∙ first-wrong programSheet countLine (c .line) (rest text c) (left-some (rest text c) e) (λ fs. rw (u, v) refl)
@@ -68,7 +68,7 @@ heading-full f u v = rw (u, v) refl
 -- `P,n`
 module _ (text : List ℕ) (c : Cursor) (s : Span) (f : HeadedAt text c s P) where
   plain-shows : (fs : List Field) → countLine (firstField (rest text c) ∷ fs) ≡ seen (countsOf P) (numbers ((1 to 256) ∷ []) fs)
-  unfolding countLine counted countRanges
+  unfolding countLine orBadForm countRanges
   plain-shows fs = rw (f .spelled) refl
 
   pub plain-malformed : TailShown text (s .next) (s .end) Malformed → CountShown text (count.Refused (ProgramForm 1))
@@ -95,7 +95,7 @@ module _ (text : List ℕ) (c : Cursor) (s : Span) (f : HeadedAt text c s P) whe
     plain-many l m = plain-reads ∙ rw (le-leb 1 n l, lt-leb n 256 m, at-top text c (f .top)) refl
 
     pub plain-right : 1 ≤ n → n ≤ 256 → CountShown text (count.Count P n 0 d)
-    unfolding seen countsOf proceduresOf firstNumber inRange
+    unfolding seen countsOf proceduresOf inRange
     plain-right l m =
         let line = tail-line text c s (f .here .field) d (t .0) (t .3) in
         (plain-reads ∙ rw (le-leb 1 n l, le-leb n 256 m) (passed-at programSheet text (countsOf P (n ∷ [])) c d line), m, omega arith, t .2)
@@ -106,11 +106,11 @@ fullRanges = (1 to 256) ∷ (0 to 16) ∷ []
 
 module _ (text : List ℕ) (c : Cursor) (s : Span) (f : HeadedAt text c s P2) where
   full-shows : (fs : List Field) → countLine (firstField (rest text c) ∷ fs) ≡ seen (countsOf P2) (numbers fullRanges fs)
-  unfolding countLine counted countRanges
+  unfolding countLine orBadForm countRanges
   full-shows fs = rw (f .spelled) refl
 
   two-ranges : numbers fullRanges [] ≡ bad badForm
-  unfolding numbers numerals ranged
+  unfolding numbers numerals orBadForm
   two-ranges = refl
 
   pub full-malformed : PairShown text (s .next) (s .end) pair.Malformed → CountShown text (count.Refused (ProgramForm 1))
@@ -146,7 +146,7 @@ module _ (text : List ℕ) (c : Cursor) (s : Span) (f : HeadedAt text c s P2) wh
     full-over l m o = full-reads ∙ rw (one-to l m, up-to-out 16 k o, at-top text c (f .top)) refl
 
     pub full-right : 1 ≤ n → n ≤ 256 → k ≤ 16 → CountShown text (count.Count P2 n k d)
-    unfolding seen countsOf proceduresOf firstNumber
+    unfolding seen countsOf proceduresOf
     full-right l m o =
         let line = tail-line text c s (f .here .field) d (t .0) (t .3) in
         (full-reads ∙ rw (one-to l m, up-to-in 16 k o) (passed-at programSheet text (countsOf P2 (n ∷ k ∷ [])) c d line), m, o, t .2)

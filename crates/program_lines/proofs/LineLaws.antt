@@ -9,9 +9,9 @@ use lib.ListN.{length, take, drop}
 use borrow.Author.Tests.{le-leb, lt-leb}
 use Rattle.spec.specs.Choice.{if_then_else_}
 use Rattle.spec.specs.Text.{lines, Field, lookUp}
-use Rattle.spec.specs.Reading.{programSheet, refuse, ok, good, bad, badRange, freelock, seen, refuseAfter, _to_, inRange, numbers, form, outside, miscounted, faulty, passed, readLine}
+use Rattle.spec.specs.Reading.{programSheet, refuse, ok, good, bad, badRange, freelock, seen, refuseAfter, _to_, inRange, numbers, form, outside, miscounted, faulty, passed, readLine, orBadForm}
 use Rattle.spec.specs.Expression.{Step, step, proc}
-use Rattle.spec.specs.Program.{firstNumber, stepOf, wordLine, procOf, procLine, itemLine}
+use Rattle.spec.specs.Program.{stepOf, wordLine, procOf, procLine, itemLine}
 use Rattle.spec.specs.Words.{calls, wordsUnder, leastValue, largestValue, valueRange}
 use Rattle.spec.specs.declared.Refusal.the-variants.{ProgramForm, ProgramRange, ProgramLines, Freelock}
 use Rattle.spec.specs.declared.ProgramHeading.{ProgramHeading}
@@ -119,12 +119,12 @@ module _ (text : List ℕ) (h : ProgramHeading) (c : Cursor) where
 
   -- no word of a step
   pub step-unknown : {s : Span} → StepAt text c s → lookUp (wordsUnder h) (firstField (rest text c)) ≡ none → StepShown text h c (step-line.Refused (ProgramForm (c .line + 1)))
-  unfolding itemAt readLine placeAt form itemLine wordLine
+  unfolding itemAt readLine placeAt form itemLine orBadForm
   step-unknown f u = first-wrong programSheet (itemLine h (c .line + 1)) (c .line) (rest text c) (left-some (rest text c) (f .here .left)) (λ fs. rw (f .other, f .plain, u) refl)
 
 module _ (text : List ℕ) (h : ProgramHeading) (c : Cursor) (s : Span) (w : Word) (f : WordAt text h c s w) where
   step-shows : (fs : List Field) → itemLine h (c .line + 1) (firstField (rest text c) ∷ fs) ≡ seen (stepOf (c .line + 1) w) (numbers (valueRange w ∷ []) fs)
-  unfolding itemLine wordLine
+  unfolding itemLine orBadForm wordLine
   step-shows fs = rw (f .step .other, f .step .plain, f .spelled) refl
 
   pub step-malformed : TailShown text (s .next) (s .end) Malformed → StepShown text h c (step-line.Refused (ProgramForm (c .line + 1)))
@@ -157,7 +157,7 @@ module _ (text : List ℕ) (h : ProgramHeading) (c : Cursor) (s : Span) (w : Wor
     step-over l m = step-reads ∙ rw (over-limit w v l m) refl
 
     pub step-right : leastValue w ≤ v → v ≤ largestValue w → StepShown text h c (step-line.Step w v d)
-    unfolding seen stepOf firstNumber
+    unfolding seen stepOf
     step-right l m =
         let line = tail-line text c s (f .step .here .field) d (t .0) (t .3) in
         let one : Step = record { word = w; value = v; line = c .line + 1 } in
@@ -204,7 +204,7 @@ module _ (text : List ℕ) (c : Cursor) (s : Span) (f : ProcAt text c s) where
       proc-over l = proc-reads ∙ rw (up-to-out 255 x l) refl
 
       pub proc-right : x ≤ 255 → StepShown text h c (step-line.Proc x d)
-      unfolding seen procOf firstNumber
+      unfolding seen procOf
       proc-right l =
           let line = tail-line text c s (f .here .field) d (t .0) (t .3) in
           let told : itemAt text h c ≡ ok (proc x (c .line + 1), placeAt text d) = proc-reads ∙ rw (up-to-in 255 x l) (passed-at programSheet text (proc x (c .line + 1)) c d line) in

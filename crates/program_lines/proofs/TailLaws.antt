@@ -8,7 +8,7 @@ use native.Mathlib.Omega.{arith}
 use lib.ListN.{length, getD, take, drop, length-drop}
 use Rattle.spec.specs.Choice.{if_then_else_}
 use Rattle.spec.specs.Text.{same, lines, Field}
-use Rattle.spec.specs.Reading.{programSheet, refuse, LineResult, good, bad, badForm, badRange, Range, inRange, allInRange, numerals, ranged, numbers, form, passed, nextLine}
+use Rattle.spec.specs.Reading.{programSheet, refuse, LineResult, good, bad, badForm, badRange, Range, inRange, allInRange, numerals, numbers, form, passed, nextLine, orBadForm}
 use Rattle.spec.specs.declared.Refusal.the-variants.{ProgramForm}
 use Rattle.lexer.specs.Views.{firstField, lineAt, textEnded}
 use Rattle.lexer.specs.Cursors.{Placed, rest, spanAt}
@@ -133,7 +133,7 @@ module _
     (shows : (fs : List Field) → read (firstField (rest text c) ∷ fs) ≡ g (numbers (range ∷ []) fs))
   where
     one-range : numbers (range ∷ []) [] ≡ bad badForm
-    unfolding numbers numerals ranged
+    unfolding numbers numerals orBadForm
     one-range = refl
 
     pub tail-malformed : TailShown text (s .next) (s .end) Malformed

@@ -4,8 +4,8 @@ use mathlib.Core.Path.{_≡_, refl, sym, _∙_, ap}
 use mathlib.Core.List.{List, [], _∷_, _++_}
 use native.Mathlib.Omega.{arith}
 use native.Mathlib.Decide.{ℕ-discrete}
-use lib.ListN.{length, getD, set, drop, length-set}
-use lib.Seq.{getD-set-same, getD-set-other, getD-drop, sets, sets-eq}
+use lib.ListN.{length, getD, set, take, drop, length-set}
+use lib.Seq.{getD-set-same, getD-set-other, getD-drop, take-set-le, sets, sets-eq}
 use borrow.Author.Tests.{le-leb}
 use Rattle.lexer.specs.Numbers.{stored}
 use Rattle.lexer.proofs.Stored as stored-laws
@@ -29,14 +29,15 @@ status-stays Joined = refl
 
 -- ------------------------------------------------------------------ the records
 
--- the records of the threads below t are kept
-pub record KeptTo (t : ℕ) (rs : List Record) (w : List ℕ) : Type 0 where
+-- the records of the threads below t are kept in w, and what was in front of them in w₀ is there still
+pub record KeptTo (t : ℕ) (rs : List Record) (w₀ w : List ℕ) : Type 0 where
   pub long : length w ≡ keptSize
   pub low : t ≤ 16
   pub kept : (i : ℕ) → i < t → recordIn w i ≡ getD rs i noRecord
+  pub front : take 11 w ≡ take 11 w₀
 
-pub keep-none : (rs : List Record) (w : List ℕ) → length w ≡ keptSize → KeptTo 0 rs w
-keep-none rs w long = record { long = long; low = omega arith; kept = λ i h. absurd (omega (arith, h)) }
+pub keep-none : (rs : List Record) (w : List ℕ) → length w ≡ keptSize → KeptTo 0 rs w w
+keep-none rs w long = record { long = long; low = omega arith; kept = λ i h. absurd (omega (arith, h)); front = refl }
 
 pub record-stored : (w : List ℕ) (t : ℕ) (r : Record) → t < 16 → length w ≡ keptSize → r .tid < 4294967296 →
     recordIn (set (set w (11 + t) (statusNumber (r .state))) (27 + t) (r .tid)) t ≡ r
@@ -63,20 +64,23 @@ other-stays w t i a b low h = λ j. record { state = statusOf (same (11 + i) (λ
     same : (k : ℕ) → (k ≡ 27 + t → ⊥) → (k ≡ 11 + t → ⊥) → getD (set (set w (11 + t) a) (27 + t) b) k 0 ≡ getD w k 0
     same k f g = getD-set-other (set w (11 + t) a) (27 + t) k b 0 f ∙ getD-set-other w (11 + t) k a 0 g
 
-pub keep-more : (t : ℕ) (rs : List Record) (w w′ : List ℕ) (r : Record) → t < 16 → KeptTo t rs w → r ≡ getD rs t noRecord →
-    (w′ ≡ set (set w (11 + t) (statusNumber (r .state))) (27 + t) (r .tid)) × (r .tid < 4294967296) → KeptTo (t + 1) rs w′
-keep-more t rs w w′ r low K is (e, small) = rw e (record {
+pub keep-more : (t : ℕ) (rs : List Record) (w₀ w w′ : List ℕ) (r : Record) → t < 16 → KeptTo t rs w₀ w → r ≡ getD rs t noRecord →
+    (w′ ≡ set (set w (11 + t) (statusNumber (r .state))) (27 + t) (r .tid)) × (r .tid < 4294967296) → KeptTo (t + 1) rs w₀ w′
+keep-more t rs w₀ w w′ r low K is (e, small) = rw e (record {
   long = length-set (set w (11 + t) (statusNumber (r .state))) (27 + t) (r .tid) ∙ length-set w (11 + t) (statusNumber (r .state)) ∙ K .long;
   low = omega (arith, low);
   kept = λ i h. at-place i h (ℕ-discrete i t);
+  front =
+      take-set-le 11 (set w (11 + t) (statusNumber (r .state))) (27 + t) (r .tid) (omega arith) ∙ take-set-le 11 w (11 + t) (statusNumber (r .state)) (omega arith)
+      ∙ K .front;
 })
   where
     at-place : (i : ℕ) → i < t + 1 → Dec (i ≡ t) → recordIn (set (set w (11 + t) (statusNumber (r .state))) (27 + t) (r .tid)) i ≡ getD rs i noRecord
     at-place i h (yes z) = rw z (record-stored w t r low (K .long) small ∙ is)
     at-place i h (no z) = other-stays w t i (statusNumber (r .state)) (r .tid) low (omega (arith, h, z)) ∙ K .kept i (omega (arith, h, z))
 
-pub keep-all : (t : ℕ) (rs : List Record) (w : List ℕ) → 16 ≤ t → KeptTo t rs w → RecordsKept rs w
-keep-all t rs w h K = λ i l. K .kept i (omega (arith, h, l))
+pub keep-all : (t : ℕ) (rs : List Record) (w₀ w : List ℕ) → 16 ≤ t → KeptTo t rs w₀ w → RecordsKept rs w × (take 11 w ≡ take 11 w₀)
+keep-all t rs w₀ w h K = (λ i l. K .kept i (omega (arith, h, l)), K .front)
 
 -- ------------------------------------------------------------------ the numbers in front of them
 

@@ -16,7 +16,7 @@ use threads::Threads;
 use workspace::wide;
 ghost use mathlib.Core.Path.{_≡_};
 ghost use Prim.Native.Nat.{ℕ, _+_, _<_};
-ghost use lib.ListN.{length, getD, set};
+ghost use lib.ListN.{length, getD, set, take};
 ghost use Rattle.lexer.specs.Numbers.{stored};
 ghost use Rattle.replay_theory.specs.declared.FirstRace.{FirstRace as Race};
 ghost use Rattle.replay_kept.specs.Kept.{keptSize, racedNumber, statusNumber, statusOf, recordIn, toldIn, RecordsKept, RaceKept, FrontKept};
@@ -187,9 +187,10 @@ fn keep_record(run: &mut [u64], t: usize, r: Record)
     run[identifier] = wide(tid);
 }
 
+// The records; the numbers in front of them stay.
 pub fn keep_records(run: &mut [u64], threads: Threads)
     requires { ⌜ length (now run) ≡ keptSize ⌝ }
-    ensures { λ _. ⌜ RecordsKept (threads .records) (now (run .exit)) ⌝ }
+    ensures { λ _. ⌜ RecordsKept (threads .records) (now (run .exit)) × (take 11 (now (run .exit)) ≡ take 11 (now (run .entry))) ⌝ }
 {
     let mut t: usize = 0;
     while t < LIMIT {

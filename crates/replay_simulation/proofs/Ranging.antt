@@ -3,19 +3,18 @@ use Prim.Native.Nat.{ℕ, zero, suc, _+_, _<_, _≤_}
 use mathlib.Core.Path.{_≡_, refl, subst}
 use mathlib.Core.Bool.{Bool, true, false, _&&_}
 use mathlib.Core.List.{List, [], _∷_, _++_, map}
-use mathlib.Core.Option.{Option, none, some}
 use native.Mathlib.Omega.{arith}
 use borrow.Author.Tests.{leb-true}
 use lib.Dec.{leb}
 use lib.ListN.{length}
 use Rattle.spec.specs.Choice.{if_then_else_}
 use Rattle.spec.specs.Text.{bytes, same, Line, closed, Field, lookUp, fields}
-use Rattle.spec.specs.Reading.{LineResult, good, bad, refuseAfter, freelock, _to_, inRange, allInRange, numbers}
+use Rattle.spec.specs.Reading.{LineResult, good, bad, refuseAfter, freelock, _to_, inRange, allInRange, numbers, orBadForm, nth}
 use Rattle.spec.specs.Expression.{Step, Expr, leaf, unary, binary, Item, step, proc, Procedure}
-use Rattle.spec.specs.Program.{Program, firstNumber, stepOf, wordLine, procOf, procLine, itemLine, itemLines}
+use Rattle.spec.specs.Program.{Program, stepOf, wordLine, procOf, procLine, itemLine, itemLines}
 use Rattle.spec.specs.Words.{wordsUnder, leastValue, largestValue, valueRange, role, binding}
 use Rattle.spec.specs.WellFormed.{Parses, nothing, line, prefix, itemsOf, listing, StepInside, UsedInside, AllUsedInside, firstItemLine, WellFormedProgram}
-use Rattle.spec.proofs.Seen.{wrong-is-not-right, seen-right, numbers-right}
+use Rattle.spec.proofs.Seen.{wrong-is-not-right, seen-right, numbers-right, formed-right}
 use Rattle.spec.specs.declared.ProgramHeading.{ProgramHeading}
 use Rattle.spec.specs.declared.ProgramHeading.the-variants.{P, P2}
 use Rattle.spec.specs.declared.Role.{Role}
@@ -82,15 +81,14 @@ true-right : (a b : Bool) → (a && b) ≡ true → b ≡ true
 true-right true b h = h
 true-right false b h = absurd (let z : _≡_ {A = ℕ} 0 1 = cc in omega arith)
 
-number-low : (least largest : ℕ) (ns : List ℕ) → length ns ≡ 1 → allInRange ((least to largest) ∷ []) ns ≡ true → firstNumber ns ≤ largest
-unfolding allInRange inRange firstNumber
+number-low : (least largest : ℕ) (ns : List ℕ) → length ns ≡ 1 → allInRange ((least to largest) ∷ []) ns ≡ true → nth 0 ns ≤ largest
+unfolding allInRange inRange
 number-low least largest [] l h = absurd (omega (arith, l))
 number-low least largest (n ∷ ns) l h = leb-true n largest (true-right (leb least n) (leb n largest) (true-left (leb least n && leb n largest) (allInRange [] ns) h))
 
-word-low : (k : ℕ) (o : Option Word) (fs : List Field) (i : Item) → wordLine k o fs ≡ good i → ItemLow i
+word-low : (k : ℕ) (w : Word) (fs : List Field) (i : Item) → wordLine k w fs ≡ good i → ItemLow i
 unfolding wordLine stepOf valueRange
-word-low k none fs i h = wrong-is-not-right h
-word-low k (some w) fs i h =
+word-low k w fs i h =
     let (ns, r, is) = seen-right (numbers (valueRange w ∷ []) fs) h in
     let (l, in-range) = numbers-right (valueRange w ∷ []) fs ns r in
     subst ItemLow is (number-low (leastValue w) (largestValue w) ns l in-range)
@@ -114,10 +112,10 @@ unfolding itemLine
 line-low h k [] i e = wrong-is-not-right e
 line-low h k (f ∷ fs) i e = go (same f (bytes "freelock")) (same f (bytes "proc")) e
   where
-    go : (a b : Bool) → (if a then refuseAfter freelock (numbers ((0 to 0) ∷ []) fs) else if b then procLine h k fs else wordLine k (lookUp (wordsUnder h) f) fs) ≡ good i → ItemLow i
+    go : (a b : Bool) → (if a then refuseAfter freelock (numbers ((0 to 0) ∷ []) fs) else if b then procLine h k fs else orBadForm (lookUp (wordsUnder h) f) λ w. wordLine k w fs) ≡ good i → ItemLow i
     go true b e = freelock-wrong (numbers ((0 to 0) ∷ []) fs) i e
     go false true e = proc-low h k fs i e
-    go false false e = word-low k (lookUp (wordsUnder h) f) fs i e
+    go false false e = let (w, _, shown) = formed-right _ _ e in word-low k w fs i shown
 
 lines-low : (h : ProgramHeading) (n k : ℕ) (ls : List Line) (is : List Item) (rest : List Line) → Parses (itemLines h k n) ls is rest → AllItems is
 unfolding itemLines

@@ -6,7 +6,7 @@ use Prim.Native.Nat.{_<_}
 use native.Mathlib.Decide.{decLt}
 use native.Mathlib.Omega.{arith}
 use Rattle.spec.specs.StepContexts.{NumberedCondition}
-use Rattle.spec.specs.FirstFalse.{Holds, AllHold, FirstFalse, Earlier, byLine, byNumber, EarlierThanAll, InOrder}
+use Rattle.spec.specs.FirstFalse.{Holds, Every, AllHold, FirstFalse, Earlier, byLine, byNumber, InOrder}
 use Rattle.spec.specs.declared.Refusal.{Refusal}
 
 -- ------------------------------------------------------------------ the order
@@ -48,8 +48,7 @@ abbrev pub Among : NumberedCondition → List NumberedCondition → Type 0
 Among d [] = ⊥
 Among d (c ∷ cs) = (d ≡ c) ⊎ Among d cs
 
-earlier-than-each : (c d : NumberedCondition) (cs : List NumberedCondition) → EarlierThanAll c cs → Among d cs → Earlier c d
-unfolding EarlierThanAll
+earlier-than-each : (c d : NumberedCondition) (cs : List NumberedCondition) → Every (Earlier c) cs → Among d cs → Earlier c d
 earlier-than-each c d [] all among = absurd among
 earlier-than-each c d (e ∷ cs) all (inl is) = subst (Earlier c) (sym is) (all .0)
 earlier-than-each c d (e ∷ cs) all (inr among) = earlier-than-each c d cs (all .1) among

@@ -7,7 +7,7 @@ use Prim.Native.Nat.{ℕ, zero, suc, _+_}
 use lib.Dec.{ltb}
 use Rattle.spec.specs.Choice.{if_then_else_}
 use Rattle.spec.specs.Text.{Line, closed, unclosed, Field, fields}
-use Rattle.spec.specs.Reading.{Result, refuse, ok, _>>=_, require, Fault, badForm, badRange, noStart, freelock, noKept, LineResult, good, bad, SheetName, programSheet, splitSheet, form, outside, miscounted, faulty, Place, passed, nextLine, readLine, readLines, begin, noneLeft, end}
+use Rattle.spec.specs.Reading.{Result, refuse, ok, _>>=_, require, Fault, badForm, badRange, noStart, freelock, noKept, LineResult, good, bad, SheetName, programSheet, splitSheet, form, outside, miscounted, faulty, Place, passed, nextLine, readLine, readLines, begin, end}
 use Rattle.spec.specs.Expression.{Expr, leaf, unary, binary, size, Item, step, proc, firstListed, expression, noLineLeft, Procedure, structure, among, scopeStep, scope, scopes}
 use Rattle.spec.specs.Program.{Program, program}
 use Rattle.spec.specs.Split.{Split, split}
@@ -111,14 +111,9 @@ unfolding begin
 begin-early sheet [] = form-early sheet 1
 begin-early sheet (l ∷ rest) = tt
 
-none-left-early : (sheet : SheetName) (k : ℕ) (ls : List Line) → Early (noneLeft sheet k ls)
-unfolding noneLeft
-none-left-early sheet k [] = tt
-none-left-early sheet k (l ∷ rest) = miscounted-early sheet (k + 1)
-
 end-early : (sheet : SheetName) (place : Place) → Early (end sheet place)
 unfolding end
-end-early sheet place = none-left-early sheet (place .last) (place .rest)
+end-early sheet place = early-demand _ _ (miscounted-early sheet (place .last + 1))
 
 -- ------------------------------------------------------------------ the sheets
 

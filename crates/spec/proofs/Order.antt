@@ -10,7 +10,7 @@ use Rattle.spec.specs.Split.{Map, Split}
 use Rattle.spec.specs.Conditions.{Condition, Env, startMap, signature, conditionsOf, procedureConditions}
 use Rattle.spec.specs.StepContexts.{StepContext, stepContexts, NumberedCondition, numbered, claimsAt, claims, bodyStepContexts, claimsOfProcedure, claimsOfProcedures, claimsOf}
 use Rattle.spec.specs.WellFormed.{prefix, itemsOf, listing}
-use Rattle.spec.specs.FirstFalse.{byLine, byNumber, EarlierThanAll, InOrder}
+use Rattle.spec.specs.FirstFalse.{Every, Earlier, byLine, byNumber, InOrder}
 use Rattle.spec.proofs.StepLines.{Rising}
 
 -- ------------------------------------------------------------------ one step, and the claims behind it
@@ -26,14 +26,14 @@ from-lower lo hi [] l h = tt
 from-lower lo hi (c ∷ cs) l h = (omega (arith, h .0), from-lower lo hi cs l (h .1))
 
 module _ (k : ℕ) (behind : List NumberedCondition) (from : From (k + 1) behind) where
-  earlier-than-behind : (i : ℕ) (c : Condition) (cs : List NumberedCondition) → From (k + 1) cs → EarlierThanAll (record { line = k; number = i; condition = c }) cs
-  unfolding From EarlierThanAll
+  earlier-than-behind : (i : ℕ) (c : Condition) (cs : List NumberedCondition) → From (k + 1) cs → Every (Earlier (record { line = k; number = i; condition = c })) cs
+  unfolding From
   earlier-than-behind i c [] h = tt
   earlier-than-behind i c (d ∷ ds) h = (byLine (omega (arith, h .0)), earlier-than-behind i c ds (h .1))
 
   earlier-than-all : (i j : ℕ) (c : Condition) (cs : List Condition) → i < j
-      → EarlierThanAll (record { line = k; number = i; condition = c }) (numbered k j cs ++ behind)
-  unfolding EarlierThanAll numbered
+      → Every (Earlier (record { line = k; number = i; condition = c })) (numbered k j cs ++ behind)
+  unfolding numbered
   earlier-than-all i j c [] h = earlier-than-behind i c behind from
   earlier-than-all i j c (d ∷ ds) h = (byNumber refl h, earlier-than-all i (j + 1) c ds (omega arith))
 

@@ -8,12 +8,12 @@ use Prim.Native.Nat.{ℕ, zero, suc, _+_, _≤_, _<_}
 use native.Mathlib.Omega.{arith}
 use lib.ListN.{length, getD, replicate, length-replicate}
 use Rattle.spec.specs.Choice.{if_then_else_}
-use Rattle.spec.specs.Text.{Line, bytes, same, Field, lookUp}
+use Rattle.spec.specs.Text.{Line, bytes, same, Field}
 use Rattle.spec.specs.Reading.{good, seen, _to_, below, inRange, numerals, numbers}
 use Rattle.spec.specs.Words.{takesStart}
 use Rattle.spec.specs.Expression.{Step}
 use Rattle.spec.specs.Program.{Program}
-use Rattle.spec.specs.Split.{Map, headings, headerRanges, mapsOf, mapsIn, startOf, headerOf, headed, headerLine, refOf, lockOf, outRange, tidOf, semOf, rwlockOf, typeLine, typeLines, mapLine, signatureOf, signatureLine, Row, rowOf, startGiven, startRange, postRange, postField, emptyFault, rowLine, Split}
+use Rattle.spec.specs.Split.{Map, headerRanges, mapsOf, mapsIn, nthLocation, nthType, nthMap, startOf, headerOf, headerLine, lockOf, outRange, typeLine, typeLines, mapLine, signatureOf, signatureLine, Row, rowOf, startRange, postRange, postField, emptyFault, rowLine, Split}
 use Rattle.spec.specs.declared.Signature.{Signature}
 use Rattle.spec.specs.declared.Header.{Header}
 use Rattle.spec.specs.Kinds.{ref, sameKind, is, refLocation, content, maps}
@@ -30,7 +30,7 @@ use Rattle.spec.specs.declared.Word.{Word}
 use Rattle.spec.specs.declared.TypeLine.{TypeLine}
 use Rattle.spec.specs.declared.TypeLine.the-variants as type-line
 use Rattle.spec.proofs.Clashes.{true-is-not-false}
-use Rattle.spec.proofs.Seen.{wrong-is-not-right, seen-right, insist-right, either-right, numbers-right, numbers-spelled, in-to, in-below, in-range-at}
+use Rattle.spec.proofs.Seen.{wrong-is-not-right, seen-right, formed-right, insist-right, either-right, numbers-right, numbers-spelled, in-to, in-below, in-range-at}
 
 -- ------------------------------------------------------------------ headers
 
@@ -64,10 +64,9 @@ named-fits h fs ns n =
     }
 
 -- the ranges of a `C` header, and of the same numbers of the others
-headed-fits : (o : Option Heading) (fs : List Field) (H : Header) → headed o fs ≡ good H → HeaderFits H
-unfolding headed headerRanges headerOf startOf mapsIn mapsOf
-headed-fits none fs H h = wrong-is-not-right h
-headed-fits (some C) fs H h =
+headed-fits : (h : Heading) (fs : List Field) (H : Header) → seen (headerOf h) (numbers (headerRanges h (mapsIn (numerals fs))) fs) ≡ good H → HeaderFits H
+unfolding headerRanges headerOf startOf mapsIn mapsOf
+headed-fits C fs H h =
     let (ns, n, e) = seen-right _ h in
     let at = in-range-at (headerRanges C (mapsIn (numerals fs))) fs ns n in
     let maps = in-to _ _ _ (at 3 (omega arith)) in
@@ -78,13 +77,13 @@ headed-fits (some C) fs H h =
       maps = maps;
       start = maps .0;
     })
-headed-fits (some C2) fs H h = let (ns, n, e) = seen-right _ h in along HeaderFits e (named-fits C2 fs ns n)
-headed-fits (some C3) fs H h = let (ns, n, e) = seen-right _ h in along HeaderFits e (named-fits C3 fs ns n)
+headed-fits C2 fs H h = let (ns, n, e) = seen-right _ h in along HeaderFits e (named-fits C2 fs ns n)
+headed-fits C3 fs H h = let (ns, n, e) = seen-right _ h in along HeaderFits e (named-fits C3 fs ns n)
 
 header-fits : (purpose : Purpose) (fs : List Field) (H : Header) → headerLine purpose fs ≡ good H → HeaderFits H
 unfolding headerLine
 header-fits purpose [] H h = wrong-is-not-right h
-header-fits purpose (f ∷ fs) H h = headed-fits (lookUp (headings purpose) f) fs H h
+header-fits purpose (f ∷ fs) H h = let (heading, _, shown) = formed-right _ _ h in headed-fits heading fs H shown
 
 -- ------------------------------------------------------------------ type lines
 
@@ -102,8 +101,8 @@ module _ (H : Header) (own : ℕ) (fs : List Field) where
   unfolding is sameKind
   int-fits t h = let (ns, n, e) = seen-right _ h in along (TypeFits H own) e (plain-fits type-line.Int refl tt)
 
-  ref-fits : (t : TypeLine) → seen refOf (numbers (below (H .locations) ∷ below own ∷ []) fs) ≡ good t → TypeFits H own t
-  unfolding refOf refLocation content
+  ref-fits : (t : TypeLine) → seen (λ ns. type-line.Ref (nthLocation 0 ns) (nthType 1 ns)) (numbers (below (H .locations) ∷ below own ∷ []) fs) ≡ good t → TypeFits H own t
+  unfolding refLocation content
   ref-fits t h =
       let (ns, n, e) = seen-right _ h in
       let at = in-range-at (below (H .locations) ∷ below own ∷ []) fs ns n in
@@ -122,20 +121,20 @@ module _ (H : Header) (own : ℕ) (fs : List Field) where
       by-heading C2 ns first second = plain-fits _ refl (first, (first, tt))
       by-heading C3 ns first second = plain-fits _ refl (first, (in-below _ _ second, tt))
 
-  tid-fits : (t : TypeLine) → seen tidOf (numbers (below (H .maps) ∷ (0 to 0) ∷ []) fs) ≡ good t → TypeFits H own t
-  unfolding tidOf is sameKind
+  tid-fits : (t : TypeLine) → seen (λ ns. type-line.Tid (nthMap 0 ns)) (numbers (below (H .maps) ∷ (0 to 0) ∷ []) fs) ≡ good t → TypeFits H own t
+  unfolding is sameKind
   tid-fits t h =
       let (ns, n, e) = seen-right _ h in
       along (TypeFits H own) e (plain-fits _ refl (in-below _ _ (in-range-at (below (H .maps) ∷ (0 to 0) ∷ []) fs ns n 0 (omega arith)), tt))
 
-  sem-fits : (t : TypeLine) → seen semOf (numbers (below (H .maps) ∷ (0 to 0) ∷ []) fs) ≡ good t → TypeFits H own t
-  unfolding semOf is sameKind
+  sem-fits : (t : TypeLine) → seen (λ ns. type-line.Sem (nthMap 0 ns)) (numbers (below (H .maps) ∷ (0 to 0) ∷ []) fs) ≡ good t → TypeFits H own t
+  unfolding is sameKind
   sem-fits t h =
       let (ns, n, e) = seen-right _ h in
       along (TypeFits H own) e (plain-fits _ refl (in-below _ _ (in-range-at (below (H .maps) ∷ (0 to 0) ∷ []) fs ns n 0 (omega arith)), tt))
 
-  rwlock-fits : (t : TypeLine) → seen rwlockOf (numbers (below (H .maps) ∷ below (H .maps) ∷ []) fs) ≡ good t → TypeFits H own t
-  unfolding rwlockOf is sameKind
+  rwlock-fits : (t : TypeLine) → seen (λ ns. type-line.Rwlock (nthMap 0 ns) (nthMap 1 ns)) (numbers (below (H .maps) ∷ below (H .maps) ∷ []) fs) ≡ good t → TypeFits H own t
+  unfolding is sameKind
   rwlock-fits t h =
       let (ns, n, e) = seen-right _ h in
       let at = in-range-at (below (H .maps) ∷ below (H .maps) ∷ []) fs ns n in
@@ -242,7 +241,7 @@ post-below Fill H (b ∷ m) n h = absurd (omega (arith, in-below _ n h))
 
 module _ (purpose : Purpose) (H : Header) where
   row-fits : (s : Step) (fs : List Field) (r : Row) → rowLine purpose H s fs ≡ good r → RowFits H r
-  unfolding rowLine rowOf startGiven RowFits StartFits
+  unfolding rowLine rowOf RowFits StartFits
   row-fits s [] r h = wrong-is-not-right h
   row-fits s (t ∷ []) r h = wrong-is-not-right h
   row-fits s (t ∷ m ∷ []) r h = wrong-is-not-right h

@@ -2,12 +2,14 @@
 use mathlib.Core.Path.{_≡_, refl, ap, sym, subst}
 use mathlib.Core.List.{List, [], _∷_, _++_, append-assoc, append-nil}
 use Prim.Native.Nat.{ℕ, suc, _+_}
+use native.Mathlib.Omega.{arith}
 use lib.ListN.{length}
+use borrow.Author.Tests.{eqb-true}
 use Rattle.spec.specs.Text.{Line, closed, unclosed, Field, fields}
-use Rattle.spec.specs.Reading.{Result, refuse, ok, _>>=_, LineResult, good, bad, SheetName, Place, passed, nextLine, readLine, readLines, begin, noneLeft, end}
+use Rattle.spec.specs.Reading.{Result, refuse, ok, _>>=_, LineResult, good, bad, SheetName, Place, passed, nextLine, readLine, readLines, begin, end}
 use Rattle.spec.specs.WellFormed.{Parses, nothing, line}
 use Rattle.spec.specs.declared.Refusal.{Refusal}
-use Rattle.spec.proofs.Outcomes.{stop-is-not-on, on-injective, bind-through, goes-on-bind}
+use Rattle.spec.proofs.Outcomes.{stop-is-not-on, on-injective, bind-through, goes-on-bind, demand-goes-on}
 
 -- ------------------------------------------------------------------ one line after the other
 
@@ -90,14 +92,13 @@ unfolding begin
 begun sheet [] h = stop-is-not-on h
 begun sheet (l ∷ rest) h = on-injective h
 
-none-left : {t : Unit {0}} (sheet : SheetName) (k : ℕ) (ls : List Line) → noneLeft sheet k ls ≡ ok t → ls ≡ []
-unfolding noneLeft
-none-left sheet k [] h = refl
-none-left sheet k (l ∷ rest) h = stop-is-not-on h
+none-left : (ls : List Line) → length ls ≡ 0 → ls ≡ []
+none-left [] h = refl
+none-left (l ∷ rest) h = absurd (omega (arith, h))
 
 pub ended : {t : Unit {0}} (sheet : SheetName) (place : Place) → end sheet place ≡ ok t → place .rest ≡ []
 unfolding end
-ended sheet place h = none-left sheet (place .last) (place .rest) h
+ended sheet place h = none-left (place .rest) (eqb-true _ _ (demand-goes-on _ _ h))
 
 pub shown-length : {A : Type 0} {reads : List (List Field → LineResult A)} {ls rest : List Line} {as′ : List A}
     → Parses reads ls as′ rest → length as′ ≡ length reads

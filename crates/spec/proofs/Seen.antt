@@ -11,7 +11,7 @@ use lib.ListN.{length, getD}
 use borrow.Author.Tests.{eqb-true, leb-true, ltb-true, le-leb, lt-leb, lt-ltb}
 use Rattle.spec.specs.Choice.{if_then_else_}
 use Rattle.spec.specs.Text.{Field, numeral}
-use Rattle.spec.specs.Reading.{Fault, badForm, badRange, LineResult, good, bad, seen, ensure, Range, _to_, below, inRange, allInRange, withNumeral, numerals, ranged, numbers}
+use Rattle.spec.specs.Reading.{Fault, badForm, badRange, LineResult, good, bad, seen, ensure, Range, _to_, below, inRange, allInRange, withNumeral, numerals, numbers, orBadForm}
 use Rattle.spec.specs.Split.{headerRanges}
 use Rattle.spec.specs.declared.Heading.the-variants.{C, C2}
 use Rattle.spec.proofs.Clashes.{none-is-not-some}
@@ -30,6 +30,11 @@ unfolding seen
 seen-right (good a) h = (a, refl, right-inj h)
 seen-right (bad w) h = wrong-is-not-right h
 
+pub formed-right : {A B : Type 0} {b : B} (o : Option A) (read : A → LineResult B) → orBadForm o read ≡ good b → (a : A) × (o ≡ some a) × (read a ≡ good b)
+unfolding orBadForm
+formed-right none read h = wrong-is-not-right h
+formed-right (some a) read h = (a, refl, h)
+
 pub insist-right : {A : Type 0} {a : A} (b : Bool) (w : Fault) (x : LineResult A) → ensure b w x ≡ good a → (b ≡ true) × (x ≡ good a)
 unfolding ensure
 insist-right b w (bad v) h = wrong-is-not-right h
@@ -46,34 +51,30 @@ within-right : {ns ms : List ℕ} (b : Bool) → (if b then good ns else bad bad
 within-right true h = (refl, right-inj h)
 within-right false h = wrong-is-not-right h
 
-pub ranged-right : (rs : List Range) (o : Option (List ℕ)) (ns : List ℕ) → ranged rs o ≡ good ns → (length ns ≡ length rs) × (allInRange rs ns ≡ true)
-unfolding ranged
-ranged-right rs none ns h = wrong-is-not-right h
-ranged-right rs (some ms) ns h = counted (eqb (length ms) (length rs)) refl h
+-- what the numerals of a line come to
+abbrev pub ranged : List Range → Option (List ℕ) → LineResult (List ℕ)
+ranged rs o = orBadForm o λ ns. if eqb (length ns) (length rs) then (if allInRange rs ns then good ns else bad badRange) else bad badForm
+
+-- the numbers that a line shows are the numerals of its fields, as many as ranges, each in its range
+numbers-shown : (rs : List Range) (fs : List Field) (ns : List ℕ) → numbers rs fs ≡ good ns
+    → (numerals fs ≡ some ns) × (length ns ≡ length rs) × (allInRange rs ns ≡ true)
+unfolding numbers
+numbers-shown rs fs ns h =
+    let (ms, spelled, shown) = formed-right (numerals fs) _ h in
+    let (q, counted, inside) = by-count ms (eqb (length ms) (length rs)) refl shown in
+    (spelled ∙ ap some q, sym (ap length q) ∙ counted, sym (ap (allInRange rs) q) ∙ inside)
   where
-    counted : (b : Bool) → eqb (length ms) (length rs) ≡ b → (if b then (if allInRange rs ms then good ms else bad badRange) else bad badForm) ≡ good ns
-        → (length ns ≡ length rs) × (allInRange rs ns ≡ true)
-    counted true e h =
-        let (t, q) = within-right (allInRange rs ms) h in
-        (sym (ap length q) ∙ eqb-true _ _ e, sym (ap (allInRange rs) q) ∙ t)
-    counted false e h = wrong-is-not-right h
+    by-count : (ms : List ℕ) (b : Bool) → eqb (length ms) (length rs) ≡ b
+        → (if b then (if allInRange rs ms then good ms else bad badRange) else bad badForm) ≡ good ns
+        → (ms ≡ ns) × (length ms ≡ length rs) × (allInRange rs ms ≡ true)
+    by-count ms true e h = let (t, q) = within-right (allInRange rs ms) h in (q, eqb-true _ _ e, t)
+    by-count ms false e h = wrong-is-not-right h
+
+pub numbers-spelled : (rs : List Range) (fs : List Field) (ns : List ℕ) → numbers rs fs ≡ good ns → numerals fs ≡ some ns
+numbers-spelled rs fs ns h = numbers-shown rs fs ns h .0
 
 pub numbers-right : (rs : List Range) (fs : List Field) (ns : List ℕ) → numbers rs fs ≡ good ns → (length ns ≡ length rs) × (allInRange rs ns ≡ true)
-unfolding numbers
-numbers-right rs fs ns h = ranged-right rs (numerals fs) ns h
-
--- and they are the numerals of the fields
-pub numbers-spelled : (rs : List Range) (fs : List Field) (ns : List ℕ) → numbers rs fs ≡ good ns → numerals fs ≡ some ns
-unfolding numbers ranged
-numbers-spelled rs fs ns h = spelled (numerals fs) h
-  where
-    counted : (b : Bool) (ms : List ℕ) → (if b then (if allInRange rs ms then good ms else bad badRange) else bad badForm) ≡ good ns → ms ≡ ns
-    counted true ms h = within-right (allInRange rs ms) h .1
-    counted false ms h = wrong-is-not-right h
-
-    spelled : (o : Option (List ℕ)) → ranged rs o ≡ good ns → o ≡ some ns
-    spelled none h = wrong-is-not-right h
-    spelled (some ms) h = ap some (counted (eqb (length ms) (length rs)) ms h)
+numbers-right rs fs ns h = let (_, counted, inside) = numbers-shown rs fs ns h in (counted, inside)
 
 -- there are as many as fields
 pub numerals-counted : (fs : List Field) (ns : List ℕ) → numerals fs ≡ some ns → length ns ≡ length fs

@@ -11,7 +11,7 @@ use Rattle.spec.specs.Reading.{good}
 use Rattle.spec.specs.Words.{takesStart, keepsBack}
 use Rattle.spec.specs.Expression.{Step}
 use Rattle.spec.specs.Program.{Program}
-use Rattle.spec.specs.Split.{Row, rowOf, startGiven, mayBeEmpty, emptyFault, rowLine, Split}
+use Rattle.spec.specs.Split.{nthMap, Row, rowOf, mayBeEmpty, emptyFault, rowLine, Split}
 use Rattle.spec.specs.declared.Header.{Header}
 use Rattle.spec.specs.WellFormed.{Parses, nothing, line, WellFormedSplit}
 use Rattle.spec.specs.declared.Purpose.{Purpose}
@@ -50,7 +50,7 @@ module _ (purpose : Purpose) (H : Header) where
       true-is-not-false (sym given ∙ barred)
   row-started s (t ∷ m ∷ (b ∷ f) ∷ []) r barred h =
       let (ns, n, e) = seen-right _ h in
-      (startGiven ns, sym (ap (λ (q : Row). q .start) e))
+      (nthMap 2 ns, sym (ap (λ (q : Row). q .start) e))
   row-started s (t ∷ m ∷ f ∷ g ∷ fs) r barred h = wrong-is-not-right h
 
   rows-started : (steps : List Step) {ls rest : List Line} {rs : List Row} → Parses (map (rowLine purpose H) steps) ls rs rest

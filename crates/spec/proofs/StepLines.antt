@@ -2,13 +2,12 @@
 use mathlib.Core.Path.{_≡_, refl, ap, sym}
 use mathlib.Core.List.{List, [], _∷_, map}
 use mathlib.Core.Bool.{Bool, true, false}
-use mathlib.Core.Option.{Option, none, some}
 use Prim.Native.Nat.{ℕ, zero, suc, _+_, _≤_}
 use native.Mathlib.Omega.{arith}
 use lib.ListN.{length}
 use Rattle.spec.specs.Choice.{if_then_else_}
 use Rattle.spec.specs.Text.{bytes, same, Line, Field, lookUp}
-use Rattle.spec.specs.Reading.{Fault, freelock, LineResult, good, bad, refuseAfter, _to_, numbers}
+use Rattle.spec.specs.Reading.{Fault, freelock, LineResult, good, bad, orBadForm, refuseAfter, _to_, numbers}
 use Rattle.spec.specs.Words.{wordsUnder}
 use Rattle.spec.specs.Expression.{Item, lineOfItem}
 use Rattle.spec.specs.Program.{stepOf, wordLine, procOf, procLine, itemLine, itemLines}
@@ -16,7 +15,7 @@ use Rattle.spec.specs.WellFormed.{Parses, nothing, line}
 use Rattle.spec.specs.declared.ProgramHeading.{ProgramHeading}
 use Rattle.spec.specs.declared.ProgramHeading.the-variants.{P, P2}
 use Rattle.spec.specs.declared.Word.{Word}
-use Rattle.spec.proofs.Seen.{wrong-is-not-right, seen-right}
+use Rattle.spec.proofs.Seen.{wrong-is-not-right, seen-right, formed-right}
 
 pub item-lines-counted : (h : ProgramHeading) (k n : ℕ) → length (itemLines h k n) ≡ n
 unfolding itemLines
@@ -30,10 +29,9 @@ unfolding refuseAfter
 after-wrong w (good a) h = wrong-is-not-right h
 after-wrong w (bad v) h = wrong-is-not-right h
 
-word-line : (k : ℕ) (o : Option Word) (fs : List Field) (s : Item) → wordLine k o fs ≡ good s → lineOfItem s ≡ k
+word-line : (k : ℕ) (w : Word) (fs : List Field) (s : Item) → wordLine k w fs ≡ good s → lineOfItem s ≡ k
 unfolding wordLine stepOf lineOfItem
-word-line k none fs s h = wrong-is-not-right h
-word-line k (some w) fs s h =
+word-line k w fs s h =
     let (ns, _, is) = seen-right _ h in
     sym (ap lineOfItem is)
 
@@ -50,11 +48,11 @@ item-line g k [] s h = wrong-is-not-right h
 item-line g k (f ∷ fs) s h = by-word (same f (bytes "freelock")) (same f (bytes "proc")) h
   where
     by-word : (b c : Bool)
-        → (if b then refuseAfter freelock (numbers ((0 to 0) ∷ []) fs) else if c then procLine g k fs else wordLine k (lookUp (wordsUnder g) f) fs) ≡ good s
+        → (if b then refuseAfter freelock (numbers ((0 to 0) ∷ []) fs) else if c then procLine g k fs else orBadForm (lookUp (wordsUnder g) f) λ w. wordLine k w fs) ≡ good s
         → lineOfItem s ≡ k
     by-word true c h = after-wrong freelock (numbers ((0 to 0) ∷ []) fs) h
     by-word false true h = proc-line g k fs s h
-    by-word false false h = word-line k (lookUp (wordsUnder g) f) fs s h
+    by-word false false h = let (w, _, shown) = formed-right _ _ h in word-line k w fs s shown
 
 -- ------------------------------------------------------------------ lines rise
 

@@ -5,7 +5,7 @@ use Prim.Native.Nat.{ℕ, _+_, _≤_}
 use native.Mathlib.Omega.{arith}
 use lib.ListN.{length}
 use Rattle.spec.specs.Text.{lines}
-use Rattle.spec.specs.Reading.{ok, programSheet, splitSheet, good, Place, begin, noneLeft, end}
+use Rattle.spec.specs.Reading.{ok, require, programSheet, splitSheet, good, Place, begin, end}
 use Rattle.spec.specs.Expression.{Expr, Item, stepsAmong, Procedure}
 use Rattle.spec.specs.Program.{Counts, Program, program, programLimit, countLine, itemLines}
 use Rattle.spec.specs.Split.{Split, split, splitLimit, headerLine, rowLine}
@@ -57,7 +57,7 @@ program-well-formed text fits h =
     })
 
 pub well-formed-program : {P : Program} (text : List ℕ) → WellFormedProgram text P → program text ≡ ok P
-unfolding program begin end noneLeft firstItemLine
+unfolding program begin end require firstItemLine
 well-formed-program {P} text w =
     let (last, items) = read-all programSheet (w .listed) 1 in
     let (bound, scoped) = once-inside-scoped (length (P .procedures)) (P .procedures) (P .root) (w .boundOnce) (w .usedInside) in
@@ -100,7 +100,7 @@ split-well-formed purpose P text fits h =
 
 pub well-formed-split : {S : Split} (purpose : Purpose) (P : Program) (text : List ℕ) → WellFormedSplit purpose P text S
     → split purpose P text ≡ ok S
-unfolding split begin end noneLeft
+unfolding split begin end require
 well-formed-split {S} purpose P text w =
     let (l₁, types) = read-all splitSheet (w .typed) 1 in
     let (l₂, maps) = read-all splitSheet (w .mapped) l₁ in

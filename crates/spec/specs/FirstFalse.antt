@@ -20,9 +20,13 @@ Holds (T b) = b ≡ true
 Holds (F o) = o ≡ none
 Holds (A b p) = b ≡ true
 
+-- Q holds of each entry of a list
+abbrev pub Every : {A : Type 0} → (A → Type 0) → List A → Type 0
+Every Q [] = Unit {0}
+Every Q (x ∷ xs) = Q x × Every Q xs
+
 unfoldable pub AllHold : List NumberedCondition → Type 0
-AllHold [] = Unit {0}
-AllHold (c ∷ cs) = Holds (c .condition) × AllHold cs
+AllHold = Every (λ c. Holds (c .condition))
 
 -- the refusal of condition i at line k: "first false condition: (T), (F), (A)"; "Location is 0 for (T), the lowest failing
 -- one for (F) [..], p for (A)"
@@ -48,14 +52,10 @@ pub data Earlier (c d : NumberedCondition) : Type 0 where
   byLine : c .line < d .line → Earlier c d
   byNumber : c .line ≡ d .line → c .number < d .number → Earlier c d
 
-unfoldable pub EarlierThanAll : NumberedCondition → List NumberedCondition → Type 0
-EarlierThanAll c [] = Unit {0}
-EarlierThanAll c (d ∷ ds) = Earlier c d × EarlierThanAll c ds
-
 -- each claim is earlier than every one behind it
 unfoldable pub InOrder : List NumberedCondition → Type 0
 InOrder [] = Unit {0}
-InOrder (c ∷ cs) = EarlierThanAll c cs × InOrder cs
+InOrder (c ∷ cs) = Every (Earlier c) cs × InOrder cs
 
 -- ------------------------------------------------------------------ a pair of sheets
 

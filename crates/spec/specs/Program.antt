@@ -1,11 +1,9 @@
 -- The program sheet.
 use mathlib.Core.List.{List, [], _∷_}
-use mathlib.Core.Option.{Option, none, some}
 use Prim.Native.Nat.{ℕ, zero, suc, _+_}
-use lib.ListN.{getD}
 use Rattle.spec.specs.Choice.{if_then_else_}
 use Rattle.spec.specs.Text.{bytes, same, lines, Field, lookUp}
-use Rattle.spec.specs.Reading.{programSheet, Result, _>>=_, ok, LineResult, bad, badForm, freelock, seen, refuseAfter, _to_, Range, numbers, readLine, readLines, begin, end}
+use Rattle.spec.specs.Reading.{programSheet, Result, _>>=_, ok, LineResult, bad, badForm, freelock, seen, orBadForm, refuseAfter, _to_, Range, numbers, nth, readLine, readLines, begin, end}
 use Rattle.spec.specs.Words.{wordsUnder, valueRange}
 use Rattle.spec.specs.Expression.{Step, Expr, Item, step, proc, stepsAmong, Procedure, structure, scopes}
 use Rattle.spec.specs.declared.ProgramHeading.{ProgramHeading}
@@ -22,10 +20,6 @@ pub record Counts : Type 0 where
   pub steps : ℕ
   pub procedures : ℕ
 
--- the first number of a line; a 0 for none is never seen, since `numbers` lets through only as many numerals as ranges, and so with k
-unfoldable pub firstNumber : List ℕ → ℕ
-firstNumber ns = getD ns 0 0
-
 unfoldable pub programHeadings : List (List ℕ × ProgramHeading)
 programHeadings = (bytes "P", P) ∷ (bytes "P2", P2) ∷ []
 
@@ -36,30 +30,25 @@ countRanges P2 = (1 to 256) ∷ (0 to 16) ∷ []
 
 unfoldable pub proceduresOf : ProgramHeading → List ℕ → ℕ
 proceduresOf P ns = 0
-proceduresOf P2 ns = getD ns 1 0
+proceduresOf P2 ns = nth 1 ns
 
 unfoldable pub countsOf : ProgramHeading → List ℕ → Counts
-countsOf h ns = record { heading = h; steps = firstNumber ns; procedures = proceduresOf h ns }
-
-unfoldable pub counted : Option ProgramHeading → List Field → LineResult Counts
-counted none fs = bad badForm
-counted (some h) fs = seen (countsOf h) (numbers (countRanges h) fs)
+countsOf h ns = record { heading = h; steps = nth 0 ns; procedures = proceduresOf h ns }
 
 unfoldable pub countLine : List Field → LineResult Counts
 countLine [] = bad badForm
-countLine (f ∷ fs) = counted (lookUp programHeadings f) fs
+countLine (f ∷ fs) = orBadForm (lookUp programHeadings f) λ h. seen (countsOf h) (numbers (countRanges h) fs)
 
 -- `word,v`
 unfoldable pub stepOf : (line : ℕ) → Word → List ℕ → Item
-stepOf k w ns = step (record { word = w; value = firstNumber ns; line = k })
+stepOf k w ns = step (record { word = w; value = nth 0 ns; line = k })
 
-unfoldable pub wordLine : (line : ℕ) → Option Word → List Field → LineResult Item
-wordLine k none fs = bad badForm
-wordLine k (some w) fs = seen (stepOf k w) (numbers (valueRange w ∷ []) fs)
+unfoldable pub wordLine : (line : ℕ) → Word → List Field → LineResult Item
+wordLine k w fs = seen (stepOf k w) (numbers (valueRange w ∷ []) fs)
 
 -- `proc,x`; "In a `P` sheet both new words are 11"
 unfoldable pub procOf : (line : ℕ) → List ℕ → Item
-procOf k ns = proc (firstNumber ns) k
+procOf k ns = proc (nth 0 ns) k
 
 unfoldable pub procLine : ProgramHeading → (line : ℕ) → List Field → LineResult Item
 procLine P k fs = bad badForm
@@ -71,7 +60,7 @@ itemLine h k [] = bad badForm
 itemLine h k (f ∷ fs) =
     if same f (bytes "freelock") then refuseAfter freelock (numbers ((0 to 0) ∷ []) fs)
     else if same f (bytes "proc") then procLine h k fs
-    else wordLine k (lookUp (wordsUnder h) f) fs
+    else orBadForm (lookUp (wordsUnder h) f) λ w. wordLine k w fs
 
 -- n lines behind the header, numbered from `line` upward
 unfoldable pub itemLines : ProgramHeading → (line n : ℕ) → List (List Field → LineResult Item)

@@ -4,7 +4,7 @@ use mathlib.Core.Bool.{Bool, true, false, _&&_}
 use mathlib.Core.Option.{Option, none, some}
 use Prim.Native.Nat.{ℕ, _+_}
 use lib.Dec.{eqb, leb, ltb}
-use lib.ListN.{length}
+use lib.ListN.{length, getD}
 use Rattle.spec.specs.Choice.{if_then_else_}
 use Rattle.spec.specs.Text.{Line, closed, unclosed, Field, fields, numeral}
 use Rattle.spec.specs.declared.Refusal.{Refusal}
@@ -42,6 +42,11 @@ unfoldable pub seen : {A B : Type 0} → (A → B) → LineResult A → LineResu
 seen f (good a) = good (f a)
 seen f (bad w) = bad w
 
+-- what a line shows by a word or by numbers that are there; else it is of the wrong form
+unfoldable pub orBadForm : {A B : Type 0} → Option A → (A → LineResult B) → LineResult B
+orBadForm none read = bad badForm
+orBadForm (some a) read = read a
+
 -- what is judged of a line after its form and its ranges
 unfoldable pub ensure : {A : Type 0} → Bool → Fault → LineResult A → LineResult A
 ensure b w (bad v) = bad v
@@ -63,7 +68,7 @@ unfoldable pub inRange : Range → ℕ → Bool
 inRange (first to last) n = leb first n && leb n last
 inRange (below count) n = ltb n count
 
--- each number in its range; numbers or ranges left over pass here, since `ranged` counts them first
+-- each number in its range; numbers or ranges left over pass here, since `numbers` counts them first
 unfoldable pub allInRange : List Range → List ℕ → Bool
 allInRange [] [] = true
 allInRange [] (n ∷ ns) = true
@@ -80,16 +85,17 @@ unfoldable pub numerals : List Field → Option (List ℕ)
 numerals [] = some []
 numerals (f ∷ fs) = withNumeral (numeral f) (numerals fs)
 
-unfoldable pub ranged : List Range → Option (List ℕ) → LineResult (List ℕ)
-ranged rs none = bad badForm
-ranged rs (some ns) =
+-- as many numerals as ranges, each in its range
+unfoldable pub numbers : List Range → List Field → LineResult (List ℕ)
+numbers rs fs =
+    orBadForm (numerals fs) λ ns.
     if eqb (length ns) (length rs)
     then (if allInRange rs ns then good ns else bad badRange)
     else bad badForm
 
--- as many numerals as ranges, each in its range
-unfoldable pub numbers : List Range → List Field → LineResult (List ℕ)
-numbers rs fs = ranged rs (numerals fs)
+-- the number at index i of a line. A 0 for none is never seen: `numbers` lets through only as many numerals as ranges.
+abbrev pub nth : (i : ℕ) → List ℕ → ℕ
+nth i ns = getD ns i 0
 
 -- ------------------------------------------------------------------ lines in turn
 
@@ -148,9 +154,5 @@ begin sheet [] = refuse (form sheet 1)
 begin sheet (l ∷ rest) = ok (record { last = 0; rest = l ∷ rest })
 
 -- a line behind the last is spare, with any bytes, closed or not
-unfoldable pub noneLeft : SheetName → (last : ℕ) → List Line → Result (Unit {0})
-noneLeft sheet k [] = ok tt
-noneLeft sheet k (l ∷ rest) = refuse (miscounted sheet (k + 1))
-
 unfoldable pub end : SheetName → Place → Result (Unit {0})
-end sheet place = noneLeft sheet (place .last) (place .rest)
+end sheet place = require (eqb (length (place .rest)) 0) (miscounted sheet (place .last + 1))

@@ -6,7 +6,7 @@ use Prim.Native.Nat.{ℕ, zero, suc, _+_}
 use lib.ListN.{length, getD, replicate}
 use Rattle.spec.specs.Choice.{if_then_else_}
 use Rattle.spec.specs.Text.{bytes, same, lines, Field, lookUp}
-use Rattle.spec.specs.Reading.{splitSheet, Result, _>>=_, ok, bad, Fault, badForm, noStart, noKept, LineResult, seen, ensure, Range, _to_, below, numerals, numbers, readLine, readLines, begin, end}
+use Rattle.spec.specs.Reading.{splitSheet, Result, _>>=_, ok, bad, Fault, badForm, noStart, noKept, LineResult, seen, orBadForm, ensure, Range, _to_, below, numerals, numbers, nth, readLine, readLines, begin, end}
 use Rattle.spec.specs.Words.{takesStart, keepsBack}
 use Rattle.spec.specs.Expression.{Step}
 use Rattle.spec.specs.Program.{Program}
@@ -18,6 +18,7 @@ use Rattle.spec.specs.declared.Purpose.{Purpose}
 use Rattle.spec.specs.declared.Purpose.the-variants.{Check, Fill}
 use Rattle.spec.specs.declared.TypeNumber.{TypeNumber}
 use Rattle.spec.specs.declared.MapNumber.{MapNumber}
+use Rattle.spec.specs.declared.Location.{Location}
 use Rattle.spec.specs.declared.TypeLine.{TypeLine}
 use Rattle.spec.specs.declared.TypeLine.the-variants.{Int, Ref, Lock, Tid, Sem, Rwlock}
 use Rattle.spec.specs.declared.Word.{Word}
@@ -41,50 +42,52 @@ headerRanges C maps = (1 to 1000000000) ∷ (1 to 16) ∷ (1 to 64) ∷ (1 to 51
 headerRanges C2 maps = (1 to 1000000000) ∷ (1 to 16) ∷ (1 to 64) ∷ (1 to 512) ∷ below maps ∷ []
 headerRanges C3 maps = (1 to 1000000000) ∷ (1 to 16) ∷ (1 to 64) ∷ (1 to 512) ∷ below maps ∷ []
 
--- M among the numbers of a header. The 0 here, and below where a number is taken by its place on a line, is never seen: `numbers` lets
--- through only as many numerals as ranges.
+-- M among the numbers of a header
 unfoldable pub mapsOf : List ℕ → ℕ
-mapsOf ns = getD ns 3 0
+mapsOf ns = nth 3 ns
 
--- without numerals the 0 is not seen either: the line is 21, whatever its ranges
+-- without numerals the 0 is never seen: the line is 21, whatever its ranges
 unfoldable pub mapsIn : Option (List ℕ) → ℕ
 mapsIn none = 0
 mapsIn (some ns) = mapsOf ns
 
+-- the location, the type and the map whose number is at index i of a line
+abbrev pub nthLocation : (i : ℕ) → List ℕ → Location
+nthLocation i ns = record { 0 = nth i ns }
+
+abbrev pub nthType : (i : ℕ) → List ℕ → TypeNumber
+nthType i ns = record { 0 = nth i ns }
+
+abbrev pub nthMap : (i : ℕ) → List ℕ → MapNumber
+nthMap i ns = record { 0 = nth i ns }
+
 -- "A `C` sheet still means map 0"
 unfoldable pub startOf : Heading → List ℕ → MapNumber
 startOf C ns = record { 0 = 0 }
-startOf C2 ns = record { 0 = getD ns 4 0 }
-startOf C3 ns = record { 0 = getD ns 4 0 }
+startOf C2 ns = nthMap 4 ns
+startOf C3 ns = nthMap 4 ns
 
 unfoldable pub headerOf : Heading → List ℕ → Header
 headerOf h ns = record {
   heading = h;
-  denominator = getD ns 0 0;
-  locations = getD ns 1 0;
-  types = getD ns 2 0;
+  denominator = nth 0 ns;
+  locations = nth 1 ns;
+  types = nth 2 ns;
   maps = mapsOf ns;
   start = startOf h ns;
 }
 
-unfoldable pub headed : Option Heading → List Field → LineResult Header
-headed none fs = bad badForm
-headed (some h) fs = seen (headerOf h) (numbers (headerRanges h (mapsIn (numerals fs))) fs)
-
 unfoldable pub headerLine : Purpose → List Field → LineResult Header
 headerLine purpose [] = bad badForm
-headerLine purpose (f ∷ fs) = headed (lookUp (headings purpose) f) fs
-
--- `int,0,0`; `ref,p,t`; `lock,k,0`, or `lock,in,out`; `tid,k,0`; `sem,k,0`; `rwlock,r,w`. A content type's number is less than the
--- type's own.
-unfoldable pub refOf : List ℕ → TypeLine
-refOf ns = Ref (record { 0 = getD ns 0 0 }) (record { 0 = getD ns 1 0 })
+headerLine purpose (f ∷ fs) =
+    orBadForm (lookUp (headings purpose) f) λ h.
+    seen (headerOf h) (numbers (headerRanges h (mapsIn (numerals fs))) fs)
 
 -- "A `C3` sheet is a `C2` sheet whose lock line is `lock,in,out`"; "older lock lines mean in = out"
 unfoldable pub lockOf : Heading → List ℕ → TypeLine
-lockOf C ns = Lock (record { 0 = getD ns 0 0 }) (record { 0 = getD ns 0 0 })
-lockOf C2 ns = Lock (record { 0 = getD ns 0 0 }) (record { 0 = getD ns 0 0 })
-lockOf C3 ns = Lock (record { 0 = getD ns 0 0 }) (record { 0 = getD ns 1 0 })
+lockOf C ns = Lock (nthMap 0 ns) (nthMap 0 ns)
+lockOf C2 ns = Lock (nthMap 0 ns) (nthMap 0 ns)
+lockOf C3 ns = Lock (nthMap 0 ns) (nthMap 1 ns)
 
 -- the third field of a lock line
 unfoldable pub outRange : Heading → (maps : ℕ) → Range
@@ -92,24 +95,17 @@ outRange C maps = 0 to 0
 outRange C2 maps = 0 to 0
 outRange C3 maps = below maps
 
-unfoldable pub tidOf : List ℕ → TypeLine
-tidOf ns = Tid (record { 0 = getD ns 0 0 })
-
-unfoldable pub semOf : List ℕ → TypeLine
-semOf ns = Sem (record { 0 = getD ns 0 0 })
-
-unfoldable pub rwlockOf : List ℕ → TypeLine
-rwlockOf ns = Rwlock (record { 0 = getD ns 0 0 }) (record { 0 = getD ns 1 0 })
-
+-- `int,0,0`; `ref,p,t`; `lock,k,0`, or `lock,in,out`; `tid,k,0`; `sem,k,0`; `rwlock,r,w`. A content type's number is less than the
+-- type's own.
 unfoldable pub typeLine : Header → (own : ℕ) → List Field → LineResult TypeLine
 typeLine H own [] = bad badForm
 typeLine H own (f ∷ fs) =
     if same f (bytes "int") then seen (λ ns. Int) (numbers ((0 to 0) ∷ (0 to 0) ∷ []) fs)
-    else if same f (bytes "ref") then seen refOf (numbers (below (H .locations) ∷ below own ∷ []) fs)
+    else if same f (bytes "ref") then seen (λ ns. Ref (nthLocation 0 ns) (nthType 1 ns)) (numbers (below (H .locations) ∷ below own ∷ []) fs)
     else if same f (bytes "lock") then seen (lockOf (H .heading)) (numbers (below (H .maps) ∷ outRange (H .heading) (H .maps) ∷ []) fs)
-    else if same f (bytes "tid") then seen tidOf (numbers (below (H .maps) ∷ (0 to 0) ∷ []) fs)
-    else if same f (bytes "sem") then seen semOf (numbers (below (H .maps) ∷ (0 to 0) ∷ []) fs)
-    else if same f (bytes "rwlock") then seen rwlockOf (numbers (below (H .maps) ∷ below (H .maps) ∷ []) fs)
+    else if same f (bytes "tid") then seen (λ ns. Tid (nthMap 0 ns)) (numbers (below (H .maps) ∷ (0 to 0) ∷ []) fs)
+    else if same f (bytes "sem") then seen (λ ns. Sem (nthMap 0 ns)) (numbers (below (H .maps) ∷ (0 to 0) ∷ []) fs)
+    else if same f (bytes "rwlock") then seen (λ ns. Rwlock (nthMap 0 ns) (nthMap 1 ns)) (numbers (below (H .maps) ∷ below (H .maps) ∷ []) fs)
     else bad badForm
 
 -- the lines of n types, numbered from `own` upward
@@ -126,12 +122,7 @@ abbrev pub noSignature : Signature
 noSignature = record { before = record { 0 = 0 }; argument = record { 0 = 0 }; after = record { 0 = 0 }; result = record { 0 = 0 } }
 
 unfoldable pub signatureOf : List ℕ → Signature
-signatureOf ns = record {
-  before = record { 0 = getD ns 0 0 };
-  argument = record { 0 = getD ns 1 0 };
-  after = record { 0 = getD ns 2 0 };
-  result = record { 0 = getD ns 3 0 };
-}
+signatureOf ns = record { before = nthMap 0 ns; argument = nthType 1 ns; after = nthMap 2 ns; result = nthType 3 ns }
 
 -- `before,argument,after,result`, "map, type, map, type"
 unfoldable pub signatureLine : Header → List Field → LineResult Signature
@@ -149,10 +140,7 @@ abbrev pub noRow : Row
 noRow = record { type = record { 0 = 0 }; post = record { 0 = 0 }; start = none }
 
 unfoldable pub rowOf : Option MapNumber → List ℕ → Row
-rowOf start ns = record { type = record { 0 = getD ns 0 0 }; post = record { 0 = getD ns 1 0 }; start = start }
-
-unfoldable pub startGiven : List ℕ → MapNumber
-startGiven ns = record { 0 = getD ns 2 0 }
+rowOf start ns = record { type = nthType 0 ns; post = nthMap 1 ns; start = start }
 
 -- "On any other word s is empty": there, no number is in its range
 unfoldable pub startRange : Word → Header → Range
@@ -188,7 +176,7 @@ rowLine purpose H s (t ∷ m ∷ [] ∷ []) =
     ensure (mayBeEmpty (H .heading) (s .word)) (emptyFault (s .word))
     (seen (rowOf none) (numbers (below (H .types) ∷ postRange purpose H m ∷ []) (t ∷ postField purpose m ∷ [])))
 rowLine purpose H s (t ∷ m ∷ (b ∷ f) ∷ []) =
-    seen (λ ns. rowOf (some (startGiven ns)) ns)
+    seen (λ ns. rowOf (some (nthMap 2 ns)) ns)
     (numbers (below (H .types) ∷ postRange purpose H m ∷ startRange (s .word) H ∷ []) (t ∷ postField purpose m ∷ (b ∷ f) ∷ []))
 rowLine purpose H s (t ∷ m ∷ f ∷ g ∷ fs) = bad badForm
 

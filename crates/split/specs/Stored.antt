@@ -10,7 +10,7 @@ use Rattle.spec.specs.declared.Purpose.{Purpose}
 use Rattle.spec.specs.declared.TypeLine.{TypeLine}
 use Rattle.lexer.specs.Cursors.{Placed, placeAt}
 use Rattle.lexer.specs.declared.Cursor.{Cursor}
-use Rattle.workspace.specs.Layout.{rowTypesAt, presAt, kindsAt, lineAt, sigBeforesAt, sigArgumentsAt, sigAftersAt, sigResultsAt, mapsAt, stride, emptyMap, emptyRowAt, workSize, kindCode, firstOf, secondOf}
+use Rattle.workspace.specs.Layout.{rowTypesAt, presAt, kindsAt, typesEnd, sigBeforesAt, sigArgumentsAt, sigAftersAt, sigResultsAt, mapsAt, stride, emptyMap, emptyRowAt, workSize, kindCode, firstOf, secondOf}
 use Rattle.workspace.specs.Region.{Region, ChangedWithin}
 use Rattle.workspace.specs.Holds.{startNumber}
 use Rattle.workspace.specs.Steps.{stepsFrom}
@@ -85,7 +85,7 @@ pub record LinesStored {A : Type 0} (a b n : ℕ) (Stored : List ℕ → List A 
 -- the type lines from a cursor on
 abbrev pub TypesRead : List ℕ → Cursor → Header → (w w′ : List ℕ) → LinesRead → Type 0
 TypesRead text c h w w′ answer =
-    LinesStored kindsAt lineAt (h .types) HoldsTypes text (readLines splitSheet (typeLines h 0 (h .types)) (placeAt text c)) w w′ answer
+    LinesStored kindsAt typesEnd (h .types) HoldsTypes text (readLines splitSheet (typeLines h 0 (h .types)) (placeAt text c)) w w′ answer
 
 -- the map lines
 abbrev pub MapsRead : List ℕ → Cursor → Header → (w w′ : List ℕ) → LinesRead → Type 0

@@ -11,8 +11,8 @@ use lib.Seq.{length-take-le}
 use borrow.Author.Tests.{leb-true, leb-false, lt-leb}
 use Rattle.spec.specs.Choice.{if_then_else_}
 use Rattle.spec.specs.Text.{bytes, same, Field, lookUp, lines}
-use Rattle.spec.specs.Reading.{splitSheet, refuse, ok, LineResult, good, bad, badForm, badRange, seen, inRange, allInRange, numerals, ranged, numbers, form, passed, nextLine, readLine}
-use Rattle.spec.specs.Split.{headings, headerRanges, mapsOf, mapsIn, startOf, headerOf, headed, headerLine}
+use Rattle.spec.specs.Reading.{splitSheet, refuse, ok, LineResult, good, bad, badForm, badRange, seen, inRange, allInRange, numerals, numbers, form, passed, nextLine, readLine, orBadForm}
+use Rattle.spec.specs.Split.{headings, headerRanges, mapsOf, mapsIn, startOf, headerOf, headerLine}
 use Rattle.spec.specs.declared.Header.{Header}
 use Rattle.spec.specs.declared.Heading.{Heading}
 use Rattle.spec.specs.declared.Heading.the-variants.{C, C2, C3}
@@ -20,7 +20,7 @@ use Rattle.spec.specs.declared.Purpose.{Purpose}
 use Rattle.spec.specs.declared.Purpose.the-variants.{Check, Fill}
 use Rattle.spec.specs.declared.Refusal.the-variants.{SplitForm, SplitRange}
 use Rattle.spec.proofs.Clashes.{true-is-not-false}
-use Rattle.spec.proofs.Seen.{in-to, first-map-fits}
+use Rattle.spec.proofs.Seen.{in-to, first-map-fits, ranged}
 use Rattle.lexer.specs.Views.{endOf, firstField}
 use Rattle.lexer.specs.Cursors.{Placed, rest, behindField, placeAt}
 use Rattle.lexer.specs.Numbers.{stored, numbersAt}
@@ -192,8 +192,8 @@ header-by-stored h ms l = ap (seen (headerOf h)) (judged-stored (numbers-of h ms
 
 -- ------------------------------------------------------------------ the line
 
-header-alone : (o : Option Heading) → headed o [] ≡ bad badForm
-unfolding headed headerRanges seen numbers numerals ranged
+header-alone : (o : Option Heading) → orBadForm o (λ h. seen (headerOf h) (numbers (headerRanges h (mapsIn (numerals []))) [])) ≡ bad badForm
+unfolding orBadForm headerRanges seen numbers numerals
 header-alone none = refl
 header-alone (some C) = refl
 header-alone (some C2) = refl
@@ -206,8 +206,9 @@ as-many C2 m = refl
 as-many C3 m = refl
 
 -- the fields behind a heading show what their numerals come to
-heading-shows : (h : Heading) (fs : List Field) → headed (some h) fs ≡ many (numeralsOf h) (λ ns. seen (headerOf h) (judged h ns)) (bad badForm) (numerals fs)
-unfolding headed numbers ranged mapsIn many judged
+heading-shows : (h : Heading) (fs : List Field)
+    → seen (headerOf h) (numbers (headerRanges h (mapsIn (numerals fs))) fs) ≡ many (numeralsOf h) (λ ns. seen (headerOf h) (judged h ns)) (bad badForm) (numerals fs)
+unfolding orBadForm numbers mapsIn many judged
 heading-shows h fs = go (numerals fs)
   where
     counts : (x : Bool) (ns : List ℕ) → seen (headerOf h) (if x then judged h ns else bad badForm) ≡ (if x then seen (headerOf h) (judged h ns) else bad badForm)
@@ -230,18 +231,18 @@ module _ (purpose : Purpose) (text : List ℕ) (c : Cursor) (some-left : 0 < len
 
   -- no heading
   pub no-header : lookUp (headings purpose) (firstField (rest text c)) ≡ none → readLine splitSheet (headerLine purpose) (placeAt text c) ≡ refuse (SplitForm (c .line + 1))
-  unfolding form headerLine headed
+  unfolding form headerLine orBadForm
   no-header e =
       next-at splitSheet text (headerLine purpose) c
-      ∙ first-wrong splitSheet (headerLine purpose) (c .line) (rest text c) some-left (λ fs. ap (λ (o : Option Heading). headed o fs) e)
+      ∙ first-wrong splitSheet (headerLine purpose) (c .line) (rest text c) some-left (λ fs. rw e refl)
 
   module _
       (p : Placed text c) (comma : endOf (rest text c) ≡ Comma) (d : Cursor) (is : behindField text c ≡ d)
       (h : Heading) (known : lookUp (headings purpose) (firstField (rest text c)) ≡ some h)
     where
       shows : (fs : List Field) → headerLine purpose (firstField (rest text c) ∷ fs) ≡ many (numeralsOf h) (λ ns. seen (headerOf h) (judged h ns)) (bad badForm) (numerals fs)
-      unfolding headerLine
-      shows fs = ap (λ (o : Option Heading). headed o fs) known ∙ heading-shows h fs
+      unfolding headerLine orBadForm
+      shows fs = rw known (heading-shows h fs)
 
       pub header-form : numbersAt text d (numeralsOf h) ≡ none → readLine splitSheet (headerLine purpose) (placeAt text c) ≡ refuse (SplitForm (c .line + 1))
       unfolding form

@@ -10,8 +10,8 @@ use lib.ListN.{length}
 use borrow.Author.Tests.{eq-eqb}
 use Rattle.spec.specs.Choice.{if_then_else_}
 use Rattle.spec.specs.Text.{bytes, Field, digitLimit, digits, leadingZero, value, numeral}
-use Rattle.spec.specs.Reading.{LineResult, good, bad, badForm, badRange, seen, ensure, Range, below, inRange, allInRange, withNumeral, numerals, ranged, numbers}
-use Rattle.spec.specs.Split.{Row, rowOf, startGiven, startRange, mayBeEmpty, emptyFault, postRange, postField, rowLine}
+use Rattle.spec.specs.Reading.{LineResult, good, bad, badForm, badRange, seen, ensure, Range, below, inRange, allInRange, withNumeral, numerals, numbers, orBadForm}
+use Rattle.spec.specs.Split.{Row, rowOf, startRange, mayBeEmpty, emptyFault, postRange, postField, rowLine, nthMap}
 use Rattle.spec.specs.declared.Header.{Header}
 use Rattle.spec.specs.Words.{takesStart}
 use Rattle.spec.specs.declared.Purpose.{Purpose}
@@ -35,7 +35,7 @@ three H w = below (H .types) ∷ below (H .maps) ∷ startRange w H ∷ []
 
 -- a field that is no numeral
 no-numerals : (rs : List Range) (fs : List Field) → numerals fs ≡ none → numbers rs fs ≡ bad badForm
-unfolding numbers ranged
+unfolding numbers orBadForm
 no-numerals rs fs e = rw e
 
 not-first : (f : Field) (fs : List Field) → numeral f ≡ none → numerals (f ∷ fs) ≡ none
@@ -115,7 +115,7 @@ judged rs ns = if allInRange rs ns then good ns else bad badRange
 -- as many numerals as ranges
 all-spelled : (rs : List Range) (fs : List Field) (ns : List ℕ) → AllNarrow rs → numerals fs ≡ some ns → length ns ≡ length rs
     → numbers rs fs ≡ judged rs (map stored ns)
-unfolding numbers ranged judged
+unfolding numbers orBadForm judged
 all-spelled rs fs ns narrow e l = rw (e, eq-eqb (length ns) (length rs) l) (stored-judged rs narrow ns l)
 
 both-spelled : (f g : Field) (k l : ℕ) (fs : List Field) (ns : List ℕ) → numeral f ≡ some k → numeral g ≡ some l → numerals fs ≡ some ns
@@ -178,10 +178,10 @@ module _
     -- a number
     pub row-given : (s : Field) (n : ℕ) → Spells s n → wordLine purpose H w (f ∷ m ∷ s ∷ [])
         ≡ (if allInRange (three H w) (a ∷ b ∷ n ∷ []) then good (rowOf (some (record { 0 = n })) (a ∷ b ∷ n ∷ [])) else bad badRange)
-    unfolding wordLine rowLine numerals withNumeral startGiven startRange judged
+    unfolding wordLine rowLine numerals withNumeral startRange judged
     row-given [] n third = let z : _≡_ {A = ℕ} 0 1 = unfold numeral in cc in absurd (omega arith)
     row-given (x ∷ s) n (k, e, q) =
         let limit = start-few w (H .maps) in
-        ap (seen (λ ns. rowOf (some (startGiven ns)) ns)) (row-handed H few f a b first (startRange w H ∷ []) (omega arith, tt) ((x ∷ s) ∷ []) (k ∷ []) (rw e) refl purpose m second)
-        ∙ seen-row (λ ns. rowOf (some (startGiven ns)) ns) (allInRange (three H w) (a ∷ b ∷ stored k ∷ [])) (a ∷ b ∷ stored k ∷ [])
+        ap (seen (λ ns. rowOf (some (nthMap 2 ns)) ns)) (row-handed H few f a b first (startRange w H ∷ []) (omega arith, tt) ((x ∷ s) ∷ []) (k ∷ []) (rw e) refl purpose m second)
+        ∙ seen-row (λ ns. rowOf (some (nthMap 2 ns)) ns) (allInRange (three H w) (a ∷ b ∷ stored k ∷ [])) (a ∷ b ∷ stored k ∷ [])
         ∙ ap (λ (n : ℕ). if allInRange (three H w) (a ∷ b ∷ n ∷ []) then good (rowOf (some (record { 0 = n })) (a ∷ b ∷ n ∷ [])) else bad badRange) (sym q)

@@ -6,7 +6,7 @@ use Prim.Native.Nat.{ℕ, zero, suc}
 use native.Mathlib.Omega.{arith}
 use borrow.Author.Tests.{le-leb, lt-leb, le-ltb}
 use Rattle.spec.specs.Reading.{Range, _to_, below, inRange, allInRange}
-use Rattle.spec.specs.Split.{refOf, lockOf, outRange, tidOf, semOf, rwlockOf}
+use Rattle.spec.specs.Split.{lockOf, outRange, nthMap, nthType, nthLocation}
 use Rattle.spec.specs.declared.Header.{Header}
 use Rattle.spec.specs.declared.Heading.{Heading}
 use Rattle.spec.specs.declared.Heading.the-variants.{C, C2, C3}
@@ -30,7 +30,7 @@ module _ (H : Header) (own a b : ℕ) where
   unfolding typeSeen rangedType allInRange
   int-seen k e = rw (e, zero-below a, zero-below b)
 
-  pub ref-seen : (k : TypeWord) → k ≡ kind.Ref → typeSeen k H own (a ∷ b ∷ []) ≡ rangedType (below (H .locations) ∷ below own ∷ []) refOf (a ∷ b ∷ [])
+  pub ref-seen : (k : TypeWord) → k ≡ kind.Ref → typeSeen k H own (a ∷ b ∷ []) ≡ rangedType (below (H .locations) ∷ below own ∷ []) (λ ns. type-line.Ref (nthLocation 0 ns) (nthType 1 ns)) (a ∷ b ∷ [])
   unfolding typeSeen
   ref-seen k e = rw e
 
@@ -39,15 +39,15 @@ module _ (H : Header) (own a b : ℕ) where
   unfolding typeSeen
   lock-seen k e told = rw e told
 
-  pub tid-seen : (k : TypeWord) → k ≡ kind.Tid → typeSeen k H own (a ∷ b ∷ []) ≡ rangedType (below (H .maps) ∷ below 1 ∷ []) tidOf (a ∷ b ∷ [])
+  pub tid-seen : (k : TypeWord) → k ≡ kind.Tid → typeSeen k H own (a ∷ b ∷ []) ≡ rangedType (below (H .maps) ∷ below 1 ∷ []) (λ ns. type-line.Tid (nthMap 0 ns)) (a ∷ b ∷ [])
   unfolding typeSeen rangedType allInRange
   tid-seen k e = rw (e, zero-below b)
 
-  pub sem-seen : (k : TypeWord) → k ≡ kind.Sem → typeSeen k H own (a ∷ b ∷ []) ≡ rangedType (below (H .maps) ∷ below 1 ∷ []) semOf (a ∷ b ∷ [])
+  pub sem-seen : (k : TypeWord) → k ≡ kind.Sem → typeSeen k H own (a ∷ b ∷ []) ≡ rangedType (below (H .maps) ∷ below 1 ∷ []) (λ ns. type-line.Sem (nthMap 0 ns)) (a ∷ b ∷ [])
   unfolding typeSeen rangedType allInRange
   sem-seen k e = rw (e, zero-below b)
 
-  pub rwlock-seen : (k : TypeWord) → k ≡ kind.Rwlock → typeSeen k H own (a ∷ b ∷ []) ≡ rangedType (below (H .maps) ∷ below (H .maps) ∷ []) rwlockOf (a ∷ b ∷ [])
+  pub rwlock-seen : (k : TypeWord) → k ≡ kind.Rwlock → typeSeen k H own (a ∷ b ∷ []) ≡ rangedType (below (H .maps) ∷ below (H .maps) ∷ []) (λ ns. type-line.Rwlock (nthMap 0 ns) (nthMap 1 ns)) (a ∷ b ∷ [])
   unfolding typeSeen
   rwlock-seen k e = rw e
 

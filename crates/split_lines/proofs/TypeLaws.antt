@@ -8,14 +8,13 @@ use native.Mathlib.Omega.{arith}
 use lib.ListN.{length, getD}
 use Rattle.spec.specs.Choice.{if_then_else_}
 use Rattle.spec.specs.Text.{Field, lines}
-use Rattle.spec.specs.Reading.{splitSheet, refuse, good, bad, badForm, badRange, seen, Range, _to_, below, allInRange, numerals, ranged, numbers, form, faulty, passed, nextLine, readLine}
-use Rattle.spec.specs.Split.{refOf, lockOf, outRange, tidOf, semOf, rwlockOf, typeLine}
+use Rattle.spec.specs.Reading.{splitSheet, refuse, good, bad, badForm, badRange, seen, Range, _to_, allInRange, numerals, numbers, form, faulty, passed, nextLine, readLine, orBadForm}
+use Rattle.spec.specs.Split.{outRange, typeLine}
 use Rattle.spec.specs.declared.Header.{Header}
 use Rattle.spec.specs.declared.Heading.{Heading}
 use Rattle.spec.specs.declared.Heading.the-variants.{C, C2, C3}
 use Rattle.spec.specs.declared.Refusal.the-variants.{SplitForm, SplitRange}
 use Rattle.spec.specs.declared.TypeLine.{TypeLine}
-use Rattle.spec.specs.declared.TypeLine.the-variants as type-line
 use Rattle.lexer.specs.Views.{endOf, firstField}
 use Rattle.lexer.specs.Cursors.{Placed, rest, behindField, placeAt}
 use Rattle.lexer.specs.Numbers.{numbersAt}
@@ -48,7 +47,7 @@ out-narrow C3 maps few = omega arith
 
 module _ (H : Header) (own : ℕ) where
   kind-alone : (k : TypeWord) → ofKind H own [] k ≡ bad badForm
-  unfolding ofKind seen numbers numerals ranged
+  unfolding ofKind seen numbers numerals orBadForm
   kind-alone kind.Int = refl
   kind-alone kind.Ref = refl
   kind-alone kind.Lock = refl
@@ -104,23 +103,23 @@ module _ (H : Header) (own : ℕ) (text : List ℕ) (c : Cursor) (some-left : 0 
     kind-form : (k : TypeWord) → typeWordOf (firstField (rest text c)) ≡ k → numbersAt text d 2 ≡ none
         → nextLine splitSheet (typeLine H own) (c .line) (lines (rest text c)) ≡ refuse (SplitForm (c .line + 1))
     unfolding ofKind
-    kind-form kind.Int e n = known-form ((0 to 0) ∷ (0 to 0) ∷ []) (λ ns. type-line.Int) (as-kind kind.Int e) n
-    kind-form kind.Ref e n = known-form (below (H .locations) ∷ below own ∷ []) refOf (as-kind kind.Ref e) n
-    kind-form kind.Lock e n = known-form (below (H .maps) ∷ outRange (H .heading) (H .maps) ∷ []) (lockOf (H .heading)) (as-kind kind.Lock e) n
-    kind-form kind.Tid e n = known-form (below (H .maps) ∷ (0 to 0) ∷ []) tidOf (as-kind kind.Tid e) n
-    kind-form kind.Sem e n = known-form (below (H .maps) ∷ (0 to 0) ∷ []) semOf (as-kind kind.Sem e) n
-    kind-form kind.Rwlock e n = known-form (below (H .maps) ∷ below (H .maps) ∷ []) rwlockOf (as-kind kind.Rwlock e) n
+    kind-form kind.Int e n = known-form _ _ (as-kind kind.Int e) n
+    kind-form kind.Ref e n = known-form _ _ (as-kind kind.Ref e) n
+    kind-form kind.Lock e n = known-form _ _ (as-kind kind.Lock e) n
+    kind-form kind.Tid e n = known-form _ _ (as-kind kind.Tid e) n
+    kind-form kind.Sem e n = known-form _ _ (as-kind kind.Sem e) n
+    kind-form kind.Rwlock e n = known-form _ _ (as-kind kind.Rwlock e) n
     kind-form kind.Unknown e n = unknown e
 
     kind-read : (H .locations ≤ 16) × (H .maps ≤ 512) × (own < 64) → (k : TypeWord) → typeWordOf (firstField (rest text c)) ≡ k → (ns r : List ℕ) → numbersAt text d 2 ≡ some (ns, r)
         → nextLine splitSheet (typeLine H own) (c .line) (lines (rest text c)) ≡ passed splitSheet (c .line + 1) (lines r) (typeDecoded (typeSeen k H own ns))
     unfolding ofKind typeSeen lockSeen typeDecoded faulty passed form
-    kind-read few kind.Int e ns r n = known-read ((0 to 0) ∷ (0 to 0) ∷ []) (λ ns. type-line.Int) (as-kind kind.Int e) (omega arith, (omega arith, tt)) ns r n
-    kind-read few kind.Ref e ns r n = known-read (below (H .locations) ∷ below own ∷ []) refOf (as-kind kind.Ref e) (omega arith, (omega arith, tt)) ns r n
-    kind-read few kind.Lock e ns r n = known-read (below (H .maps) ∷ outRange (H .heading) (H .maps) ∷ []) (lockOf (H .heading)) (as-kind kind.Lock e) (omega arith, (out-narrow (H .heading) (H .maps) (few .1), tt)) ns r n
-    kind-read few kind.Tid e ns r n = known-read (below (H .maps) ∷ (0 to 0) ∷ []) tidOf (as-kind kind.Tid e) (omega arith, (omega arith, tt)) ns r n
-    kind-read few kind.Sem e ns r n = known-read (below (H .maps) ∷ (0 to 0) ∷ []) semOf (as-kind kind.Sem e) (omega arith, (omega arith, tt)) ns r n
-    kind-read few kind.Rwlock e ns r n = known-read (below (H .maps) ∷ below (H .maps) ∷ []) rwlockOf (as-kind kind.Rwlock e) (omega arith, (omega arith, tt)) ns r n
+    kind-read few kind.Int e ns r n = known-read _ _ (as-kind kind.Int e) (omega arith, (omega arith, tt)) ns r n
+    kind-read few kind.Ref e ns r n = known-read _ _ (as-kind kind.Ref e) (omega arith, (omega arith, tt)) ns r n
+    kind-read few kind.Lock e ns r n = known-read _ _ (as-kind kind.Lock e) (omega arith, (out-narrow (H .heading) (H .maps) (few .1), tt)) ns r n
+    kind-read few kind.Tid e ns r n = known-read _ _ (as-kind kind.Tid e) (omega arith, (omega arith, tt)) ns r n
+    kind-read few kind.Sem e ns r n = known-read _ _ (as-kind kind.Sem e) (omega arith, (omega arith, tt)) ns r n
+    kind-read few kind.Rwlock e ns r n = known-read _ _ (as-kind kind.Rwlock e) (omega arith, (omega arith, tt)) ns r n
     kind-read few kind.Unknown e ns r n = unknown e
 
     pub type-form : numbersAt text d 2 ≡ none → readLine splitSheet (typeLine H own) (placeAt text c) ≡ refuse (SplitForm (c .line + 1))

@@ -5,7 +5,7 @@ use lib.ListN.{replicate}
 use Rattle.spec.specs.Choice.{if_then_else_}
 use Rattle.spec.specs.Text.{Field}
 use Rattle.spec.specs.Reading.{LineResult, good, bad, badForm, badRange, Range, _to_, below, allInRange, numbers}
-use Rattle.spec.specs.Split.{Map, refOf, lockOf, outRange, tidOf, semOf, rwlockOf}
+use Rattle.spec.specs.Split.{Map, lockOf, outRange, nthMap, nthType, nthLocation}
 use Rattle.spec.specs.declared.Header.{Header}
 use Rattle.spec.specs.declared.Heading.{Heading}
 use Rattle.spec.specs.declared.TypeLine.{TypeLine}
@@ -26,11 +26,11 @@ lockSeen h maps ns = rangedType (below maps ∷ outRange h maps ∷ []) (lockOf 
 
 unfoldable pub typeSeen : TypeWord → Header → (own : ℕ) → List ℕ → TypeSeen
 typeSeen kind.Int H own ns = rangedType ((0 to 0) ∷ (0 to 0) ∷ []) (λ ns. type-line.Int) ns
-typeSeen kind.Ref H own ns = rangedType (below (H .locations) ∷ below own ∷ []) refOf ns
+typeSeen kind.Ref H own ns = rangedType (below (H .locations) ∷ below own ∷ []) (λ ns. type-line.Ref (nthLocation 0 ns) (nthType 1 ns)) ns
 typeSeen kind.Lock H own ns = lockSeen (H .heading) (H .maps) ns
-typeSeen kind.Tid H own ns = rangedType (below (H .maps) ∷ (0 to 0) ∷ []) tidOf ns
-typeSeen kind.Sem H own ns = rangedType (below (H .maps) ∷ (0 to 0) ∷ []) semOf ns
-typeSeen kind.Rwlock H own ns = rangedType (below (H .maps) ∷ below (H .maps) ∷ []) rwlockOf ns
+typeSeen kind.Tid H own ns = rangedType (below (H .maps) ∷ (0 to 0) ∷ []) (λ ns. type-line.Tid (nthMap 0 ns)) ns
+typeSeen kind.Sem H own ns = rangedType (below (H .maps) ∷ (0 to 0) ∷ []) (λ ns. type-line.Sem (nthMap 0 ns)) ns
+typeSeen kind.Rwlock H own ns = rangedType (below (H .maps) ∷ below (H .maps) ∷ []) (λ ns. type-line.Rwlock (nthMap 0 ns) (nthMap 1 ns)) ns
 typeSeen kind.Unknown H own ns = type-seen.BadForm
 
 unfoldable pub typeDecoded : TypeSeen → LineResult TypeLine

@@ -8,7 +8,7 @@ use native.Mathlib.Omega.{arith}
 use lib.ListN.{length}
 use borrow.Author.Tests.{eq-eqb, le-leb, lt-ltb}
 use Rattle.spec.specs.Text.{Field, digitLimit}
-use Rattle.spec.specs.Reading.{good, Range, _to_, below, inRange, allInRange, withNumeral, numerals, ranged, numbers}
+use Rattle.spec.specs.Reading.{good, Range, _to_, below, inRange, allInRange, withNumeral, numerals, numbers, orBadForm}
 use Rattle.text_theory.specs.Text.{decimal}
 use Rattle.text_theory.specs.Plain.{Plain, PlainLine, last, next}
 use Rattle.text_theory.proofs.Numerals.{numeral-decimal, decimal-plain}
@@ -46,7 +46,7 @@ within-ranges empty = refl
 within-ranges (number i s w) = rw (i, within-ranges w)
 
 pub numbers-back : {rs : List Range} {ns : List ℕ} → Within rs ns → numbers rs (map decimal ns) ≡ good ns
-unfolding numbers ranged
+unfolding numbers orBadForm
 numbers-back {rs} {ns} w = rw (numerals-back w) (simp (eq-eqb (length ns) (length rs) (within-length w), within-ranges w))
 
 -- ------------------------------------------------------------------ plain lines

@@ -4,18 +4,18 @@ use mathlib.Core.Path.{_≡_, refl}
 use mathlib.Core.Path.{subst as along}
 use mathlib.Core.List.{List, [], _∷_, map}
 use mathlib.Core.Bool.{Bool, true, false}
-use mathlib.Core.Option.{Option, none, some}
+use mathlib.Core.Option.{none}
 use Prim.Native.Nat.{ℕ, zero, suc, _+_, _<_}
 use native.Mathlib.Omega.{arith}
 use lib.ListN.{length, getD, replicate}
 use borrow.Author.Tests.{ltb-true}
 use Rattle.spec.specs.Choice.{if_then_else_}
-use Rattle.spec.specs.Text.{Line, bytes, same, Field, lookUp}
-use Rattle.spec.specs.Reading.{good, _to_, below, inRange, allInRange}
+use Rattle.spec.specs.Text.{Line, bytes, same, Field}
+use Rattle.spec.specs.Reading.{good, _to_, below, inRange, allInRange, numerals, seen, numbers}
 use Rattle.spec.specs.Words.{takesStart}
 use Rattle.spec.specs.Expression.{Step}
 use Rattle.spec.specs.Program.{Program}
-use Rattle.spec.specs.Split.{Map, headings, startOf, headerOf, headed, headerLine, refOf, lockOf, tidOf, semOf, rwlockOf, typeLine, typeLines, mapLine, Row, rowOf, startGiven, startRange, mayBeEmpty, emptyFault, postRange, postField, rowLine, Split}
+use Rattle.spec.specs.Split.{Map, headerRanges, mapsIn, startOf, headerOf, headerLine, lockOf, typeLine, typeLines, mapLine, Row, rowOf, startRange, mayBeEmpty, emptyFault, postRange, postField, rowLine, Split}
 use Rattle.spec.specs.declared.Header.{Header}
 use Rattle.spec.specs.WellFormed.{Parses, nothing, line, WellFormedSplit}
 use Rattle.spec.specs.Accepted.{AtMost}
@@ -28,24 +28,24 @@ use Rattle.spec.specs.declared.TypeLine.{TypeLine}
 use Rattle.spec.specs.declared.TypeLine.the-variants.{Int, Ref, Lock, Tid, Sem, Rwlock}
 use Rattle.spec.specs.declared.Word.{Word}
 use Rattle.spec.proofs.Tests.{both-true}
-use Rattle.spec.proofs.Seen.{wrong-is-not-right, seen-right, numbers-right, in-to, in-range-at, insist-right}
+use Rattle.spec.proofs.Seen.{wrong-is-not-right, seen-right, formed-right, numbers-right, in-to, in-range-at, insist-right}
 use Rattle.spec.proofs.Ranges.{well-formed-in-range}
 use Rattle.text_theory.specs.Writable.{RootStarts, LockShows, RowStarts, Writable}
 use Rattle.text_theory.proofs.Spelling.{choice-right}
 
 -- ------------------------------------------------------------------ the header
 
-headed-starts : (o : Option Heading) (fs : List Field) (H : Header) → headed o fs ≡ good H → RootStarts (H .heading) (H .start)
-unfolding headed headerOf startOf RootStarts
-headed-starts none fs H h = wrong-is-not-right h
-headed-starts (some C) fs H h = let (ns, n, e) = seen-right _ h in along (λ G. RootStarts (G .heading) (G .start)) e refl
-headed-starts (some C2) fs H h = let (ns, n, e) = seen-right _ h in along (λ G. RootStarts (G .heading) (G .start)) e tt
-headed-starts (some C3) fs H h = let (ns, n, e) = seen-right _ h in along (λ G. RootStarts (G .heading) (G .start)) e tt
+headed-starts : (h : Heading) (fs : List Field) (H : Header) → seen (headerOf h) (numbers (headerRanges h (mapsIn (numerals fs))) fs) ≡ good H
+    → RootStarts (H .heading) (H .start)
+unfolding headerOf startOf RootStarts
+headed-starts C fs H h = let (ns, n, e) = seen-right _ h in along (λ G. RootStarts (G .heading) (G .start)) e refl
+headed-starts C2 fs H h = let (ns, n, e) = seen-right _ h in along (λ G. RootStarts (G .heading) (G .start)) e tt
+headed-starts C3 fs H h = let (ns, n, e) = seen-right _ h in along (λ G. RootStarts (G .heading) (G .start)) e tt
 
 header-starts : (purpose : Purpose) (fs : List Field) (H : Header) → headerLine purpose fs ≡ good H → RootStarts (H .heading) (H .start)
 unfolding headerLine
 header-starts purpose [] H h = wrong-is-not-right h
-header-starts purpose (f ∷ fs) H h = headed-starts (lookUp (headings purpose) f) fs H h
+header-starts purpose (f ∷ fs) H h = let (heading, _, shown) = formed-right _ _ h in headed-starts heading fs H shown
 
 -- ------------------------------------------------------------------ types
 
@@ -64,7 +64,7 @@ lock-made C2 ns = refl
 lock-made C3 ns = tt
 
 type-shows : (H : Header) (own : ℕ) (fs : List Field) (τ : TypeLine) → typeLine H own fs ≡ good τ → TypeShows (H .heading) τ
-unfolding typeLine TypeShows refOf tidOf semOf rwlockOf
+unfolding typeLine TypeShows
 type-shows H own [] τ h = wrong-is-not-right h
 type-shows H own (f ∷ fs) τ h =
     let Q = TypeShows (H .heading) in
@@ -114,7 +114,7 @@ start-on-spawn w H n h = by-cases (takesStart w) (ltb-true n _ h)
 
 module _ (purpose : Purpose) (H : Header) where
   row-starts : (s : Step) (fs : List Field) (r : Row) → rowLine purpose H s fs ≡ good r → RowStarts (H .heading) (s .word) (r .start)
-  unfolding rowLine rowOf startGiven RowStarts
+  unfolding rowLine rowOf RowStarts
   row-starts s [] r h = wrong-is-not-right h
   row-starts s (t ∷ []) r h = wrong-is-not-right h
   row-starts s (t ∷ m ∷ []) r h = wrong-is-not-right h

@@ -9,10 +9,10 @@ use native.Mathlib.Omega.{arith}
 use lib.Dec.{eqb}
 use lib.ListN.{length, replicate, getD, length-map, length-replicate, getD-replicate, List·getD-map}
 use Rattle.spec.specs.Text.{bytes, same, lookUp, lines, Field}
-use Rattle.spec.specs.Reading.{splitSheet, ok, LineResult, good, seen, ensure, Range, _to_, below, numbers, begin, noneLeft, end}
+use Rattle.spec.specs.Reading.{splitSheet, ok, LineResult, good, seen, ensure, Range, _to_, below, numbers, begin, end, orBadForm, require}
 use Rattle.spec.specs.Expression.{Step}
 use Rattle.spec.specs.Program.{Program}
-use Rattle.spec.specs.Split.{Map, headings, headerRanges, mapsIn, mapsOf, startOf, headerOf, headed, headerLine, refOf, lockOf, outRange, tidOf, semOf, rwlockOf, typeLine, typeLines, mapLine, noSignature, signatureOf, signatureLine, Row, noRow, rowOf, startGiven, startRange, postRange, postField, rowLine, Split, split}
+use Rattle.spec.specs.Split.{Map, headings, headerRanges, mapsIn, mapsOf, startOf, headerOf, headerLine, lockOf, outRange, typeLine, typeLines, mapLine, noSignature, signatureOf, signatureLine, Row, noRow, rowOf, startRange, postRange, postField, rowLine, Split, split, nthMap}
 use Rattle.spec.specs.declared.Signature.{Signature}
 use Rattle.spec.specs.declared.Header.{Header}
 use Rattle.spec.specs.Kinds.{maps}
@@ -110,7 +110,7 @@ map-within (suc n) e (accepted.more a small) = within-to (omega arith, a) (omega
 -- a start that is not empty is a third numeral
 third-numeral : (H : Header) (s : Step) (t m f : Field) → 1 ≤ length f
     → rowLine Check H s (t ∷ m ∷ f ∷ [])
-    ≡ seen (λ ns. rowOf (some (startGiven ns)) ns) (numbers (below (H .types) ∷ below (H .maps) ∷ startRange (s .word) H ∷ []) (t ∷ m ∷ f ∷ []))
+    ≡ seen (λ ns. rowOf (some (nthMap 2 ns)) ns) (numbers (below (H .types) ∷ below (H .maps) ∷ startRange (s .word) H ∷ []) (t ∷ m ∷ f ∷ []))
 unfolding rowLine postRange postField
 third-numeral H s t m [] h = absurd (omega arith)
 third-numeral H s t m (b ∷ f) h = refl
@@ -133,7 +133,7 @@ module _ {P : Program} {S : Split} (W : Writable P S) where
   few-maps = omega (arith, R .mapsFew)
 
   header-back : headerLine Check (headerFields H) ≡ good H
-  unfolding headerLine headings lookUp headed headerOf startOf mapsIn mapsOf headerFields headingName headerNumbers same bytes seen headerRanges RootStarts
+  unfolding headerLine headings lookUp orBadForm headerOf startOf mapsIn mapsOf headerFields headingName headerNumbers same bytes seen headerRanges RootStarts
   header-back = by-heading (H .heading) refl (W .start)
     where
       -- the numbers of a header that names its start
@@ -180,7 +180,7 @@ module _ {P : Program} {S : Split} (W : Writable P S) where
 
   type-back : (t : ℕ) (τ : TypeLine) → t < length (S .types) → getD (S .types) t Int ≡ τ → AllBelow (length (S .maps)) (maps τ)
       → typeLine H t (typeFields (H .heading) τ) ≡ good τ
-  unfolding typeLine typeFields same bytes seen refOf lockOf tidOf semOf rwlockOf
+  unfolding typeLine typeFields same bytes seen lockOf
   type-back t Int h e l = rw (numbers-back (zero-in (zero-in empty)))
   type-back t (Ref p c) h e l =
       let (place, content) = R .refPlace t p c h e in
@@ -209,7 +209,7 @@ module _ {P : Program} {S : Split} (W : Writable P S) where
   row-back : (s : Step) (r : Row) → r .type .0 < length (S .types) → r .post .0 < length (S .maps)
       → ((m : MapNumber) → r .start ≡ some m → m .0 < length (S .maps)) → RowStarts (H .heading) (s .word) (r .start)
       → rowLine Check H s (rowFields Check r) ≡ good r
-  unfolding rowLine rowOf startGiven startRange postRange postField seen ensure rowFields postShown startShown RowStarts
+  unfolding rowLine rowOf startRange postRange postField seen ensure rowFields postShown startShown RowStarts
   row-back s r t p inMaps starts = by-start (r .start) refl starts
     where
       by-start : (o : Option MapNumber) → r .start ≡ o → RowStarts (H .heading) (s .word) o
@@ -254,7 +254,7 @@ module _ {P : Program} {S : Split} (W : Writable P S) where
   -- ---------------------------------------------------------------- the sheet
 
   pub written-reads-back : split Check P (sheetText S) ≡ ok S
-  unfolding split begin end noneLeft sheetText splitLines text lines
+  unfolding split begin end require sheetText splitLines text lines
   written-reads-back =
       let rowed = map (rowFields Check) (S .rows) in
       let signed = map signatureFields (S .signatures) ++ rowed in

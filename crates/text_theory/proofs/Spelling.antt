@@ -4,7 +4,7 @@ use mathlib.Core.Path.{_≡_, refl, sym, ap, _∙_}
 use mathlib.Core.Path.{subst as along}
 use mathlib.Core.List.{List, [], _∷_, _++_, map, append-nil}
 use mathlib.Core.Bool.{Bool, true, false}
-use mathlib.Core.Option.{Option, none, some}
+use mathlib.Core.Option.{some}
 use Prim.Native.Nat.{ℕ, zero, suc, _+_}
 use native.Mathlib.Omega.{arith}
 use lib.ListN.{length, getD, replicate, drop, drop-of-length-le}
@@ -15,7 +15,7 @@ use Rattle.spec.specs.Text.{Line, bytes, same, Field, fields, lookUp}
 use Rattle.spec.specs.Reading.{LineResult, good, seen, Range, _to_, below, inRange, numerals, numbers}
 use Rattle.spec.specs.Expression.{Step}
 use Rattle.spec.specs.Program.{Program}
-use Rattle.spec.specs.Split.{Map, headings, headerRanges, mapsOf, mapsIn, startOf, headerOf, headed, headerLine, refOf, lockOf, outRange, tidOf, semOf, rwlockOf, typeLine, typeLines, mapLine, signatureOf, signatureLine, Row, rowOf, startGiven, startRange, emptyFault, postRange, postField, rowLine, Split}
+use Rattle.spec.specs.Split.{Map, headings, headerRanges, mapsOf, mapsIn, startOf, headerOf, headerLine, lockOf, outRange, typeLine, typeLines, mapLine, signatureOf, signatureLine, Row, rowOf, startRange, emptyFault, postRange, postField, rowLine, Split}
 use Rattle.spec.specs.declared.Signature.{Signature}
 use Rattle.spec.specs.declared.Header.{Header}
 use Rattle.spec.specs.WellFormed.{Parses, WellFormedSplit}
@@ -27,7 +27,7 @@ use Rattle.spec.specs.declared.Purpose.the-variants.{Check, Fill}
 use Rattle.spec.specs.declared.TypeLine.{TypeLine}
 use Rattle.spec.proofs.Clashes.{none-is-not-some}
 use Rattle.spec.proofs.Tests.{same-equal}
-use Rattle.spec.proofs.Seen.{wrong-is-not-right, seen-right, numbers-right, in-to, in-range-at, insist-right}
+use Rattle.spec.proofs.Seen.{wrong-is-not-right, seen-right, numbers-right, in-to, in-range-at, insist-right, formed-right}
 use Rattle.text_theory.specs.Text.{decimal, line, text}
 use Rattle.text_theory.specs.Sheet.{headingName, headerNumbers, headerFields, outNumber, typeFields, mapFields, signatureFields, postShown, startShown, rowFields, splitLines, sheetText, unfilled}
 use Rattle.text_theory.proofs.Fields.{joined}
@@ -79,8 +79,9 @@ unfolding Named headings headingName
 headings-named Check = (refl, (refl, (refl, tt)))
 headings-named Fill = (refl, (refl, tt))
 
-numbers-spelling : (h : Heading) (H : Header) (fs : List Field) → headed (some h) fs ≡ good H → headingName h ∷ fs ≡ headerFields H
-unfolding headed headerRanges headerOf startOf mapsOf headerFields headerNumbers entries
+numbers-spelling : (h : Heading) (H : Header) (fs : List Field) → seen (headerOf h) (numbers (headerRanges h (mapsIn (numerals fs))) fs) ≡ good H
+    → headingName h ∷ fs ≡ headerFields H
+unfolding headerRanges headerOf startOf mapsOf headerFields headerNumbers entries
 numbers-spelling C H fs e =
     let (ns, n, g) = seen-right _ e in
     along (λ G. headingName C ∷ fs ≡ headerFields G) g (ap (λ (r : List Field). headingName C ∷ r) (line-numbers (headerRanges C (mapsIn (numerals fs))) fs ns n))
@@ -92,14 +93,11 @@ numbers-spelling C3 H fs e =
     along (λ G. headingName C3 ∷ fs ≡ headerFields G) g (ap (λ (r : List Field). headingName C3 ∷ r) (line-numbers (headerRanges C3 (mapsIn (numerals fs))) fs ns n))
 
 header-spelling : (purpose : Purpose) (H : Header) (fs : List Field) → headerLine purpose fs ≡ good H → fs ≡ headerFields H
-unfolding headerLine headed
+unfolding headerLine
 header-spelling purpose H [] h = wrong-is-not-right h
-header-spelling purpose H (f ∷ fs) h = by-name (lookUp (headings purpose) f) refl h
-  where
-    by-name : (o : Option Heading) → lookUp (headings purpose) f ≡ o → headed o fs ≡ good H → f ∷ fs ≡ headerFields H
-    by-name none e g = wrong-is-not-right g
-    by-name (some h) e g =
-        ap (λ (n : Field). n ∷ fs) (named-found (headings purpose) f h (headings-named purpose) e) ∙ numbers-spelling h H fs g
+header-spelling purpose H (f ∷ fs) h =
+    let (heading, is, shown) = formed-right (lookUp (headings purpose) f) _ h in
+    ap (λ (n : Field). n ∷ fs) (named-found (headings purpose) f heading (headings-named purpose) is) ∙ numbers-spelling heading H fs shown
 
 -- ------------------------------------------------------------------ type lines
 
@@ -142,7 +140,7 @@ module _ (H : Header) (own : ℕ) (f : Field) (fs : List Field) where
       ∙ ap (λ (b : ℕ). bytes "int" ∷ map decimal (getD ns 0 0 ∷ b ∷ [])) (omega (arith, second))
 
 type-spelling : (H : Header) (own : ℕ) (τ : TypeLine) (fs : List Field) → typeLine H own fs ≡ good τ → fs ≡ typeFields (H .heading) τ
-unfolding typeLine typeFields refOf lockOf tidOf semOf rwlockOf entries
+unfolding typeLine typeFields lockOf entries
 type-spelling H own τ [] h = wrong-is-not-right h
 type-spelling H own τ (f ∷ fs) h =
     let Q : TypeLine → Type 0 = λ σ. f ∷ fs ≡ typeFields (H .heading) σ in
@@ -196,7 +194,7 @@ module _ (purpose : Purpose) (H : Header) where
       by-purpose Fill (b ∷ m) e h = let none-below = ltb-true n 0 h in absurd (omega arith)
 
   row-spelling : (s : Step) (r : Row) (fs : List Field) → rowLine purpose H s fs ≡ good r → fs ≡ rowFields purpose r
-  unfolding rowLine rowOf startGiven rowFields startShown entries
+  unfolding rowLine rowOf rowFields startShown entries
   row-spelling s r [] h = wrong-is-not-right h
   row-spelling s r (t ∷ []) h = wrong-is-not-right h
   row-spelling s r (t ∷ m ∷ []) h = wrong-is-not-right h

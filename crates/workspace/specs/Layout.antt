@@ -86,8 +86,9 @@ firstsAt = 3264
 abbrev pub secondsAt : ℕ
 secondsAt = 3328
 
-abbrev pub lineAt : ℕ
-lineAt = 3392
+-- the end of the types; the 16 numbers from here on are not used
+abbrev pub typesEnd : ℕ
+typesEnd = 3392
 
 abbrev pub sigBeforesAt : ℕ
 sigBeforesAt = 3408

@@ -56,9 +56,6 @@ pub const FIRSTS: usize = 3264;
 
 pub const SECONDS: usize = 3328;
 
-// The end of the types. The 16 numbers from here on are not used.
-pub const LINE: usize = 3392;
-
 // Signatures by number, up to 16: the map before, the argument's type, the map after, the result's type.
 pub const SIG_BEFORES: usize = 3408;
 

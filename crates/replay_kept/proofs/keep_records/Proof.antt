@@ -7,7 +7,7 @@ use Rattle.replay_kept.proofs.keep_records.Statement.{statement}
 use Rattle.replay_kept.proofs.keep_records.Tie as tie
 
 abbrev Inv-loop : tie.InvT-loop
-Inv-loop run₀ threads t₀ run t = KeptTo t (threads .records) run
+Inv-loop run₀ threads t₀ run t = KeptTo t (threads .records) run₀ run
 
 abbrev μ-loop : tie.MeasureT-loop
 μ-loop run₀ threads t₀ run t = 16 - t
@@ -23,13 +23,13 @@ unfolding noRecord
 loop-again c =
     let at-keep = c .before .before in
     let test = at-keep .before .before .before in
-    keep-more _ _ _ _ _ (test .loop-test .taken) (test .before .loop .inv) refl (at-keep .keep-record .ensures)
+    keep-more _ _ _ _ _ _ (test .loop-test .taken) (test .before .loop .inv) refl (at-keep .keep-record .ensures)
 
 same-length : tie.Need-same-length Inv-loop μ-loop
 same-length c = c .before .loop .inv .long ∙ sym (c .before .before .before .pre)
 
 returns : tie.Need-returns Inv-loop μ-loop
-returns c = keep-all _ _ _ (c .loop-test .left) (c .before .loop .inv)
+returns c = keep-all _ _ _ _ (c .loop-test .left) (c .before .loop .inv)
 
 pub keep-records-spec : {M : Type 1} → statement M
 keep-records-spec =

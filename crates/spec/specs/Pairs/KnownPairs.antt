@@ -5,11 +5,11 @@ use Prim.Native.Nat.{ℕ}
 use Prim.Native.String.{String, _++_}
 use lib.Dec.{eqb}
 use Rattle.spec.specs.Text.{bytes, same, onLine, lines, onField, fields, lookUp, digitLimit, digits, leadingZero, value, numeral}
-use Rattle.spec.specs.Reading.{_>>=_, require, seen, ensure, refuseAfter, inRange, allInRange, withNumeral, numerals, ranged, numbers, form, outside, miscounted, faulty, passed, nextLine, readLine, readLines, begin, noneLeft, end}
+use Rattle.spec.specs.Reading.{_>>=_, require, seen, ensure, refuseAfter, inRange, allInRange, withNumeral, numerals, numbers, form, outside, miscounted, faulty, passed, nextLine, readLine, readLines, begin, end, orBadForm}
 use Rattle.spec.specs.Words.{leafWords, cellWords, lockWords, holdWords, unaryWords, binaryWords, words, wordsUnder, calls, leastValue, largestValue, valueRange, role, binding, takesStart, keepsBack, preOfPart, preOfSecond}
 use Rattle.spec.specs.Expression.{size, withParts, listed, lineOfItem, stepsAmong, leading, breaksOff, firstListed, expression, noLineLeft, structure, among, scopeStep, scope, scopes, indexOf, lineOf}
-use Rattle.spec.specs.Program.{programLimit, firstNumber, programHeadings, countRanges, proceduresOf, countsOf, counted, countLine, stepOf, wordLine, procOf, procLine, itemLine, itemLines, program}
-use Rattle.spec.specs.Split.{splitLimit, headings, headerRanges, mapsOf, mapsIn, startOf, headerOf, headed, headerLine, refOf, lockOf, outRange, tidOf, semOf, rwlockOf, typeLine, typeLines, mapLine, signatureOf, signatureLine, rowOf, startGiven, startRange, mayBeEmpty, emptyFault, postRange, postField, rowLine, split}
+use Rattle.spec.specs.Program.{programLimit, programHeadings, countRanges, proceduresOf, countsOf, countLine, stepOf, wordLine, procOf, procLine, itemLine, itemLines, program}
+use Rattle.spec.specs.Split.{splitLimit, headings, headerRanges, mapsOf, mapsIn, startOf, headerOf, headerLine, lockOf, outRange, typeLine, typeLines, mapLine, signatureOf, signatureLine, rowOf, startRange, mayBeEmpty, emptyFault, postRange, postField, rowLine, split}
 use Rattle.spec.specs.Maps.{lowest, atLeast, _=ᵐ_, _≥ᵐ_, holdsEverywhere, sameNumbers, _+ᵐ_, _×ᵐ_, share, overWhole}
 use Rattle.spec.specs.Kinds.{sameKind, is, refLocation, content, firstMap, secondMap}
 use Rattle.spec.specs.Conditions.{typeIn, startMap, typeAt, mapAt, contains, looserLock, mayShow, row, type, kind, post, startOr, bodyStart, keptBack, signature, conditionsBy, conditionsOf, procedureConditions}
@@ -38,7 +38,7 @@ p with s is r = record { program = p; split = s; expected = r }
 -- what the definitions give a pair; to unfold it is to unfold every definition on the way from two texts to an answer, so a new one
 -- joins this list, and whoever computes names `found`
 unfoldable pub found : Pair → Returned
-unfolding barred bytes same onLine lines onField fields digitLimit digits leadingZero value numeral _>>=_ require seen ensure refuseAfter inRange allInRange withNumeral numerals ranged numbers form outside miscounted faulty passed nextLine readLine readLines begin noneLeft end size withParts listed lineOfItem stepsAmong leading breaksOff firstListed expression noLineLeft structure among scopeStep scope scopes programLimit firstNumber programHeadings countRanges proceduresOf countsOf counted countLine leafWords cellWords lockWords holdWords unaryWords binaryWords words wordsUnder calls lookUp leastValue largestValue valueRange stepOf wordLine procOf procLine itemLine itemLines program splitLimit headings headerRanges mapsOf mapsIn startOf headerOf headed headerLine refOf lockOf outRange tidOf semOf rwlockOf typeLine typeLines mapLine signatureOf signatureLine rowOf startGiven takesStart keepsBack startRange mayBeEmpty emptyFault postRange postField rowLine split lowest atLeast _=ᵐ_ _≥ᵐ_ holdsEverywhere sameNumbers _+ᵐ_ _×ᵐ_ share overWhole sameKind is refLocation content firstMap secondMap typeIn indexOf lineOf startMap typeAt mapAt sameMaps sameTree treeOf trees tree agree contains looserLock mayShow row type kind post startOr bodyStart keptBack signature conditionsBy conditionsOf procedureConditions preOfPart preOfSecond role binding stepContexts numbered claimsAt claims bodyStepContexts claimsOfProcedure claimsOfProcedures claimsOf judge firstFalse workspaceSize takesEnough allTakeEnough locksTakeEnough refuseOver startAtMostOne conditionsHold sheets checked answer verdict numbers4 returned
+unfolding barred bytes same onLine lines onField fields digitLimit digits leadingZero value numeral _>>=_ require seen ensure refuseAfter inRange allInRange withNumeral numerals orBadForm numbers form outside miscounted faulty passed nextLine readLine readLines begin end size withParts listed lineOfItem stepsAmong leading breaksOff firstListed expression noLineLeft structure among scopeStep scope scopes programLimit programHeadings countRanges proceduresOf countsOf countLine leafWords cellWords lockWords holdWords unaryWords binaryWords words wordsUnder calls lookUp leastValue largestValue valueRange stepOf wordLine procOf procLine itemLine itemLines program splitLimit headings headerRanges mapsOf mapsIn startOf headerOf headerLine lockOf outRange typeLine typeLines mapLine signatureOf signatureLine rowOf takesStart keepsBack startRange mayBeEmpty emptyFault postRange postField rowLine split lowest atLeast _=ᵐ_ _≥ᵐ_ holdsEverywhere sameNumbers _+ᵐ_ _×ᵐ_ share overWhole sameKind is refLocation content firstMap secondMap typeIn indexOf lineOf startMap typeAt mapAt sameMaps sameTree treeOf trees tree agree contains looserLock mayShow row type kind post startOr bodyStart keptBack signature conditionsBy conditionsOf procedureConditions preOfPart preOfSecond role binding stepContexts numbered claimsAt claims bodyStepContexts claimsOfProcedure claimsOfProcedures claimsOf judge firstFalse workspaceSize takesEnough allTakeEnough locksTakeEnough refuseOver startAtMostOne conditionsHold sheets checked answer verdict numbers4 returned
 found r = returned (verdict workspaceSize (barred (r .program)) (barred (r .split)))
 
 -- they give each row of a table its answer

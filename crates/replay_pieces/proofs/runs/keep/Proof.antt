@@ -14,7 +14,7 @@ returns c =
     let at-numbers = at-records .before .before in
     let at-raced = at-numbers .before .before in
     let told = at-numbers .numbers-told .ensures ∙ ap toldNumbers (at-numbers .before .told .ensures .0) in (
-      keeps _ _ _ (at-raced .before .goes-number .ensures) told (at-raced .raced-number .ensures) (at-records .keep-records .ensures) (at-front .keep-front .ensures),
+      keeps _ _ _ (at-raced .before .goes-number .ensures) told (at-raced .raced-number .ensures) (at-records .keep-records .ensures .0) (at-front .keep-front .ensures),
       ap (λ (t : Told). t .ending .number) told,
     )
 

@@ -5,7 +5,7 @@ use Prim.Native.Nat.{_-_}
 use native.Mathlib.Omega.{arith}
 use Rattle.spec.specs.Split.{typeLine}
 use Rattle.lexer.specs.Cursors.{placeAt}
-use Rattle.workspace.specs.Layout.{kindsAt, lineAt, kindCode, firstOf, secondOf}
+use Rattle.workspace.specs.Layout.{kindsAt, typesEnd, kindCode, firstOf, secondOf}
 use Rattle.workspace.proofs.Region.{changed-nothing}
 use Rattle.split_lines.specs.TypeAnswers.{TypeAnswer}
 use Rattle.split.specs.Stored.{HoldsTypes}
@@ -16,7 +16,7 @@ use Rattle.split.proofs.type_lines.read_types.Statement.{statement}
 use Rattle.split.proofs.type_lines.read_types.Tie as tie
 
 abbrev Inv-loop : tie.InvT-loop
-Inv-loop text header work₀ types cursor₀ own₀ work cursor own = Stage (typeLine header) HoldsTypes kindsAt lineAt (header .types) text work₀ (placeAt text cursor₀) work cursor own
+Inv-loop text header work₀ types cursor₀ own₀ work cursor own = Stage (typeLine header) HoldsTypes kindsAt typesEnd (header .types) text work₀ (placeAt text cursor₀) work cursor own
 
 abbrev μ-loop : tie.MeasureT-loop
 μ-loop text header work₀ types cursor₀ own₀ work cursor own = header .types - own
@@ -49,7 +49,7 @@ returns c =
     let line = c .before .before .before in
     let loop-step = line .before .before in
     stage-stops (loop-step .loop .inv) (types-numbered (start loop-step .args .header) 0 (start loop-step .args .header .types)) (line .before .loop-test .taken)
-    (subst (TypeAnswer _ _) (c .before .found2 .given .1) (line .type-line .ensures)) (changed-nothing kindsAt lineAt (loop-step .loop .work))
+    (subst (TypeAnswer _ _) (c .before .found2 .given .1) (line .type-line .ensures)) (changed-nothing kindsAt typesEnd (loop-step .loop .work))
 
 loop-again : tie.Need-loop-again Inv-loop μ-loop
 loop-again c =
