@@ -14,7 +14,7 @@ use Rattle.spec.proofs.Tests.{both-true}
 use Rattle.calculus.specs.Expression.{Redex}
 use Rattle.replay_theory.specs.Trace.{TraceLine}
 use Rattle.replay_theory.specs.Paths.{Path}
-use Rattle.replay_theory.specs.Run.{ObjectKind, cells, locks, rwlocks, semaphores, identifiers, Effect, effect, thingsAfter, oneMore, threadLimit, thingLimit, withinLimits, callLimit, stillOpen}
+use Rattle.replay_theory.specs.Run.{ObjectKind, cells, locks, rwlocks, semaphores, identifiers, Effect, effect, makes, oneMoreIf, thingsAfter, threadLimit, thingLimit, withinLimits, callLimit, stillOpen}
 use Rattle.replay_machine.specs.State.{MachineThread, Machine, rank, startMachine}
 use Rattle.replay_machine.specs.Replay.{Replay, startReplay, stepped, callsIn, countsWithin, within}
 use Rattle.replay_machine.specs.Counted.{total, Counted}
@@ -28,8 +28,8 @@ use Rattle.replay_machine.proofs.Stepped.{step-taken}
 use Rattle.replay_machine.proofs.Kept.{step-kept}
 use Rattle.replay_machine.proofs.Start.{start-kept}
 
-one-more-in-all : (k : ObjectKind) (things : ObjectKind → ℕ) → total (oneMore k things) ≡ suc (total things)
-unfolding total oneMore
+one-more-in-all : (k : ObjectKind) (things : ObjectKind → ℕ) → total (thingsAfter (makes k) things) ≡ suc (total things)
+unfolding total oneMoreIf thingsAfter
 one-more-in-all cells things = omega arith
 one-more-in-all locks things = omega arith
 one-more-in-all rwlocks things = omega arith
@@ -39,7 +39,7 @@ one-more-in-all identifiers things = omega arith
 -- A name for each thing made.
 names-grow : (M N : Machine) (i tid : ℕ) (ps : List Path) (q : Path) (w : Redex) (things : ObjectKind → ℕ) → M .next ≡ suc (total things) → After M i tid ps q w N →
     N .next ≡ suc (total (thingsAfter (effect w) things))
-unfolding thingsAfter
+unfolding oneMoreIf thingsAfter
 names-grow M N i tid ps q w things h (goes names b e u ok tells) = h ∙ ap (λ (f : Effect). suc (total (thingsAfter f things))) (sym e)
 names-grow M N i tid ps q w things h (called b e ok tells) = h ∙ ap (λ (f : Effect). suc (total (thingsAfter f things))) (sym e)
 names-grow M N i tid ps q w things h (made k new b e ok tells) =

@@ -14,7 +14,7 @@ use Rattle.calculus.proofs.Laws.Places.{set-elsewhere}
 use Rattle.replay_theory.specs.Trace.{TraceLine}
 use Rattle.replay_theory.specs.Paths.{Path, nextPath}
 use Rattle.replay_theory.specs.Run as run
-use Rattle.replay_theory.specs.Run.{Run, placeOf, partChosen, finishedFor, nameIn, moveOf, Effect, plain, spawns, joins, opens, makes, effect, openCalls, numbersAfter, threadsAfter, callsAfter, thingsAfter, nextAfter, after, ofUnary}
+use Rattle.replay_theory.specs.Run.{Run, placeOf, partChosen, finishedFor, unaryTraits, traits, moveOf, Effect, plain, spawns, joins, opens, makes, effect, openCalls, numbersAfter, callsAfter, oneMoreIf, thingsAfter, nextAfter, after}
 use Rattle.replay_theory.proofs.Lists.{length-set, length-append}
 use Rattle.replay_machine.specs.Environment.{Env}
 use Rattle.replay_machine.specs.Control.{Frame, Word, redex, Control, done, at, decode, nextRedex}
@@ -59,7 +59,7 @@ module _ (R : Replay) (i : ℕ) (t : MachineThread) (h : LiveAt (R .machine .thr
   Same e N = after (runOf R) m (wordPath (t .control)) e (decodeState N) ≡ runOf (record { machine = N; things = thingsAfter e (R .things) })
 
   -- Of a join, the move lists the lowest finished thread.
-  lists-lowest : (n j : ℕ) → nameIn w ≡ some n → lowest n ts ≡ some j → m .finished ≡ rank ts j
+  lists-lowest : (n j : ℕ) → traits w .joining ≡ some n → lowest n ts ≡ some j → m .finished ≡ rank ts j
   unfolding moveOf finishedFor
   lists-lowest n j named found = ap (λ (o : Option ℕ). finishedFor o (live ts)) named ∙ lowest-is-first ts 0 n j found
 
@@ -70,7 +70,7 @@ module _ (R : Replay) (i : ℕ) (t : MachineThread) (h : LiveAt (R .machine .thr
     numbers-stay : numbersFrom 0 (set ts i moved) ≡ numbersFrom 0 ts
     numbers-stay = numbers-set ts i t moved h refl
 
-    joined-number : (n j : ℕ) (u : MachineThread) → nameIn w ≡ some n → lowest n ts ≡ some j → getElem? ts j ≡ some u →
+    joined-number : (n j : ℕ) (u : MachineThread) → traits w .joining ≡ some n → lowest n ts ≡ some j → getElem? ts j ≡ some u →
         remove (numbersFrom 0 ts) (m .finished) ≡ numbersFrom 0 (set (set ts i moved) j (asJoined u))
     joined-number n j u named found there =
         let L = lowest-found n ts j found in
@@ -81,7 +81,7 @@ module _ (R : Replay) (i : ℕ) (t : MachineThread) (h : LiveAt (R .machine .thr
         ∙ sym (live-join (λ z x. z) (set ts i moved) 0 j u (asJoined u)
         (record { there = elsewhere ∙ there; not-joined = ap (λ (x : MachineThread). x .joined) (sym is) ∙ L .can .not-joined }) refl)
 
-    joined-calls : (n j : ℕ) (u : MachineThread) → nameIn w ≡ some n → lowest n ts ≡ some j → getElem? ts j ≡ some u → Tells b (callPaths (t .control)) →
+    joined-calls : (n j : ℕ) (u : MachineThread) → traits w .joining ≡ some n → lowest n ts ≡ some j → getElem? ts j ≡ some u → Tells b (callPaths (t .control)) →
         openCalls (live (set (set ts i moved) j (asJoined u))) (remove (callsFrom 0 ts) (m .finished)) ≡ callsFrom 0 (set (set ts i moved) j (asJoined u))
     joined-calls n j u named found there tells =
         let L = lowest-found n ts j found in
@@ -101,7 +101,7 @@ module _ (R : Replay) (i : ℕ) (t : MachineThread) (h : LiveAt (R .machine .thr
   with-effect N e is same = subst (λ (f : Effect). Same f N) (sym is) same
 
   books-alike : {N : Machine} → After M i (t .tid) (callPaths (t .control)) (wordPath (t .control)) w N → Same (effect w) N
-  unfolding after numbersAfter threadsAfter callsAfter thingsAfter nextAfter moveOf
+  unfolding after numbersAfter callsAfter oneMoreIf thingsAfter nextAfter moveOf
   books-alike (goes names b e u ok tells) =
       with-effect (goesTo M i (t .tid) names b) plain e
       (same-run refl refl (sym (numbers-stay b)) (calls-go-on ts i (t .tid) t h b tells) (sym (length-set ts i (moved b))) refl refl)
@@ -142,10 +142,10 @@ module _ (R : Replay) (kept : Kept (R .machine)) (l : TraceLine) where
   module _ (t : MachineThread) (h : LiveAt (here .threads) (l .thread) t) where
     lowest-listed : (w : Redex) (c : Part) → nextRedex (t .control) ≡ some w → (σ : Env) (x : Word) (K : List Frame) → t .control ≡ at σ x K →
         ListsLowest here (moveOf (runOf R) (rank (here .threads) (l .thread)) w c) x
-    unfolding nameIn ofUnary
+    unfolding traits unaryTraits
     lowest-listed w c next σ x K is k n j join-on found =
         lists-lowest R (l .thread) t h w next c n j
-        (ap nameIn (some-injective (sym next ∙ ap nextRedex is) ∙ ap (redex σ) join-on)) found
+        (ap (λ (x : Redex). traits x .joining) (some-injective (sym next ∙ ap nextRedex is) ∙ ap (redex σ) join-on)) found
 
     word-alike : (w : Redex) → nextRedex (t .control) ≡ some w → inRun (rank (here .threads) (l .thread)) (wordPath (t .control)) w ≡ Option·map runOf (onMachine w)
     unfolding moveOf

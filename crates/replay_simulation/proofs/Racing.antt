@@ -18,7 +18,7 @@ use Rattle.calculus.specs.Expression as calculus
 use Rattle.calculus.specs.Expression.{Value, int, name, read, Redex}
 use Rattle.calculus.specs.State as state
 use Rattle.calculus.specs.State.{unused, identifier, cell, aLock, opened, closed, semaphore, rwlock, readers, writer}
-use Rattle.calculus.specs.Reduction.{_>>=_, _>>_, cellValue}
+use Rattle.calculus.specs.Reduction.{_>>_, cellValue}
 use Rattle.workspace.specs.Layout.{ruleOf, codeOf, printed}
 use Rattle.threads.specs.declared.Threads.{Threads}
 use Rattle.replay_control.specs.declared.ControlPoint.{ControlPoint}
@@ -36,7 +36,8 @@ use Rattle.replay_step.specs.Slots.{slotAt}
 use Rattle.replay_engine.specs.ControlPoints.{controlPointAt}
 use Rattle.replay_step.specs.Words.{subject}
 use Rattle.replay_engine.specs.Races.{accessBy, accessAt, accessOf, reads, writes, clash, partnerOf, partnerFrom, pairWith, pairOf, lowestPair}
-use Rattle.replay_theory.specs.Run.{ofUnary}
+use Rattle.replay_theory.specs.Run.{does, unaryTraits, traits}
+use Rattle.replay_theory.proofs.Traits.{unary-plain}
 use Rattle.replay_theory.specs.LowestPair as uses
 use Rattle.replay_theory.specs.LowestPair.{Uses, usesOf, ifCell, sameCell, clashing, pairOr, lowestAmong}
 use Rattle.replay_machine.specs.Control as machine
@@ -233,7 +234,7 @@ module _ (p s : List ℕ) (row : ℕ) (names : ℕ → state.Slot) (slot-of : (n
   write-subject r x = rw (r .code)
 
   read-shows : (σ : _) (q : Position) (v : Value) {n : ℕ} → RowOf p q (Unary (partWord read)) n → ShowsUse (readyAt row (q .index) (codeValue v)) (redex σ (machine.unaryWord q read v))
-  unfolding ofUnary usesOf ifCell uses.reads uses.unaryReads uses.writes effectOf ruleOf printed
+  unfolding unaryTraits traits usesOf ifCell effectOf ruleOf printed
   read-shows σ q v r =
       subst (λ (a : Access). AccessIs a (usesOf names (some (redex σ (machine.unaryWord q read v))))) (sym (ready-access p s row r (codeValue v) (codeValue v) (read-subject r (codeValue v)))) (by-value v)
     where
@@ -242,7 +243,7 @@ module _ (p s : List ℕ) (row : ℕ) (names : ℕ → state.Slot) (slot-of : (n
       by-value (name m) = reads-cell m (slotAt s (suc m)) (names m) (slot-of m)
 
   write-shows : (σ : _) (q : Position) (v w : Value) {n : ℕ} → RowOf p q (Binary WriteWord) n → kept s row (q .index) ≡ codeValue v → ShowsUse (readyAt row (q .index) (codeValue w)) (redex σ (machine.writeWord q v w))
-  unfolding ofUnary usesOf ifCell uses.reads uses.writes effectOf ruleOf printed
+  unfolding traits usesOf ifCell effectOf ruleOf printed
   write-shows σ q v w r held =
       subst (λ (a : Access). AccessIs a (usesOf names (some (redex σ (machine.writeWord q v w))))) (sym (ready-access p s row r (codeValue w) (codeValue v) (write-subject r (codeValue w) ∙ held))) (by-value v)
     where
@@ -251,15 +252,15 @@ module _ (p s : List ℕ) (row : ℕ) (names : ℕ → state.Slot) (slot-of : (n
       by-value (name m) = writes-cell m (slotAt s (suc m)) (names m) (slot-of m)
 
   -- any other word with one part
-  part-silent : (σ : _) (q : Position) (o : calculus.Unary) (v : Value) {n : ℕ} → RowOf p q (Unary (partWord o)) n → Quiet (Unary (partWord o)) → ((x : Value) → uses.unaryReads o x ≡ none) →
+  part-silent : (σ : _) (q : Position) (o : calculus.Unary) (v : Value) {n : ℕ} → RowOf p q (Unary (partWord o)) n → Quiet (Unary (partWord o)) → ((x : Value) → unaryTraits o x .reading ≡ none) →
       ShowsUse (readyAt row (q .index) (codeValue v)) (redex σ (machine.unaryWord q o v))
-  unfolding ofUnary usesOf ifCell uses.reads uses.writes uses.unaryReads
+  unfolding traits usesOf ifCell
   part-silent σ q o v r quiet-rule no-read =
       silent (readyAt row (q .index) (codeValue v)) (usesOf names (some (redex σ (machine.unaryWord q o v)))) (quiet p s row r (codeValue v) quiet-rule)
-      (ap (λ (z : Option ℕ). z >>= λ n. cellValue (names n) >> some n) (no-read v), refl)
+      (ap (ifCell names) (no-read v), ap (ifCell names) (unary-plain o v .1))
 
   word-shows : (σ : _) (w : machine.Word) (f : ControlPoint) → WordAt p s row f w → ShowsUse f (redex σ w)
-  unfolding ofUnary usesOf ifCell uses.reads uses.unaryReads uses.writes accessAt effectOf spawnedOf joinedOf madeOf lockedOf unlockedOf postedOf waitedOf rdlockedOf rdunlockedOf wrlockedOf wrunlockedOf ruleOf printed
+  unfolding does unaryTraits traits usesOf ifCell accessAt effectOf spawnedOf joinedOf madeOf lockedOf unlockedOf postedOf waitedOf rdlockedOf rdunlockedOf wrlockedOf wrunlockedOf ruleOf printed
   word-shows σ (machine.letWord q x v e) f (z, r, S) = subst (λ (g : ControlPoint). ShowsUse g (redex σ (machine.letWord q x v e))) (sym z) (silent (readyAt row (q .index) (codeValue v)) (usesBoth none none) (quiet p s row r (codeValue v) (λ x y h. refl)) (refl, refl))
   word-shows σ (machine.ifWord q e₁ e₂) f (z, n, r, S₁, S₂) = subst (λ (g : ControlPoint). ShowsUse g (redex σ (machine.ifWord q e₁ e₂))) (sym z) (refl, refl)
   word-shows σ (machine.whileWord q e) f (z, n, r, S) = subst (λ (g : ControlPoint). ShowsUse g (redex σ (machine.whileWord q e))) (sym z) (refl, refl)
