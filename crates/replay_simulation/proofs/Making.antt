@@ -34,8 +34,9 @@ use Rattle.replay_objects.specs.Uses.{slot, madeOf, effectOf}
 use Rattle.replay_step.specs.Slots.{slotAt, slotPut}
 use Rattle.replay_step.specs.Words.{given, withThing, newThing, subject, operand, effected, wordUsed, actedBy, acted}
 use Rattle.replay_engine.specs.Steps.{actStep, afterAct}
-use Rattle.replay_theory.specs.Run.{ObjectKind, cells, locks, rwlocks, semaphores, identifiers, sameKind, makes, sameEffect, oneMoreIf, thingsAfter, threadLimit, thingLimit, withinLimits, kindMade}
+use Rattle.replay_theory.specs.Run.{ObjectKind, cells, locks, rwlocks, semaphores, identifiers, sameKind, makes, sameEffect, nextName, oneMoreIf, thingsAfter, threadLimit, thingLimit, withinLimits, kindMade}
 use Rattle.replay_theory.specs.Replay.{checkLimits}
+use Rattle.replay_theory.proofs.Proper.{name-more}
 use Rattle.replay_machine.specs.Environment.{Env}
 use Rattle.replay_machine.specs.Control as machine
 use Rattle.replay_machine.specs.Control.{Frame, at, return}
@@ -46,7 +47,7 @@ use Rattle.replay_simulation.proofs.Held.{noPartWord, NoPartNumber, Row
 use Rattle.replay_simulation.proofs.Advancing.{same-all, RowIn}
 use Rattle.replay_simulation.proofs.Finding.{frames-same, returns-word}
 use Rattle.replay_simulation.proofs.Agreeing.{Agree, rows-same, agree-then, agree-shared}
-use Rattle.replay_simulation.proofs.Holds.{SlotIs, kindCode, kind-low, allThings, NamesHeld, Holds}
+use Rattle.replay_simulation.proofs.Holds.{SlotIs, kindCode, kind-low, NamesHeld, Holds}
 use Rattle.replay_simulation.proofs.Naming.{slot-put-length, put-elsewhere, slot-here, slot-there, slot-agree}
 use Rattle.replay_simulation.proofs.Moving.{Answered, moves, pausing}
 
@@ -65,14 +66,6 @@ kind-at rwlocks = refl
 
 kind-apart : (l k : ObjectKind) → l ≢ k → kindCode l ≢ kindCode k
 kind-apart l k n e = n (sym (kind-at l) ∙ ap kindAt e ∙ kind-at k)
-
-one-more-all : (k : ObjectKind) (things : ObjectKind → ℕ) → allThings (thingsAfter (makes k) things) ≡ suc (allThings things)
-unfolding oneMoreIf thingsAfter
-one-more-all cells things = omega arith
-one-more-all locks things = omega arith
-one-more-all rwlocks things = omega arith
-one-more-all semaphores things = omega arith
-one-more-all identifiers things = omega arith
 
 same-kind : {k l : ObjectKind} → makes k ≡ makes l → k ≡ l
 same-kind h = cc
@@ -118,6 +111,7 @@ module _ {s : List ℕ} {names : ℕ → state.Slot} {next : ℕ} {things : Obje
   s₃ = set s₂ nextValueAt (suc next + 1)
 
   next-low : suc next < 322
+  unfolding nextName
   next-low =
       let a = N .all in
       let b = N .few identifiers in
@@ -127,7 +121,7 @@ module _ {s : List ℕ} {names : ℕ → state.Slot} {next : ℕ} {things : Obje
       let f = N .few rwlocks in
       less k room a b c d e f
     where
-      less : (k : ObjectKind) → things k < 64 → next ≡ suc (allThings things) → things identifiers ≤ 64 → things cells ≤ 64 → things locks ≤ 64 → things semaphores ≤ 64 → things rwlocks ≤ 64 → suc next < 322
+      less : (k : ObjectKind) → things k < 64 → next ≡ nextName things → things identifiers ≤ 64 → things cells ≤ 64 → things locks ≤ 64 → things semaphores ≤ 64 → things rwlocks ≤ 64 → suc next < 322
       less identifiers h a b c d e f = omega arith
       less cells h a b c d e f = omega arith
       less locks h a b c d e f = omega arith
@@ -155,7 +149,7 @@ module _ {s : List ℕ} {names : ℕ → state.Slot} {next : ℕ} {things : Obje
     nextStored = getD-set-same s₂ nextValueAt (suc next + 1) 0 (omega (arith, long₂)) ∙ (let e : suc next + 1 ≡ suc (suc next) = omega arith in e);
     counted = λ l. by-kind l (sameEffect sameKind (makes k) (makes l));
     few = one-more-few k things (N .few) room;
-    all = (let a = N .all in let b = one-more-all k things in omega (arith, a, b));
+    all = ap suc (N .all) ∙ sym (name-more k things);
   }
     where
       by-name : (m : ℕ) → suc m < 322 → (d : Dec (m ≡ next)) → SlotIs (slotAt s₃ (suc m)) (choose d new (names m))

@@ -1,5 +1,5 @@
 -- A run as a trace records it: a state of the calculus with the numbers of its threads, and the step that a trace line is.
-use Prim.Native.Nat.{ℕ, zero, suc}
+use Prim.Native.Nat.{ℕ, zero, suc, _+_}
 use mathlib.Core.Bool.{Bool, true, false, not, _&&_}
 use mathlib.Core.List.{List, [], _∷_, _++_}
 use mathlib.Core.Option.{Option, none, some, Option·map}
@@ -23,7 +23,7 @@ pub data ObjectKind : Type 0 where
 
 -- A run so far, of a program with these procedures: `numbers` has the numbers of the threads that are in the state, place by place, and none
 -- of a joined one; `calls` has the open calls of each of them, the paths at which they were taken, the latest first; then how many threads
--- there have been, and things of each kind, "each kind counted by itself over the whole run"; the names used are those below `next`.
+-- there have been, and things of each kind, "each kind counted by itself over the whole run".
 pub record Run : Type 0 where
   pub procedures : List Procedure
   pub state : State
@@ -31,11 +31,10 @@ pub record Run : Type 0 where
   pub calls : List (List Path)
   pub threads : ℕ
   pub things : ObjectKind → ℕ
-  pub next : ℕ
 
 -- "the start thread included and its identifier not": it is thread 0, and its identifier has the name 0
 unfoldable pub startRun : Program → Run
-startRun p = record { procedures = p .procedures; state = startState p; numbers = 0 ∷ []; calls = [] ∷ []; threads = 1; things = λ k. 0; next = 1 }
+startRun p = record { procedures = p .procedures; state = startState p; numbers = 0 ∷ []; calls = [] ∷ []; threads = 1; things = λ k. 0 }
 
 -- ------------------------------------------------------------------ threads
 
@@ -134,8 +133,12 @@ unfoldable pub finishedFor : Option ℕ → List Thread → ℕ
 finishedFor none ts = 0
 finishedFor (some n) ts = lowestFinished n ts
 
+-- names are given in turn: 0 to the start's identifier, then one to each thing that is made
+unfoldable pub nextName : (things : ObjectKind → ℕ) → ℕ
+nextName things = 1 + things cells + things locks + things rwlocks + things semaphores + things identifiers
+
 unfoldable pub moveOf : Run → (place : ℕ) → Redex → Part → Move
-moveOf r p w c = record { thread = p; part = c; finished = finishedFor (traits w .joining) (r .state .threads); fresh = r .next }
+moveOf r p w c = record { thread = p; part = c; finished = finishedFor (traits w .joining) (r .state .threads); fresh = nextName (r .things) }
 
 -- ------------------------------------------------------------------ open calls
 
@@ -185,13 +188,6 @@ oneMoreIf counted e n = choose (sameEffect sameKind e counted) (suc n) n
 unfoldable pub thingsAfter : Effect → (things : ObjectKind → ℕ) → ObjectKind → ℕ
 thingsAfter e things k = oneMoreIf (makes k) e (things k)
 
-unfoldable pub nextAfter : Effect → (next : ℕ) → ℕ
-nextAfter plain n = n
-nextAfter spawns n = n
-nextAfter joins n = n
-nextAfter opens n = n
-nextAfter (makes k) n = suc n
-
 -- the run whose state is s after the move m, of a thread whose next word stood at the path q
 unfoldable pub after : Run → Move → (q : Path) → Effect → State → Run
 after r m q e s = record {
@@ -201,7 +197,6 @@ after r m q e s = record {
   calls = openCalls (s .threads) (callsAfter m q e (r .calls));
   threads = oneMoreIf spawns e (r .threads);
   things = thingsAfter e (r .things);
-  next = nextAfter e (r .next);
 }
 
 -- the run after "exactly the language's step", if thread i can take one with that choice
