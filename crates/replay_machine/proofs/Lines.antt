@@ -14,7 +14,7 @@ use Rattle.calculus.proofs.Laws.Places.{set-elsewhere}
 use Rattle.replay_theory.specs.Trace.{TraceLine}
 use Rattle.replay_theory.specs.Paths.{Path, nextPath}
 use Rattle.replay_theory.specs.Run as run
-use Rattle.replay_theory.specs.Run.{Run, placeOf, partChosen, finishedFor, nextName, unaryTraits, traits, moveOf, Effect, plain, spawns, joins, opens, makes, effect, openCalls, numbersAfter, callsAfter, oneMoreIf, thingsAfter, after}
+use Rattle.replay_theory.specs.Run.{Run, placeOf, partChosen, finishedFor, nextName, unaryTraits, traits, moveOf, Effect, plain, spawns, joins, opens, makes, effect, openCalls, entriesAfter, callsAfter, oneMoreIf, thingsAfter, after}
 use Rattle.replay_theory.proofs.Lists.{length-set, length-append}
 use Rattle.replay_machine.specs.Environment.{Env}
 use Rattle.replay_machine.specs.Control.{Frame, Word, redex, Control, done, at, decode, nextRedex}
@@ -101,7 +101,7 @@ module _ (R : Replay) (i : ℕ) (t : MachineThread) (h : LiveAt (R .machine .thr
   with-effect N e is same = subst (λ (f : Effect). Same f N) (sym is) same
 
   books-alike : {N : Machine} → After M i (t .tid) (callPaths (t .control)) (wordPath (t .control)) w N → Same (effect w) N
-  unfolding after numbersAfter callsAfter oneMoreIf thingsAfter moveOf
+  unfolding after entriesAfter callsAfter oneMoreIf thingsAfter moveOf
   books-alike (goes names b e u ok tells) =
       with-effect (goesTo M i (t .tid) names b) plain e
       (same-run refl refl (sym (numbers-stay b)) (calls-go-on ts i (t .tid) t h b tells) (sym (length-set ts i (moved b))) refl)

@@ -13,7 +13,7 @@ use Rattle.calculus.specs.Reduction.{wordOf, reduct, reduce}
 use Rattle.calculus.proofs.Laws.Maps.{some-injective, none-is-not-some, bind-goes-on}
 use Rattle.replay_theory.specs.Trace.{TraceLine}
 use Rattle.replay_theory.specs.Paths.{nextPath}
-use Rattle.replay_theory.specs.Run.{ObjectKind, cells, Run, placeOf, partChosen, Effect, plain, spawns, joins, opens, makes, does, unaryTraits, kindMade, traits, effect, numbersAfter, oneMoreIf}
+use Rattle.replay_theory.specs.Run.{ObjectKind, cells, Run, placeOf, partChosen, Effect, plain, spawns, joins, opens, makes, does, unaryTraits, kindMade, traits, effect, entriesAfter, numbersAfter, oneMoreIf}
 use Rattle.replay_theory.specs.Claim.{Numbered, LowestFinished, Reduced, LanguageStep}
 use Rattle.replay_theory.specs.Exact.{Apart, OneLowest, Alike}
 use Rattle.replay_theory.proofs.Effects.{another}
@@ -55,7 +55,7 @@ rising-apart low high ns rising p q i h k = by-order (decLt p q) (decLt q p)
     by-order (no b) (no c) = omega (arith, b, c)
 
 rises-after : (r : Run) (m : Move) (e : Effect) → Rising 0 (r .numbers) (r .threads) → Rising 0 (numbersAfter r m e) (oneMoreIf spawns e (r .threads))
-unfolding numbersAfter oneMoreIf
+unfolding entriesAfter oneMoreIf
 rises-after r m plain rising = rising
 rises-after r m spawns rising = rising-append 0 (r .threads) (r .numbers) rising
 rises-after r m joins rising = rising-remove 0 (r .threads) (r .numbers) (m .finished) rising
@@ -125,7 +125,7 @@ module _ (P : List Procedure) (s : State) (m : Move) (t : Thread) (f n : ℕ) wh
   joins-name (nullaryRedex o) is q = another (makes (kindMade o)) joins refl is
 
 numbers-alike : {r s : Run} (m k : Move) (e : Effect) → Alike r s → (e ≡ joins → m .finished ≡ k .finished) → numbersAfter r m e ≡ numbersAfter s k e
-unfolding numbersAfter
+unfolding entriesAfter
 numbers-alike m k plain E same = E .numbers
 numbers-alike m k spawns E same = λ z. E .numbers z ++ (E .threads z ∷ [])
 numbers-alike m k joins E same = λ z. remove (E .numbers z) (same refl z)

@@ -12,7 +12,7 @@ use Rattle.calculus.specs.Reduction.{wordOf, reduct, reduce, startState}
 use Rattle.calculus.proofs.Laws.Maps.{some-injective, bind-is-some, bind-goes-on, update-other}
 use Rattle.replay_theory.specs.Trace.{TraceLine}
 use Rattle.replay_theory.specs.Paths.{Path, nextPath}
-use Rattle.replay_theory.specs.Run.{ObjectKind, cells, locks, rwlocks, semaphores, identifiers, Run, startRun, placeOf, partChosen, nextName, moveOf, recordCall, openCalls, Effect, makes, effect, numbersAfter, callsAfter, oneMoreIf, thingsAfter, after, stepped}
+use Rattle.replay_theory.specs.Run.{ObjectKind, cells, locks, rwlocks, semaphores, identifiers, Run, startRun, placeOf, partChosen, nextName, moveOf, recordCall, openCalls, Effect, makes, effect, entriesAfter, callsAfter, oneMoreIf, thingsAfter, after, stepped}
 use Rattle.replay_theory.proofs.Lists.{length-set, length-append, length-remove}
 use Rattle.replay_theory.proofs.Changes.{movedTo, Changed, goes, called, made, spawned, joined, reduct-changes}
 
@@ -142,7 +142,7 @@ module _ (r : Run) (proper : Proper r) (m : Move) (q : Path) (fresh : m .fresh �
   set-called t = proper .all-called ∙ sym (length-set (r .state .threads) (m .thread) t)
 
   change-keeps-proper : {e : Effect} {s : State} → Changed (r .state) m u e s → Proper (after r m q e s)
-  unfolding after numbersAfter callsAfter oneMoreIf thingsAfter
+  unfolding after entriesAfter callsAfter oneMoreIf thingsAfter
   change-keeps-proper (goes names b stays) = let t = movedTo u b in record {
     unused-from = λ n h. stays n (proper .unused-from n h);
     counted = set-counted t;

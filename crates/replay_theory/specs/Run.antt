@@ -164,22 +164,21 @@ openCalls (t ∷ ts) (ps ∷ calls) = stillOpen (t .body) ps ∷ openCalls ts ca
 
 -- ------------------------------------------------------------------ the run after a step
 
--- a spawned thread stands last and its number is how many there were before it; a joined one is left out
-unfoldable pub numbersAfter : Run → Move → Effect → List ℕ
-numbersAfter r m plain = r .numbers
-numbersAfter r m spawns = r .numbers ++ (r .threads ∷ [])
-numbersAfter r m joins = remove (r .numbers) (m .finished)
-numbersAfter r m opens = r .numbers
-numbersAfter r m (makes k) = r .numbers
+-- of a list with an entry for each thread: that of a spawned thread stands last, and that of a joined one is left out
+unfoldable pub entriesAfter : {A : Type 0} → Move → Effect → (new : A) → List A → List A
+entriesAfter m plain x xs = xs
+entriesAfter m spawns x xs = xs ++ (x ∷ [])
+entriesAfter m joins x xs = remove xs (m .finished)
+entriesAfter m opens x xs = xs
+entriesAfter m (makes k) x xs = xs
 
--- the open calls before a step that are looked at after it, and the one taken at the path q. A new thread has none, and those of a joined one
--- are left out.
+-- the number of a spawned thread is how many there were before it
+abbrev pub numbersAfter : Run → Move → Effect → List ℕ
+numbersAfter r m e = entriesAfter m e (r .threads) (r .numbers)
+
+-- the open calls before a step that are looked at after it, and the one taken at the path q; a spawned thread has none
 unfoldable pub callsAfter : Move → (q : Path) → Effect → List (List Path) → List (List Path)
-callsAfter m q plain calls = calls
-callsAfter m q spawns calls = calls ++ ([] ∷ [])
-callsAfter m q joins calls = remove calls (m .finished)
-callsAfter m q opens calls = recordCall (m .thread) q calls
-callsAfter m q (makes k) calls = calls
+callsAfter m q e calls = entriesAfter m e [] (choose (sameEffect sameKind e opens) (recordCall (m .thread) q calls) calls)
 
 -- one more, if the effect is the one that is counted
 unfoldable pub oneMoreIf : (counted e : Effect) → ℕ → ℕ
