@@ -36,7 +36,7 @@ use Rattle.replay_step.specs.Slots.{slotAt}
 use Rattle.replay_engine.specs.ControlPoints.{controlPointAt}
 use Rattle.replay_step.specs.Words.{subject}
 use Rattle.replay_engine.specs.Races.{accessBy, accessAt, accessOf, reads, writes, clash, partnerOf, partnerFrom, pairWith, pairOf, lowestPair}
-use Rattle.replay_theory.specs.Run.{does, unaryTraits, traits}
+use Rattle.replay_theory.specs.Run.{unaryTraits, traits}
 use Rattle.replay_theory.proofs.Traits.{unary-plain}
 use Rattle.replay_theory.specs.LowestPair as uses
 use Rattle.replay_theory.specs.LowestPair.{Uses, usesOf, ifCell, sameCell, clashing, pairOr, lowestAmong}
@@ -260,7 +260,7 @@ module _ (p s : List ℕ) (row : ℕ) (names : ℕ → state.Slot) (slot-of : (n
       (ap (ifCell names) (no-read v), ap (ifCell names) (unary-plain o v .1))
 
   word-shows : (σ : _) (w : machine.Word) (f : ControlPoint) → WordAt p s row f w → ShowsUse f (redex σ w)
-  unfolding does unaryTraits traits usesOf ifCell accessAt effectOf spawnedOf joinedOf madeOf lockedOf unlockedOf postedOf waitedOf rdlockedOf rdunlockedOf wrlockedOf wrunlockedOf ruleOf printed
+  unfolding unaryTraits traits usesOf ifCell accessAt effectOf spawnedOf joinedOf madeOf lockedOf unlockedOf postedOf waitedOf rdlockedOf rdunlockedOf wrlockedOf wrunlockedOf ruleOf printed
   word-shows σ (machine.letWord q x v e) f (z, r, S) = subst (λ (g : ControlPoint). ShowsUse g (redex σ (machine.letWord q x v e))) (sym z) (silent (readyAt row (q .index) (codeValue v)) (usesBoth none none) (quiet p s row r (codeValue v) (λ x y h. refl)) (refl, refl))
   word-shows σ (machine.ifWord q e₁ e₂) f (z, n, r, S₁, S₂) = subst (λ (g : ControlPoint). ShowsUse g (redex σ (machine.ifWord q e₁ e₂))) (sym z) (refl, refl)
   word-shows σ (machine.whileWord q e) f (z, n, r, S) = subst (λ (g : ControlPoint). ShowsUse g (redex σ (machine.whileWord q e))) (sym z) (refl, refl)

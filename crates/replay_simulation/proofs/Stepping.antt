@@ -37,7 +37,7 @@ use Rattle.replay_engine.specs.ControlPoints.{controlPointAt}
 use Rattle.replay_step.specs.Words.{subject, operand, effected, wordUsed, actedBy, acted}
 use Rattle.replay_engine.specs.Steps.{mayChoose, ending, actStep, afterAct, steppedFrom, stepped}
 use Rattle.replay_theory.specs.Trace.{TraceLine}
-use Rattle.replay_theory.specs.Run.{cells, kindMade, partOfIf, noChoice, does, unaryTraits, traits, partChosen, effect, oneMoreIf, thingsAfter}
+use Rattle.replay_theory.specs.Run.{cells, kindMade, partOfIf, noChoice, unaryTraits, traits, partChosen, effect, oneMoreIf, thingsAfter}
 use Rattle.replay_theory.proofs.Traits.{unary-plain}
 use Rattle.replay_theory.specs.Replay.{Outcome, checkLimits}
 use Rattle.replay_machine.specs.Environment.{Env}
@@ -232,7 +232,7 @@ module _ (p s : List ℕ) (T : Threads) (R : Replay) (t tid : ℕ) (σ : Env) (K
   maker-no-if (calculus.newrwlock N) = refl
 
   word-goes : (w : machine.Word) (f : ControlPoint) → WordAt p s row f w → Frames p s t row (placeOf p s w) (continuation p (placeOf p s w)) K → There w → (c : ℕ) → WordLine w f c
-  unfolding does unaryTraits traits oneMoreIf thingsAfter isIf ruleOf printed
+  unfolding unaryTraits traits oneMoreIf thingsAfter isIf ruleOf printed
   word-goes (letWord q x v e) f (z, r, S) F there c =
       subst (λ (g : ControlPoint). WordLine (letWord q x v e) g c) (sym z)
       (plain p s T R t (redex σ (letWord q x v e)) (λ part. stepWord M t tid σ K part (letWord q x v e)) (readyAt row (q .index) (codeValue v)) (λ c. refl) refl (no-if q (Binary Let) r refl)

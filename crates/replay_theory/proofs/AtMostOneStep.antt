@@ -13,7 +13,7 @@ use Rattle.calculus.specs.Reduction.{wordOf, reduct, reduce}
 use Rattle.calculus.proofs.Laws.Maps.{some-injective, none-is-not-some, bind-goes-on}
 use Rattle.replay_theory.specs.Trace.{TraceLine}
 use Rattle.replay_theory.specs.Paths.{nextPath}
-use Rattle.replay_theory.specs.Run.{ObjectKind, cells, Run, placeOf, partChosen, Effect, plain, spawns, joins, opens, makes, does, unaryTraits, kindMade, traits, effect, entriesAfter, numbersAfter, oneMoreIf}
+use Rattle.replay_theory.specs.Run.{ObjectKind, cells, Run, placeOf, partChosen, Effect, plain, spawns, joins, opens, makes, unaryTraits, kindMade, traits, effect, entriesAfter, numbersAfter, oneMoreIf}
 use Rattle.replay_theory.specs.Claim.{Numbered, LowestFinished, Reduced, LanguageStep}
 use Rattle.replay_theory.specs.Exact.{Apart, OneLowest, Alike}
 use Rattle.replay_theory.proofs.Effects.{another}
@@ -77,7 +77,7 @@ listing m f n = record { thread = m .thread; part = m .part; finished = f; fresh
 module _ (P : List Procedure) (s : State) (m : Move) (t : Thread) (f n : ℕ) where
   unary-looks : (o : Unary) (v : Value) → (unaryTraits o v .effect ≡ joins → m .finished ≡ f) → ((k : ObjectKind) → unaryTraits o v .effect ≡ makes k → m .fresh ≡ n) →
       reduct P s m t (unaryRedex o v) ≡ reduct P s (listing m f n) t (unaryRedex o v)
-  unfolding unaryTraits does
+  unfolding unaryTraits
   unary-looks join v same named = ap (λ (x : ℕ). reduct P s (listing m x n) t (unaryRedex join v)) (same refl)
   unary-looks ref v same named = ap (λ (x : ℕ). reduct P s (listing m f x) t (unaryRedex ref v)) (named cells refl)
   unary-looks read v same named = refl
@@ -90,7 +90,7 @@ module _ (P : List Procedure) (s : State) (m : Move) (t : Thread) (f n : ℕ) wh
 
   looks : (w : Redex) → (effect w ≡ joins → m .finished ≡ f) → ((k : ObjectKind) → effect w ≡ makes k → m .fresh ≡ n) →
       reduct P s m t w ≡ reduct P s (listing m f n) t w
-  unfolding traits does
+  unfolding traits
   looks (letRedex x v e) same named = refl
   looks (ifRedex e₁ e₂) same named = refl
   looks (whileRedex e) same named = refl
@@ -102,7 +102,7 @@ module _ (P : List Procedure) (s : State) (m : Move) (t : Thread) (f n : ℕ) wh
   -- A join that reduces is of a name.
   unary-name : {s′ : State} (o : Unary) (v : Value) → unaryTraits o v .effect ≡ joins → reduct P s m t (unaryRedex o v) ≡ some s′ →
       (i : ℕ) × (unaryRedex o v ≡ unaryRedex join (name i))
-  unfolding unaryTraits does
+  unfolding unaryTraits
   unary-name join (int k) is q = none-is-not-some q
   unary-name join (name i) is q = (i, refl)
   unary-name ref v is q = another (makes cells) joins refl is
@@ -115,7 +115,7 @@ module _ (P : List Procedure) (s : State) (m : Move) (t : Thread) (f n : ℕ) wh
   unary-name (call g) v is q = another opens joins refl is
 
   joins-name : {s′ : State} (w : Redex) → effect w ≡ joins → reduct P s m t w ≡ some s′ → (i : ℕ) × (w ≡ unaryRedex join (name i))
-  unfolding traits does
+  unfolding traits
   joins-name (letRedex x v e) is q = another plain joins refl is
   joins-name (ifRedex e₁ e₂) is q = another plain joins refl is
   joins-name (whileRedex e) is q = another plain joins refl is

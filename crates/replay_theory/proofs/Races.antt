@@ -12,7 +12,7 @@ use Rattle.calculus.specs.Reduction.{_>>=_, nameOf, cellValue, wordOf}
 use Rattle.calculus.specs.Claim.{ThreadAt, AboutToRead, aboutToRead, AboutToWrite, aboutToWrite, Race, race}
 use Rattle.calculus.proofs.Laws.Maps.{some-injective, none-is-not-some, bind-is-some}
 use Rattle.calculus.proofs.Laws.Questions.{word-tells}
-use Rattle.replay_theory.specs.Run.{does, unaryTraits, traits}
+use Rattle.replay_theory.specs.Run.{unaryTraits, traits}
 use Rattle.replay_theory.specs.LowestPair.{ifCell, Uses, usesOf, sameCell, clash}
 use Rattle.replay_theory.specs.Claim.{Meet, writesIt, readsIt}
 use Rattle.replay_theory.proofs.Traits.{unary-plain}
@@ -24,7 +24,7 @@ name-tells (int k) n h = none-is-not-some h
 name-tells (name m) n h = ap name (some-injective h)
 
 unary-reads-tells : (o : Unary) (v : Value) (n : ℕ) → unaryTraits o v .reading ≡ some n → unaryRedex o v ≡ unaryRedex read (name n)
-unfolding unaryTraits does
+unfolding unaryTraits
 unary-reads-tells join v n h = none-is-not-some h
 unary-reads-tells ref v n h = none-is-not-some h
 unary-reads-tells read v n h = ap (unaryRedex read) (name-tells v n h)
@@ -36,7 +36,7 @@ unary-reads-tells (hold w) v n h = none-is-not-some h
 unary-reads-tells (call f) v n h = none-is-not-some h
 
 reads-tells : (w : Redex) (n : ℕ) → traits w .reading ≡ some n → w ≡ unaryRedex read (name n)
-unfolding traits does
+unfolding traits
 reads-tells (letRedex x v e) n h = none-is-not-some h
 reads-tells (ifRedex e₁ e₂) n h = none-is-not-some h
 reads-tells (whileRedex e) n h = none-is-not-some h
@@ -46,7 +46,7 @@ reads-tells (unaryRedex o v) n h = unary-reads-tells o v n h
 reads-tells (nullaryRedex o) n h = none-is-not-some h
 
 writes-tells : (w : Redex) (n : ℕ) → traits w .writing ≡ some n → (v : Value) × (w ≡ writeRedex (name n) v)
-unfolding traits does
+unfolding traits
 writes-tells (letRedex x v e) n h = none-is-not-some h
 writes-tells (ifRedex e₁ e₂) n h = none-is-not-some h
 writes-tells (whileRedex e) n h = none-is-not-some h

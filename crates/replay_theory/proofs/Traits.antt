@@ -2,10 +2,10 @@
 use mathlib.Core.Path.{_≡_, refl}
 use mathlib.Core.Option.{none}
 use Rattle.calculus.specs.Expression.{Value, Unary, join, ref, read, lock, unlock, post, wait, hold, call}
-use Rattle.replay_theory.specs.Run.{noChoice, does, unaryTraits}
+use Rattle.replay_theory.specs.Run.{noChoice, unaryTraits}
 
 pub unary-plain : (o : Unary) (v : Value) → (unaryTraits o v .part ≡ noChoice) × (unaryTraits o v .writing ≡ none)
-unfolding does unaryTraits
+unfolding unaryTraits
 unary-plain join v = (refl, refl)
 unary-plain ref v = (refl, refl)
 unary-plain read v = (refl, refl)

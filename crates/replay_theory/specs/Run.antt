@@ -85,7 +85,7 @@ pub record Traits : Type 0 where
   pub writing : Option ℕ
 
 -- of most words there is only an effect to tell
-unfoldable pub does : Effect → Traits
+abbrev pub does : Effect → Traits
 does e = record { part = noChoice; effect = e; joining = none; reading = none; writing = none }
 
 unfoldable pub unaryTraits : Unary → Value → Traits
