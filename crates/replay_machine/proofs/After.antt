@@ -14,7 +14,7 @@ use Rattle.calculus.specs.State.{Slot, unused, cell, rwlock, Part, first, secon
 use Rattle.calculus.specs.Reduction.{nameOf, ifIdentifier, cellValue, lockState, ifOpened, count, oneLess, rwState, insideAfter, made as madeSlot}
 use Rattle.calculus.proofs.Laws.Maps.{some-injective, none-is-not-some, bind-is-some, update-other}
 use Rattle.replay_theory.specs.Paths.{Path}
-use Rattle.replay_theory.specs.Run.{ObjectKind, cells, nameIn, plain, spawns, joins, opens, makes, unaryEffect, kindMade, effect, ofUnary}
+use Rattle.replay_theory.specs.Run.{ObjectKind, cells, plain, spawns, joins, opens, makes, unaryTraits, kindMade, traits, effect}
 use Rattle.replay_theory.proofs.Changes.{answer-means-used, used-updated}
 use Rattle.replay_machine.specs.Environment.{Env, zeros}
 use Rattle.replay_machine.specs.Control.{Frame, markFrame, Word, letWord, ifWord, whileWord, spawnWord, writeWord, unaryWord, nullaryWord, unrolledWord, againWord, redex, Control, done, at, nextRedex, return, enter}
@@ -41,7 +41,7 @@ pub data After (M : Machine) (i tid : ℕ) (ps : List Path) (q : Path) (w : Rede
   })
   spawned : (n : ℕ) (b b′ : Control) → effect w ≡ spawns → ControlOk b → ControlOk b′ → Tells b ps → Tells b′ [] →
       After M i tid ps q w (addThread (running n b′) (goesTo M i tid (M .names) b))
-  joined : (n j : ℕ) (u : MachineThread) (b : Control) → effect w ≡ joins → nameIn w ≡ some n → lowest n (M .threads) ≡ some j →
+  joined : (n j : ℕ) (u : MachineThread) (b : Control) → effect w ≡ joins → traits w .joining ≡ some n → lowest n (M .threads) ≡ some j →
       getElem? (M .threads) j ≡ some u → ControlOk b → Tells b ps → After M i tid ps q w (markJoined j u (goesTo M i tid (M .names) b))
 
 -- ---- Names
@@ -69,7 +69,7 @@ module _ (M : Machine) (i tid : ℕ) (σ : Env) (K : List Frame) (kept : Kept M)
     leaves-after m slot e used = goes _ _ e (used-kept (M .names) (M .next) m slot (kept .unusedFrom) used) (returns zeroValue) (return-tells σ zeroValue K)
 
     unary-after : (o : Unary) (v : Value) (N : Machine) → stepUnary M i tid σ K o v ≡ some N → Done (unaryRedex o v) N
-    unfolding effect unaryEffect nameIn ofUnary
+    unfolding unaryTraits traits
     unary-after join v N q =
         let (m, named, q₁) = bind-is-some (nameOf v) q in
         let (_, _, q₂) = bind-is-some (ifIdentifier (M .names m)) q₁ in
@@ -127,7 +127,7 @@ module _ (M : Machine) (i tid : ℕ) (σ : Env) (K : List Frame) (kept : Kept M)
 
   word-after : (c : Part) (w : Word) (N : Machine) → WordOk w → Nested (WordBinds w) K →
       stepWord M i tid σ K c w ≡ some N → Done (redex σ w) N
-  unfolding effect
+  unfolding traits
   word-after c (letWord k x v e) N r n q =
       told _ N (goes (M .names) _ refl (kept .unusedFrom)
       (enter-ok (update σ x v) e (x ∷ r .scope) K (r .fits) (nested-fewer K _ _ (λ y b. inr b) n)) (enter-tells (update σ x v) e K)) q

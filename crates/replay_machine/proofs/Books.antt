@@ -42,7 +42,6 @@ runOf R = record {
   calls = callsFrom 0 (R .machine .threads);
   threads = length (R .machine .threads);
   things = R .things;
-  next = R .machine .next;
 }
 
 -- ---- The place of a thread

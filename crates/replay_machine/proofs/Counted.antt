@@ -14,10 +14,11 @@ use Rattle.spec.proofs.Tests.{both-true}
 use Rattle.calculus.specs.Expression.{Redex}
 use Rattle.replay_theory.specs.Trace.{TraceLine}
 use Rattle.replay_theory.specs.Paths.{Path}
-use Rattle.replay_theory.specs.Run.{ObjectKind, cells, locks, rwlocks, semaphores, identifiers, Effect, effect, thingsAfter, oneMore, threadLimit, thingLimit, withinLimits, callLimit, stillOpen}
+use Rattle.replay_theory.specs.Run.{ObjectKind, cells, locks, rwlocks, semaphores, identifiers, Effect, effect, nextName, oneMoreIf, thingsAfter, threadLimit, thingLimit, withinLimits, callLimit, stillOpen}
 use Rattle.replay_machine.specs.State.{MachineThread, Machine, rank, startMachine}
 use Rattle.replay_machine.specs.Replay.{Replay, startReplay, stepped, callsIn, countsWithin, within}
-use Rattle.replay_machine.specs.Counted.{total, Counted}
+use Rattle.replay_machine.specs.Counted.{Counted}
+use Rattle.replay_theory.proofs.Proper.{name-more}
 use Rattle.calculus.proofs.Laws.Maps.{some-injective, none-is-not-some}
 use Rattle.replay_machine.specs.Environment.{zeros}
 use Rattle.replay_machine.specs.Control.{enter, openCalls}
@@ -28,24 +29,16 @@ use Rattle.replay_machine.proofs.Stepped.{step-taken}
 use Rattle.replay_machine.proofs.Kept.{step-kept}
 use Rattle.replay_machine.proofs.Start.{start-kept}
 
-one-more-in-all : (k : ObjectKind) (things : ObjectKind → ℕ) → total (oneMore k things) ≡ suc (total things)
-unfolding total oneMore
-one-more-in-all cells things = omega arith
-one-more-in-all locks things = omega arith
-one-more-in-all rwlocks things = omega arith
-one-more-in-all semaphores things = omega arith
-one-more-in-all identifiers things = omega arith
-
 -- A name for each thing made.
-names-grow : (M N : Machine) (i tid : ℕ) (ps : List Path) (q : Path) (w : Redex) (things : ObjectKind → ℕ) → M .next ≡ suc (total things) → After M i tid ps q w N →
-    N .next ≡ suc (total (thingsAfter (effect w) things))
-unfolding thingsAfter
-names-grow M N i tid ps q w things h (goes names b e u ok tells) = h ∙ ap (λ (f : Effect). suc (total (thingsAfter f things))) (sym e)
-names-grow M N i tid ps q w things h (called b e ok tells) = h ∙ ap (λ (f : Effect). suc (total (thingsAfter f things))) (sym e)
+names-grow : (M N : Machine) (i tid : ℕ) (ps : List Path) (q : Path) (w : Redex) (things : ObjectKind → ℕ) → M .next ≡ nextName things → After M i tid ps q w N →
+    N .next ≡ nextName (thingsAfter (effect w) things)
+unfolding oneMoreIf thingsAfter
+names-grow M N i tid ps q w things h (goes names b e u ok tells) = h ∙ ap (λ (f : Effect). nextName (thingsAfter f things)) (sym e)
+names-grow M N i tid ps q w things h (called b e ok tells) = h ∙ ap (λ (f : Effect). nextName (thingsAfter f things)) (sym e)
 names-grow M N i tid ps q w things h (made k new b e ok tells) =
-    ap suc (h ∙ sym (one-more-in-all k things)) ∙ ap (λ (f : Effect). suc (total (thingsAfter f things))) (sym e)
-names-grow M N i tid ps q w things h (spawned n b b′ e ok ok′ tells tells′) = h ∙ ap (λ (f : Effect). suc (total (thingsAfter f things))) (sym e)
-names-grow M N i tid ps q w things h (joined n j u b e named found there ok tells) = h ∙ ap (λ (f : Effect). suc (total (thingsAfter f things))) (sym e)
+    ap suc h ∙ sym (name-more k things) ∙ ap (λ (f : Effect). nextName (thingsAfter f things)) (sym e)
+names-grow M N i tid ps q w things h (spawned n b b′ e ok ok′ tells tells′) = h ∙ ap (λ (f : Effect). nextName (thingsAfter f things)) (sym e)
+names-grow M N i tid ps q w things h (joined n j u b e named found there ok tells) = h ∙ ap (λ (f : Effect). nextName (thingsAfter f things)) (sym e)
 
 pub stepped-counted : (R R′ : Replay) (l : TraceLine) → Counted R → stepped R l ≡ some R′ → within R′ ≡ true → Counted R′
 stepped-counted R R′ l C q limited =
@@ -54,12 +47,12 @@ stepped-counted R R′ l C q limited =
     let named = names-grow (R .machine) (S .machine) (l .thread) (D .thread .tid) _ _ (D .word) (R .things) (C .named) (D .after) in
     subst Counted (S .is) (record {
       kept = step-kept (R .machine) (l .thread) (S .part) (S .machine) (C .kept) (S .moves);
-      named = named ∙ ap (λ (x : Redex). suc (total (thingsAfter (effect x) (R .things)))) (S .word-is);
+      named = named ∙ ap (λ (x : Redex). nextName (thingsAfter (effect x) (R .things))) (S .word-is);
       limited = ap within (S .is) ∙ limited;
     })
 
 pub start-counted : {text : List ℕ} {P : Program} → WellFormedProgram text P → Counted (startReplay P)
-unfolding startReplay startMachine total within withinLimits threadLimit thingLimit callsIn countsWithin callLimit stillOpen
+unfolding startReplay startMachine nextName within withinLimits threadLimit thingLimit callsIn countsWithin callLimit stillOpen
 start-counted {P = P} w = record {
   kept = start-kept w;
   named = refl;
@@ -114,7 +107,7 @@ calls-at-most R C i t h =
     (live-at (λ i u. openCalls (u .control)) (R .machine .threads) 0 i t h)
 
 pub names-at-most : (R : Replay) → Counted R → R .machine .next ≤ 321
-unfolding total
+unfolding nextName
 names-at-most R C =
     let L = counted-limits R C .of-things in
     let named = C .named in

@@ -14,7 +14,7 @@ use Rattle.calculus.proofs.Laws.Places.{set-elsewhere}
 use Rattle.replay_theory.specs.Trace.{TraceLine}
 use Rattle.replay_theory.specs.Paths.{Path, nextPath}
 use Rattle.replay_theory.specs.Run as run
-use Rattle.replay_theory.specs.Run.{Run, placeOf, partChosen, finishedFor, nameIn, moveOf, Effect, plain, spawns, joins, opens, makes, effect, openCalls, numbersAfter, threadsAfter, callsAfter, thingsAfter, nextAfter, after, ofUnary}
+use Rattle.replay_theory.specs.Run.{Run, placeOf, partChosen, finishedFor, nextName, unaryTraits, traits, moveOf, Effect, plain, spawns, joins, opens, makes, effect, openCalls, entriesAfter, callsAfter, oneMoreIf, thingsAfter, after}
 use Rattle.replay_theory.proofs.Lists.{length-set, length-append}
 use Rattle.replay_machine.specs.Environment.{Env}
 use Rattle.replay_machine.specs.Control.{Frame, Word, redex, Control, done, at, decode, nextRedex}
@@ -37,8 +37,8 @@ use Rattle.replay_machine.proofs.Books.{numbersFrom, callsFrom, runOf, 
 -- ---- The run after a step
 
 pub same-run : {r r′ : Run} → r .procedures ≡ r′ .procedures → r .state ≡ r′ .state → r .numbers ≡ r′ .numbers → r .calls ≡ r′ .calls →
-    r .threads ≡ r′ .threads → r .things ≡ r′ .things → r .next ≡ r′ .next → r ≡ r′
-same-run p a b o c d e = λ z. record { procedures = p z; state = a z; numbers = b z; calls = o z; threads = c z; things = d z; next = e z }
+    r .threads ≡ r′ .threads → r .things ≡ r′ .things → r ≡ r′
+same-run p a b o c d = λ z. record { procedures = p z; state = a z; numbers = b z; calls = o z; threads = c z; things = d z }
 
 word-means-running : (b : Control) (w : Redex) → nextRedex b ≡ some w → isDone b ≡ false
 word-means-running (done v) w h = none-is-not-some h
@@ -59,7 +59,7 @@ module _ (R : Replay) (i : ℕ) (t : MachineThread) (h : LiveAt (R .machine .thr
   Same e N = after (runOf R) m (wordPath (t .control)) e (decodeState N) ≡ runOf (record { machine = N; things = thingsAfter e (R .things) })
 
   -- Of a join, the move lists the lowest finished thread.
-  lists-lowest : (n j : ℕ) → nameIn w ≡ some n → lowest n ts ≡ some j → m .finished ≡ rank ts j
+  lists-lowest : (n j : ℕ) → traits w .joining ≡ some n → lowest n ts ≡ some j → m .finished ≡ rank ts j
   unfolding moveOf finishedFor
   lists-lowest n j named found = ap (λ (o : Option ℕ). finishedFor o (live ts)) named ∙ lowest-is-first ts 0 n j found
 
@@ -70,7 +70,7 @@ module _ (R : Replay) (i : ℕ) (t : MachineThread) (h : LiveAt (R .machine .thr
     numbers-stay : numbersFrom 0 (set ts i moved) ≡ numbersFrom 0 ts
     numbers-stay = numbers-set ts i t moved h refl
 
-    joined-number : (n j : ℕ) (u : MachineThread) → nameIn w ≡ some n → lowest n ts ≡ some j → getElem? ts j ≡ some u →
+    joined-number : (n j : ℕ) (u : MachineThread) → traits w .joining ≡ some n → lowest n ts ≡ some j → getElem? ts j ≡ some u →
         remove (numbersFrom 0 ts) (m .finished) ≡ numbersFrom 0 (set (set ts i moved) j (asJoined u))
     joined-number n j u named found there =
         let L = lowest-found n ts j found in
@@ -81,7 +81,7 @@ module _ (R : Replay) (i : ℕ) (t : MachineThread) (h : LiveAt (R .machine .thr
         ∙ sym (live-join (λ z x. z) (set ts i moved) 0 j u (asJoined u)
         (record { there = elsewhere ∙ there; not-joined = ap (λ (x : MachineThread). x .joined) (sym is) ∙ L .can .not-joined }) refl)
 
-    joined-calls : (n j : ℕ) (u : MachineThread) → nameIn w ≡ some n → lowest n ts ≡ some j → getElem? ts j ≡ some u → Tells b (callPaths (t .control)) →
+    joined-calls : (n j : ℕ) (u : MachineThread) → traits w .joining ≡ some n → lowest n ts ≡ some j → getElem? ts j ≡ some u → Tells b (callPaths (t .control)) →
         openCalls (live (set (set ts i moved) j (asJoined u))) (remove (callsFrom 0 ts) (m .finished)) ≡ callsFrom 0 (set (set ts i moved) j (asJoined u))
     joined-calls n j u named found there tells =
         let L = lowest-found n ts j found in
@@ -101,16 +101,16 @@ module _ (R : Replay) (i : ℕ) (t : MachineThread) (h : LiveAt (R .machine .thr
   with-effect N e is same = subst (λ (f : Effect). Same f N) (sym is) same
 
   books-alike : {N : Machine} → After M i (t .tid) (callPaths (t .control)) (wordPath (t .control)) w N → Same (effect w) N
-  unfolding after numbersAfter threadsAfter callsAfter thingsAfter nextAfter moveOf
+  unfolding after entriesAfter callsAfter oneMoreIf thingsAfter moveOf
   books-alike (goes names b e u ok tells) =
       with-effect (goesTo M i (t .tid) names b) plain e
-      (same-run refl refl (sym (numbers-stay b)) (calls-go-on ts i (t .tid) t h b tells) (sym (length-set ts i (moved b))) refl refl)
+      (same-run refl refl (sym (numbers-stay b)) (calls-go-on ts i (t .tid) t h b tells) (sym (length-set ts i (moved b))) refl)
   books-alike (called b e ok tells) =
       with-effect (goesTo M i (t .tid) (M .names) b) opens e
-      (same-run refl refl (sym (numbers-stay b)) (calls-taken ts i (t .tid) t h b (wordPath (t .control)) tells) (sym (length-set ts i (moved b))) refl refl)
+      (same-run refl refl (sym (numbers-stay b)) (calls-taken ts i (t .tid) t h b (wordPath (t .control)) tells) (sym (length-set ts i (moved b))) refl)
   books-alike (made k new b e ok tells) =
       with-effect (record { procedures = M .procedures; threads = set ts i (moved b); names = update (M .names) (M .next) new; next = suc (M .next) }) (makes k) e
-      (same-run refl refl (sym (numbers-stay b)) (calls-go-on ts i (t .tid) t h b tells) (sym (length-set ts i (moved b))) refl refl)
+      (same-run refl refl (sym (numbers-stay b)) (calls-go-on ts i (t .tid) t h b tells) (sym (length-set ts i (moved b))) refl)
   books-alike (spawned n b b′ e ok ok′ tells tells′) =
       with-effect (addThread (running n b′) (goesTo M i (t .tid) (M .names) b)) spawns e
       (same-run refl refl
@@ -118,15 +118,15 @@ module _ (R : Replay) (i : ℕ) (t : MachineThread) (h : LiveAt (R .machine .thr
       ∙ ap (λ (k : ℕ). numbersFrom 0 (set ts i (moved b)) ++ (k ∷ [])) (omega (arith, length-set ts i (moved b)))
       ∙ sym (live-append (λ z x. z) (set ts i (moved b)) 0 (running n b′) refl))
       (calls-spawned ts i (t .tid) t h b n b′ tells tells′)
-      (sym (length-append (set ts i (moved b)) (running n b′) ∙ ap suc (length-set ts i (moved b)))) refl refl)
+      (sym (length-append (set ts i (moved b)) (running n b′) ∙ ap suc (length-set ts i (moved b)))) refl)
   books-alike (joined n j u b e named found there ok tells) =
       with-effect (markJoined j u (goesTo M i (t .tid) (M .names) b)) joins e
       (same-run refl refl (joined-number b n j u named found there) (joined-calls b n j u named found there tells)
-      (sym (length-set (set ts i (moved b)) j (asJoined u) ∙ length-set ts i (moved b))) refl refl)
+      (sym (length-set (set ts i (moved b)) j (asJoined u) ∙ length-set ts i (moved b))) refl)
 
 -- ---- A line
 
-module _ (R : Replay) (kept : Kept (R .machine)) (l : TraceLine) where
+module _ (R : Replay) (kept : Kept (R .machine)) (named : R .machine .next ≡ nextName (R .things)) (l : TraceLine) where
   abbrev here : Machine
   here = R .machine
 
@@ -142,17 +142,17 @@ module _ (R : Replay) (kept : Kept (R .machine)) (l : TraceLine) where
   module _ (t : MachineThread) (h : LiveAt (here .threads) (l .thread) t) where
     lowest-listed : (w : Redex) (c : Part) → nextRedex (t .control) ≡ some w → (σ : Env) (x : Word) (K : List Frame) → t .control ≡ at σ x K →
         ListsLowest here (moveOf (runOf R) (rank (here .threads) (l .thread)) w c) x
-    unfolding nameIn ofUnary
+    unfolding traits unaryTraits
     lowest-listed w c next σ x K is k n j join-on found =
         lists-lowest R (l .thread) t h w next c n j
-        (ap nameIn (some-injective (sym next ∙ ap nextRedex is) ∙ ap (redex σ) join-on)) found
+        (ap (λ (x : Redex). traits x .joining) (some-injective (sym next ∙ ap nextRedex is) ∙ ap (redex σ) join-on)) found
 
     word-alike : (w : Redex) → nextRedex (t .control) ≡ some w → inRun (rank (here .threads) (l .thread)) (wordPath (t .control)) w ≡ Option·map runOf (onMachine w)
     unfolding moveOf
     word-alike w next = asks runOf (partChosen w (l .choice)) _ _ (λ c chosen.
         ap (λ (o : Option State). o >>= λ s. some (after (runOf R) (moveOf (runOf R) (rank (here .threads) (l .thread)) w c) (wordPath (t .control)) (effect w) s))
         (step-exact here (l .thread) t (moveOf (runOf R) (rank (here .threads) (l .thread)) w c) (kept .proceduresKept)
-        (every-at ThreadKept (here .threads) (l .thread) t (kept .threadsKept) (h .there)) (kept .unusedFrom (here .next) (omega arith)) h refl refl
+        (every-at ThreadKept (here .threads) (l .thread) t (kept .threadsKept) (h .there)) (kept .unusedFrom (here .next) (omega arith)) h refl (sym named)
         (lowest-listed w c next))
         ∙ stepped-alike c (step here (l .thread) c) refl)
       where

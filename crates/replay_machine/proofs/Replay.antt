@@ -1,6 +1,6 @@
 -- The replay on the machine is the replay of crates/replay_theory, for every space, program and trace.
 use Prim.Native.Nat.{ℕ, suc, _+_}
-use mathlib.Core.Path.{_≡_, refl, sym, _∙_, ap, subst}
+use mathlib.Core.Path.{_≡_, refl, sym, _∙_, ap}
 use mathlib.Core.Bool.{Bool, true, false, _&&_}
 use mathlib.Core.Option.{Option, none, some, Option·map}
 use mathlib.Core.List.{List, [], _∷_}
@@ -29,21 +29,15 @@ use Rattle.replay_theory.proofs.Answer.{judged-well-formed}
 use Rattle.replay_machine.specs.Environment.{zeros}
 use Rattle.replay_machine.specs.State.{MachineThread, unless, ofLive, startMachine}
 use Rattle.replay_machine.specs.Control.{openCalls}
-use Rattle.replay_machine.specs.Kept.{Kept}
+use Rattle.replay_machine.specs.Counted.{Counted}
 use Rattle.replay_machine.specs.Replay.{Replay, startReplay, stepped, callsIn, countsWithin, within, usesIn, lowestPair, orRace, ended, playOn, playFrom, play, replayed, replay}
-use Rattle.replay_machine.proofs.Kept.{step-kept}
-use Rattle.replay_machine.proofs.Stepped.{step-taken}
-use Rattle.replay_machine.proofs.Start.{start-decoded, root-is-inside, start-kept}
+use Rattle.replay_machine.proofs.Start.{start-decoded, root-is-inside}
 use Rattle.replay_machine.proofs.Books.{callsFrom, runOf, uses-alike}
 use Rattle.replay_machine.proofs.Marks.{callPaths, calls-counted, enter-tells}
 use Rattle.replay_machine.proofs.Lines.{same-run, line-alike}
+use Rattle.replay_machine.proofs.Counted.{stepped-counted, start-counted}
 
 -- ---- One state
-
-stepped-kept : (R R′ : Replay) (l : TraceLine) → Kept (R .machine) → stepped R l ≡ some R′ → Kept (R′ .machine)
-stepped-kept R R′ l kept q =
-    let S = step-taken R R′ l kept q in
-    subst (λ (Q : Replay). Kept (Q .machine)) (S .is) (step-kept (R .machine) (l .thread) (S .part) (S .machine) kept (S .moves))
 
 pair-alike : (R : Replay) → run-pair.lowestPair (runOf R) ≡ lowestPair R
 unfolding run-pair.lowestPair lowestPair usesIn
@@ -94,14 +88,14 @@ unfolding firstRace
 ends ending k race = let none-more : k ≡ k + 0 = omega arith in λ i. ended ending (none-more i) (sym (no-race-behind race) i)
 
 abbrev Alike : List Line → Type 0
-Alike ls = (k : ℕ) (race : FirstRace) (R : Replay) → Kept (R .machine) → playFrom k race R ls ≡ atEnd k race (execution (k + 1) (runOf R) ls)
+Alike ls = (k : ℕ) (race : FirstRace) (R : Replay) → Counted R → playFrom k race R ls ≡ atEnd k race (execution (k + 1) (runOf R) ls)
 
 -- A step is done, and the rest goes on from there.
-step-alike : (ls : List Line) (k : ℕ) (race : FirstRace) (R : Replay) → Alike ls → Kept (R .machine) →
+step-alike : (ls : List Line) (k : ℕ) (race : FirstRace) (R : Replay) → Alike ls → Counted R →
     playFrom (k + 1) (orRace race (k + 1) (lowestPair R)) R ls ≡ atEnd k race (continue (k + 1) (stepOf (runOf R)) (λ r. execution (k + 1 + 1) r ls))
 unfolding continue firstRace
-step-alike ls k race R alike kept =
-    alike (k + 1) (orRace race (k + 1) (lowestPair R)) R kept
+step-alike ls k race R alike C =
+    alike (k + 1) (orRace race (k + 1) (lowestPair R)) R C
     ∙ (λ i. ended (rest .1) (counted i) (races i))
   where
     rest : List Run × Ending
@@ -116,7 +110,7 @@ step-alike ls k race R alike kept =
         race-moves-on race (k + 1) (lowestPair R) (firstRace (k + 1 + 1) (rest .0))
         ∙ ap (λ (p : Option (ℕ × ℕ)). thenRace race (raceOr (k + 1) p (firstRace (k + 1 + 1) (rest .0)))) (sym (pair-alike R))
 
-module _ (ls : List Line) (k : ℕ) (race : FirstRace) (R : Replay) (alike : Alike ls) (kept : Kept (R .machine)) where
+module _ (ls : List Line) (k : ℕ) (race : FirstRace) (R : Replay) (alike : Alike ls) (C : Counted R) where
   abbrev playing : Outcome Replay → Replayed
   playing o = playOn k race o (λ R′. playFrom (k + 1) (orRace race (k + 1) (lowestPair R′)) R′ ls)
 
@@ -128,29 +122,29 @@ module _ (ls : List Line) (k : ℕ) (race : FirstRace) (R : Replay) (alike : Ali
   unfolding checkLimits playOn continue
   stepped-alike l none q = ends _ k race
   stepped-alike l (some R′) q =
-      by-limit (within R′) ∙ ap (λ (b : Bool). atEnd k race (going (if b then stepOf (runOf R′) else pastLimit))) (sym (within-alike R′))
+      by-limit (within R′) refl ∙ ap (λ (b : Bool). atEnd k race (going (if b then stepOf (runOf R′) else pastLimit))) (sym (within-alike R′))
     where
-      by-limit : (b : Bool) → playing (if b then stepOf R′ else pastLimit) ≡ atEnd k race (going (if b then stepOf (runOf R′) else pastLimit))
-      by-limit true = step-alike ls k race R′ alike (stepped-kept R R′ l kept q)
-      by-limit false = ends _ k race
+      by-limit : (b : Bool) → within R′ ≡ b → playing (if b then stepOf R′ else pastLimit) ≡ atEnd k race (going (if b then stepOf (runOf R′) else pastLimit))
+      by-limit true e = step-alike ls k race R′ alike (stepped-counted R R′ l C q e)
+      by-limit false e = ends _ k race
 
   line-goes-on : (o : Option TraceLine) → playing (lineOutcome (stepped R) within o) ≡ atEnd k race (going (lineOutcome (run.stepped (runOf R)) run.within o))
   unfolding lineOutcome playOn continue
   line-goes-on none = ends _ k race
   line-goes-on (some l) =
-      stepped-alike l (stepped R l) refl ∙ ap (λ (o : Option Run). atEnd k race (going (checkLimits run.within o))) (sym (line-alike R kept l))
+      stepped-alike l (stepped R l) refl ∙ ap (λ (o : Option Run). atEnd k race (going (checkLimits run.within o))) (sym (line-alike R (C .kept) (C .named) l))
 
 trace-alike : (ls : List Line) → Alike ls
 unfolding playFrom execution
-trace-alike [] k race R kept = ends _ k race
-trace-alike (l ∷ ls) k race R kept = line-goes-on ls k race R (trace-alike ls) kept (traceLine l)
+trace-alike [] k race R C = ends _ k race
+trace-alike (l ∷ ls) k race R C = line-goes-on ls k race R (trace-alike ls) C (traceLine l)
 
 -- ---- The whole
 
-pub play-alike : (R : Replay) → Kept (R .machine) → (ls : List Line) → play R ls ≡ answer.reported (runOf R) (execution 1 (runOf R) ls)
+pub play-alike : (R : Replay) → Counted R → (ls : List Line) → play R ls ≡ answer.reported (runOf R) (execution 1 (runOf R) ls)
 unfolding play answer.reported firstRace ended
-play-alike R kept ls =
-    trace-alike ls 0 (orRace None 0 (lowestPair R)) R kept
+play-alike R C ls =
+    trace-alike ls 0 (orRace None 0 (lowestPair R)) R C
     ∙ (λ i. ended (rest .1) (counted i) (races i))
   where
     rest : List Run × Ending
@@ -167,7 +161,7 @@ play-alike R kept ls =
 start-alike : (P : Program) → UsedInside (length (P .procedures)) [] (P .root) → runOf (startReplay P) ≡ startRun (eraseProgram P)
 unfolding startReplay startMachine startRun stillOpen
 start-alike P used =
-    same-run refl (start-decoded P used) refl (ap (λ (ps : List Path). ps ∷ []) (sym (enter-tells zeros (P .root) []))) refl refl refl
+    same-run refl (start-decoded P used) refl (ap (λ (ps : List Path). ps ∷ []) (sym (enter-tells zeros (P .root) []))) refl refl
 
 pub machine-replays : (room : ℕ) (programText traceText : List ℕ) → replay room programText traceText ≡ answer.replay room programText traceText
 unfolding replay replayed answer.replay answer.replayed startReplay
@@ -177,5 +171,5 @@ machine-replays room programText traceText = by-cases (judged room programText) 
     by-cases (refuse r) q = refl
     by-cases (ok P) q =
         let w = judged-well-formed room programText q in
-        play-alike (startReplay P) (start-kept w) (lines traceText)
+        play-alike (startReplay P) (start-counted w) (lines traceText)
         ∙ ap (λ (r : Run). answer.reported r (execution 1 r (lines traceText))) (start-alike P (root-is-inside w))

@@ -15,7 +15,7 @@ use Rattle.replay_control.specs.Layout.{thingCountsAt, nextValueAt, spaceSize}
 use Rattle.replay_objects.specs.declared.Slot.{Slot}
 use Rattle.replay_step.specs.Slots.{slotAt}
 use Rattle.replay_engine.specs.ControlPoints.{controlPointAt}
-use Rattle.replay_theory.specs.Run.{ObjectKind, cells, locks, rwlocks, semaphores, identifiers}
+use Rattle.replay_theory.specs.Run.{ObjectKind, cells, locks, rwlocks, semaphores, identifiers, nextName}
 use Rattle.replay_machine.specs.Control.{openCalls}
 use Rattle.replay_machine.specs.State.{MachineThread}
 use Rattle.replay_machine.specs.Step.{isDone}
@@ -52,10 +52,6 @@ kind-low locks = omega arith
 kind-low semaphores = omega arith
 kind-low rwlocks = omega arith
 
--- how many things there are in all
-abbrev pub allThings : (ObjectKind → ℕ) → ℕ
-allThings things = things identifiers + things cells + things locks + things semaphores + things rwlocks
-
 pub record NamesHeld (s : List ℕ) (names : ℕ → calculus.Slot) (next : ℕ) (things : ObjectKind → ℕ) : Type 0 where
   pub constant : slotAt s 0 .kind ≡ 0
   pub slots : (n : ℕ) → suc n < 322 → SlotIs (slotAt s (suc n)) (names n)
@@ -63,7 +59,7 @@ pub record NamesHeld (s : List ℕ) (names : ℕ → calculus.Slot) (next : ℕ)
   pub nextStored : getD s nextValueAt 0 ≡ suc next
   pub counted : (k : ObjectKind) → getD s (thingCountsAt + kindCode k) 0 ≡ things k
   pub few : (k : ObjectKind) → things k ≤ 64
-  pub all : next ≡ suc (allThings things)
+  pub all : next ≡ nextName things
 
 -- ------------------------------------------------------------------ threads
 

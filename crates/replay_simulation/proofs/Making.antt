@@ -34,8 +34,9 @@ use Rattle.replay_objects.specs.Uses.{slot, madeOf, effectOf}
 use Rattle.replay_step.specs.Slots.{slotAt, slotPut}
 use Rattle.replay_step.specs.Words.{given, withThing, newThing, subject, operand, effected, wordUsed, actedBy, acted}
 use Rattle.replay_engine.specs.Steps.{actStep, afterAct}
-use Rattle.replay_theory.specs.Run.{ObjectKind, cells, locks, rwlocks, semaphores, identifiers, sameKind, oneMore, threadLimit, thingLimit, withinLimits, kindMade}
+use Rattle.replay_theory.specs.Run.{ObjectKind, cells, locks, rwlocks, semaphores, identifiers, sameKind, makes, sameEffect, nextName, oneMoreIf, thingsAfter, threadLimit, thingLimit, withinLimits, kindMade}
 use Rattle.replay_theory.specs.Replay.{checkLimits}
+use Rattle.replay_theory.proofs.Proper.{name-more}
 use Rattle.replay_machine.specs.Environment.{Env}
 use Rattle.replay_machine.specs.Control as machine
 use Rattle.replay_machine.specs.Control.{Frame, at, return}
@@ -46,7 +47,7 @@ use Rattle.replay_simulation.proofs.Held.{noPartWord, NoPartNumber, Row
 use Rattle.replay_simulation.proofs.Advancing.{same-all, RowIn}
 use Rattle.replay_simulation.proofs.Finding.{frames-same, returns-word}
 use Rattle.replay_simulation.proofs.Agreeing.{Agree, rows-same, agree-then, agree-shared}
-use Rattle.replay_simulation.proofs.Holds.{SlotIs, kindCode, kind-low, allThings, NamesHeld, Holds}
+use Rattle.replay_simulation.proofs.Holds.{SlotIs, kindCode, kind-low, NamesHeld, Holds}
 use Rattle.replay_simulation.proofs.Naming.{slot-put-length, put-elsewhere, slot-here, slot-there, slot-agree}
 use Rattle.replay_simulation.proofs.Moving.{Answered, moves, pausing}
 
@@ -66,25 +67,20 @@ kind-at rwlocks = refl
 kind-apart : (l k : ObjectKind) → l ≢ k → kindCode l ≢ kindCode k
 kind-apart l k n e = n (sym (kind-at l) ∙ ap kindAt e ∙ kind-at k)
 
-one-more-all : (k : ObjectKind) (things : ObjectKind → ℕ) → allThings (oneMore k things) ≡ suc (allThings things)
-unfolding oneMore
-one-more-all cells things = omega arith
-one-more-all locks things = omega arith
-one-more-all rwlocks things = omega arith
-one-more-all semaphores things = omega arith
-one-more-all identifiers things = omega arith
+same-kind : {k l : ObjectKind} → makes k ≡ makes l → k ≡ l
+same-kind h = cc
 
-one-more-few : (k : ObjectKind) (things : ObjectKind → ℕ) → ((l : ObjectKind) → things l ≤ 64) → things k < 64 → (l : ObjectKind) → oneMore k things l ≤ 64
-unfolding oneMore
-one-more-few k things few h l = go (sameKind l k)
+one-more-few : (k : ObjectKind) (things : ObjectKind → ℕ) → ((l : ObjectKind) → things l ≤ 64) → things k < 64 → (l : ObjectKind) → thingsAfter (makes k) things l ≤ 64
+unfolding oneMoreIf thingsAfter
+one-more-few k things few h l = go (sameEffect sameKind (makes k) (makes l))
   where
-    go : (d : Dec (l ≡ k)) → choose d (suc (things l)) (things l) ≤ 64
-    go (yes e) = let z = ap things e in omega (arith, z, h)
+    go : (d : Dec (makes k ≡ makes l)) → choose d (suc (things l)) (things l) ≤ 64
+    go (yes e) = let z = ap things (same-kind e) in omega (arith, z, h)
     go (no n) = few l
 
 -- one of a kind too many
-past-limits : (n : ℕ) (k : ObjectKind) (things : ObjectKind → ℕ) → n ≤ 16 → ((l : ObjectKind) → things l ≤ 64) → 64 ≤ things k → withinLimits n (oneMore k things) ≡ false
-unfolding withinLimits threadLimit thingLimit oneMore
+past-limits : (n : ℕ) (k : ObjectKind) (things : ObjectKind → ℕ) → n ≤ 16 → ((l : ObjectKind) → things l ≤ 64) → 64 ≤ things k → withinLimits n (thingsAfter (makes k) things) ≡ false
+unfolding withinLimits threadLimit thingLimit oneMoreIf thingsAfter
 past-limits n cells things h few p = rw (le-leb n 16 h, lt-leb (suc (things cells)) 64 (omega (arith, p)))
 past-limits n locks things h few p = rw (le-leb n 16 h, le-leb (things cells) 64 (few cells), lt-leb (suc (things locks)) 64 (omega (arith, p)))
 past-limits n rwlocks things h few p =
@@ -115,6 +111,7 @@ module _ {s : List ℕ} {names : ℕ → state.Slot} {next : ℕ} {things : Obje
   s₃ = set s₂ nextValueAt (suc next + 1)
 
   next-low : suc next < 322
+  unfolding nextName
   next-low =
       let a = N .all in
       let b = N .few identifiers in
@@ -124,7 +121,7 @@ module _ {s : List ℕ} {names : ℕ → state.Slot} {next : ℕ} {things : Obje
       let f = N .few rwlocks in
       less k room a b c d e f
     where
-      less : (k : ObjectKind) → things k < 64 → next ≡ suc (allThings things) → things identifiers ≤ 64 → things cells ≤ 64 → things locks ≤ 64 → things semaphores ≤ 64 → things rwlocks ≤ 64 → suc next < 322
+      less : (k : ObjectKind) → things k < 64 → next ≡ nextName things → things identifiers ≤ 64 → things cells ≤ 64 → things locks ≤ 64 → things semaphores ≤ 64 → things rwlocks ≤ 64 → suc next < 322
       less identifiers h a b c d e f = omega arith
       less cells h a b c d e f = omega arith
       less locks h a b c d e f = omega arith
@@ -143,32 +140,32 @@ module _ {s : List ℕ} {names : ℕ → state.Slot} {next : ℕ} {things : Obje
   slot-after : (v : ℕ) → slotAt s₃ v ≡ slotAt s₁ v
   slot-after v = slot-set s₂ nextValueAt (suc next + 1) v (omega arith) ∙ slot-set s₁ (thingCountsAt + kindCode k) (things k + 1) v (let l = kind-low k in omega arith)
 
-  pub names-made : NamesHeld s₃ (update names next new) (suc next) (oneMore k things)
-  unfolding oneMore
+  pub names-made : NamesHeld s₃ (update names next new) (suc next) (thingsAfter (makes k) things)
+  unfolding oneMoreIf thingsAfter
   names-made = record {
     constant = ap (λ (y : Slot). y .kind) (slot-after 0 ∙ slot-there s (suc next) x next-low 0 (λ e. omega (arith, e))) ∙ N .constant;
     slots = λ m h. by-name m h (ℕ-discrete m next);
     unused-from = λ m h. update-other names next m new (λ e. omega (arith, e, h)) ∙ N .unused-from m (omega (arith, h));
     nextStored = getD-set-same s₂ nextValueAt (suc next + 1) 0 (omega (arith, long₂)) ∙ (let e : suc next + 1 ≡ suc (suc next) = omega arith in e);
-    counted = λ l. by-kind l (sameKind l k);
+    counted = λ l. by-kind l (sameEffect sameKind (makes k) (makes l));
     few = one-more-few k things (N .few) room;
-    all = (let a = N .all in let b = one-more-all k things in omega (arith, a, b));
+    all = ap suc (N .all) ∙ sym (name-more k things);
   }
     where
       by-name : (m : ℕ) → suc m < 322 → (d : Dec (m ≡ next)) → SlotIs (slotAt s₃ (suc m)) (choose d new (names m))
       by-name m h (yes e) = subst (λ (y : Slot). SlotIs y new) (sym (slot-after (suc m) ∙ ap (λ (j : ℕ). slotAt s₁ (suc j)) e ∙ slot-here s (suc next) x next-low long)) is
       by-name m h (no f) = subst (λ (y : Slot). SlotIs y (names m)) (sym (slot-after (suc m) ∙ slot-there s (suc next) x next-low (suc m) (λ e. f (omega (arith, e))))) (N .slots m h)
 
-      by-kind : (l : ObjectKind) → (d : Dec (l ≡ k)) → getD s₃ (thingCountsAt + kindCode l) 0 ≡ choose d (suc (things l)) (things l)
+      by-kind : (l : ObjectKind) → (d : Dec (makes k ≡ makes l)) → getD s₃ (thingCountsAt + kindCode l) 0 ≡ choose d (suc (things l)) (things l)
       by-kind l (yes e) =
           getD-set-other s₂ nextValueAt (thingCountsAt + kindCode l) (suc next + 1) 0 (λ z. let a = kind-low l in omega (arith, z, a))
-          ∙ ap (λ (m : ObjectKind). getD s₂ (thingCountsAt + kindCode m) 0) e
+          ∙ ap (λ (m : ObjectKind). getD s₂ (thingCountsAt + kindCode m) 0) (sym (same-kind e))
           ∙ getD-set-same s₁ (thingCountsAt + kindCode k) (things k + 1) 0 (let a = kind-low k in omega (arith, a, long₁))
-          ∙ (let z : things k + 1 ≡ suc (things k) = omega arith in z) ∙ ap (λ (m : ObjectKind). suc (things m)) (sym e)
+          ∙ (let z : things k + 1 ≡ suc (things k) = omega arith in z) ∙ ap (λ (m : ObjectKind). suc (things m)) (same-kind e)
       by-kind l (no n) =
           let a = kind-low l in
           getD-set-other s₂ nextValueAt (thingCountsAt + kindCode l) (suc next + 1) 0 (λ z. omega (arith, z, a))
-          ∙ getD-set-other s₁ (thingCountsAt + kindCode k) (thingCountsAt + kindCode l) (things k + 1) 0 (λ z. kind-apart l k n (omega (arith, z)))
+          ∙ getD-set-other s₁ (thingCountsAt + kindCode k) (thingCountsAt + kindCode l) (things k + 1) 0 (λ z. kind-apart l k (λ e. n (ap makes (sym e))) (omega (arith, z)))
           ∙ put-elsewhere s (suc next) x next-low (thingCountsAt + kindCode l) (λ z. omega (arith, z, a)) (λ z. omega (arith, z, a)) (λ z. omega (arith, z, a))
           ∙ N .counted l
 
@@ -191,7 +188,7 @@ module _ (p s : List ℕ) (T : Threads) (R : Replay) (t tid : ℕ) (σ : Env) (K
   M = R .machine
 
   abbrev Created : Replay
-  Created = record { machine = creates M t tid σ K new; things = oneMore k (R .things) }
+  Created = record { machine = creates M t tid σ K new; things = thingsAfter (makes k) (R .things) }
 
   counted-here : getD s (thingCountsAt + x .kind) 0 ≡ R .things k
   counted-here = ap (λ (i : ℕ). getD s (thingCountsAt + i) 0) is-kind ∙ H .names .counted k
@@ -202,7 +199,7 @@ module _ (p s : List ℕ) (T : Threads) (R : Replay) (t tid : ℕ) (σ : Env) (K
       subst (λ (a : Act × List ℕ). Answered p (checkLimits within (some Created)) (afterAct p T t f a)) (sym made-here)
       (moves p after T (M .threads) t tid f
       (pausing p s T R t tid (at σ w K) H there refl after (long₃ (H .names) (H .long) k x new is-kind is room) (λ i h m. agree-made (H .names) (H .long) k x new is-kind is room i h))
-      (M .procedures) (H .bodies) (update (M .names) (M .next) new) (suc (M .next)) (oneMore k (R .things)) (names-made (H .names) (H .long) k x new is-kind is room)
+      (M .procedures) (H .bodies) (update (M .names) (M .next) new) (suc (M .next)) (thingsAfter (makes k) (R .things)) (names-made (H .names) (H .long) k x new is-kind is room)
       (returning row (continuation p j) (suc (M .next))) (return σ (name (M .next)) K)
       (returns-word p t low σ row after (name (M .next)) j (continuation p j) K after
       (record {
@@ -228,7 +225,7 @@ module _ (p s : List ℕ) (T : Threads) (R : Replay) (t tid : ℕ) (σ : Env) (K
   unfolding checkLimits within newThing afterAct actStep
   makes-none full =
       rw (
-        ap (λ (n : ℕ). withinLimits n (oneMore k (R .things))) (length-set (M .threads) t (running tid (return σ (name (M .next)) K))) ∙ past-limits (length (M .threads)) k (R .things) (H .sized .fits) (H .names .few) full,
+        ap (λ (n : ℕ). withinLimits n (thingsAfter (makes k) (R .things))) (length-set (M .threads) t (running tid (return σ (name (M .next)) K))) ∙ past-limits (length (M .threads)) k (R .things) (H .sized .fits) (H .names .few) full,
         counted-here,
         le-leb 64 (R .things k) full,
       )

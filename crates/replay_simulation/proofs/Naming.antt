@@ -18,7 +18,7 @@ use Rattle.replay_control.specs.Layout.{thingCountsAt, nextValueAt, thingKindsA
 use Rattle.replay_objects.specs.declared.Slot.{Slot}
 use Rattle.replay_objects.specs.Uses.{slot}
 use Rattle.replay_step.specs.Slots.{slotAt, slotPut}
-use Rattle.replay_theory.specs.Run.{ObjectKind, cells, locks, rwlocks, semaphores, identifiers}
+use Rattle.replay_theory.specs.Run.{ObjectKind, cells, locks, rwlocks, semaphores, identifiers, nextName}
 use Rattle.replay_simulation.proofs.Held.{codeValue}
 use Rattle.replay_simulation.proofs.Agreeing.{Agree, agree-then, agree-shared}
 use Rattle.replay_simulation.proofs.Holds.{SlotIs, NamesHeld, kindCode, kind-low}
@@ -87,6 +87,7 @@ slot-agree i s v x l =
 
 module _ {s : List ℕ} {names : ℕ → state.Slot} {next : ℕ} {things : ObjectKind → ℕ} (N : NamesHeld s names next things) where
   pub next-small : next ≤ 321
+  unfolding nextName
   next-small =
       let a = N .all in
       let b = N .few identifiers in

@@ -18,7 +18,7 @@ use Rattle.calculus.specs.Expression as calculus
 use Rattle.calculus.specs.Expression.{Value, int, name, read, Redex}
 use Rattle.calculus.specs.State as state
 use Rattle.calculus.specs.State.{unused, identifier, cell, aLock, opened, closed, semaphore, rwlock, readers, writer}
-use Rattle.calculus.specs.Reduction.{_>>=_, _>>_, cellValue}
+use Rattle.calculus.specs.Reduction.{_>>_, cellValue}
 use Rattle.workspace.specs.Layout.{ruleOf, codeOf, touchOf, printed}
 use Rattle.workspace.specs.declared.Touch.{Touch}
 use Rattle.workspace.specs.declared.Touch.the-variants.{Nothing, Reads}
@@ -35,7 +35,8 @@ use Rattle.replay_engine.specs.declared.races.Pair.the-variants as pair
 use Rattle.replay_step.specs.Slots.{slotAt}
 use Rattle.replay_engine.specs.ControlPoints.{controlPointAt}
 use Rattle.replay_engine.specs.Races.{namesCell, accessBy, accessAt, accessOf, reads, writes, clash, partnerOf, partnerFrom, pairWith, pairOf, lowestPair}
-use Rattle.replay_theory.specs.Run.{ofUnary}
+use Rattle.replay_theory.specs.Run.{unaryTraits, traits}
+use Rattle.replay_theory.proofs.Traits.{unary-plain}
 use Rattle.replay_theory.specs.LowestPair as uses
 use Rattle.replay_theory.specs.LowestPair.{Uses, usesOf, ifCell, sameCell, clashing, pairOr, lowestAmong}
 use Rattle.replay_machine.specs.Control as machine
@@ -222,7 +223,7 @@ module _ (p s : List ℕ) (row : ℕ) (names : ℕ → state.Slot) (slot-of : (n
   silent f u e h = subst (λ (a : Access). AccessIs a u) (sym e) h
 
   read-shows : (σ : _) (q : Position) (v : Value) {n : ℕ} → RowOf p q (Unary (partWord read)) n → ShowsUse (readyAt row (q .index) (codeValue v)) (redex σ (machine.unaryWord q read v))
-  unfolding ofUnary usesOf ifCell uses.reads uses.unaryReads uses.writes accessBy namesCell ruleOf printed
+  unfolding unaryTraits traits usesOf ifCell accessBy namesCell ruleOf printed
   read-shows σ q v r =
       subst (λ (a : Access). AccessIs a (usesOf names (some (redex σ (machine.unaryWord q read v))))) (sym (ready-access p s row r (codeValue v))) (by-value v)
     where
@@ -231,7 +232,7 @@ module _ (p s : List ℕ) (row : ℕ) (names : ℕ → state.Slot) (slot-of : (n
       by-value (name m) = reads-cell m (slotAt s (suc m)) (names m) (slot-of m)
 
   write-shows : (σ : _) (q : Position) (v w : Value) {n : ℕ} → RowOf p q (Binary WriteWord) n → kept s row (q .index) ≡ codeValue v → ShowsUse (readyAt row (q .index) (codeValue w)) (redex σ (machine.writeWord q v w))
-  unfolding ofUnary usesOf ifCell uses.reads uses.writes accessBy namesCell ruleOf printed
+  unfolding traits usesOf ifCell accessBy namesCell ruleOf printed
   write-shows σ q v w r held =
       subst (λ (a : Access). AccessIs a (usesOf names (some (redex σ (machine.writeWord q v w))))) (sym (ready-access p s row r (codeValue w))) (rw held (by-value v))
     where
@@ -240,15 +241,15 @@ module _ (p s : List ℕ) (row : ℕ) (names : ℕ → state.Slot) (slot-of : (n
       by-value (name m) = writes-cell m (slotAt s (suc m)) (names m) (slot-of m)
 
   -- any other word with one part
-  part-silent : (σ : _) (q : Position) (o : calculus.Unary) (v : Value) {n : ℕ} → RowOf p q (Unary (partWord o)) n → touched (Unary (partWord o)) ≡ Nothing → ((x : Value) → uses.unaryReads o x ≡ none) →
+  part-silent : (σ : _) (q : Position) (o : calculus.Unary) (v : Value) {n : ℕ} → RowOf p q (Unary (partWord o)) n → touched (Unary (partWord o)) ≡ Nothing → ((x : Value) → unaryTraits o x .reading ≡ none) →
       ShowsUse (readyAt row (q .index) (codeValue v)) (redex σ (machine.unaryWord q o v))
-  unfolding ofUnary usesOf ifCell uses.reads uses.writes uses.unaryReads
+  unfolding traits usesOf ifCell
   part-silent σ q o v r no-touch no-read =
       silent (readyAt row (q .index) (codeValue v)) (usesOf names (some (redex σ (machine.unaryWord q o v)))) (quiet p s row r (codeValue v) no-touch)
-      (ap (λ (z : Option ℕ). z >>= λ n. cellValue (names n) >> some n) (no-read v), refl)
+      (ap (ifCell names) (no-read v), ap (ifCell names) (unary-plain o v .1))
 
   part-shows : (σ : _) (q : Position) (o : calculus.Unary) (v : Value) {n : ℕ} → RowOf p q (Unary (partWord o)) n → ShowsUse (readyAt row (q .index) (codeValue v)) (redex σ (machine.unaryWord q o v))
-  unfolding uses.unaryReads ruleOf printed
+  unfolding unaryTraits ruleOf printed
   part-shows σ q read v r = read-shows σ q v r
   part-shows σ q calculus.join v r = part-silent σ q calculus.join v r refl (λ x. refl)
   part-shows σ q calculus.ref v r = part-silent σ q calculus.ref v r refl (λ x. refl)
@@ -263,7 +264,7 @@ module _ (p s : List ℕ) (row : ℕ) (names : ℕ → state.Slot) (slot-of : (n
   part-shows σ q (calculus.call called) v r = part-silent σ q (calculus.call called) v r refl (λ x. refl)
 
   word-shows : (σ : _) (w : machine.Word) (f : ControlPoint) → WordAt p s row f w → ShowsUse f (redex σ w)
-  unfolding ofUnary usesOf ifCell uses.reads uses.writes accessAt ruleOf printed
+  unfolding traits usesOf ifCell accessAt ruleOf printed
   word-shows σ (machine.letWord q x v e) f (z, r, S) = subst (λ (g : ControlPoint). ShowsUse g (redex σ (machine.letWord q x v e))) (sym z) (silent (readyAt row (q .index) (codeValue v)) (usesBoth none none) (quiet p s row r (codeValue v) refl) (refl, refl))
   word-shows σ (machine.ifWord q e₁ e₂) f (z, n, r, S₁, S₂) = subst (λ (g : ControlPoint). ShowsUse g (redex σ (machine.ifWord q e₁ e₂))) (sym z) (refl, refl)
   word-shows σ (machine.whileWord q e) f (z, n, r, S) = subst (λ (g : ControlPoint). ShowsUse g (redex σ (machine.whileWord q e))) (sym z) (refl, refl)

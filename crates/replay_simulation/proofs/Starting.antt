@@ -23,7 +23,7 @@ use Rattle.replay_control.specs.Control.{rootOf, variable, entering}
 use Rattle.replay_step.specs.Slots.{slotAt}
 use Rattle.replay_engine.specs.Steps.{zeroed, startSpace, startOf}
 use Rattle.replay_engine.proofs.Clearing.{zeroed-length, zeroed-before, zeroed-in}
-use Rattle.replay_theory.specs.Run.{stillOpen}
+use Rattle.replay_theory.specs.Run.{nextName, stillOpen}
 use Rattle.replay_machine.specs.Control.{done, enter, openCalls}
 use Rattle.replay_machine.proofs.Marks.{calls-counted, enter-tells}
 use Rattle.replay_machine.specs.State.{MachineThread, running, startMachine}
@@ -77,6 +77,7 @@ module _ (p s : List ℕ) (long : length s ≡ spaceSize) where
   kind-here = getD-set-other (set s₀ (thingKindsAt + 1) 1) nextValueAt (thingKindsAt + 1) 2 0 (λ e. omega (arith, e)) ∙ getD-set-same s₀ (thingKindsAt + 1) 1 0 (omega (arith, long₀))
 
   names-start : NamesHeld s₁ (update (λ n. unused) 0 identifier) 1 (λ k. 0)
+  unfolding nextName
   names-start = record {
     constant = kind-elsewhere 0 (λ e. omega (arith, e)) (omega arith);
     slots = λ n l. by-name n l (ℕ-discrete n 0);

@@ -37,7 +37,8 @@ use Rattle.replay_engine.specs.ControlPoints.{controlPointAt}
 use Rattle.replay_step.specs.Words.{subject, operand, effected, wordUsed, actedBy, acted}
 use Rattle.replay_engine.specs.Steps.{mayChoose, ending, actStep, afterAct, steppedFrom, stepped}
 use Rattle.replay_theory.specs.Trace.{TraceLine}
-use Rattle.replay_theory.specs.Run.{cells, kindMade, partOfIf, noChoice, partChosen, effect, thingsAfter, unaryEffect}
+use Rattle.replay_theory.specs.Run.{cells, kindMade, partOfIf, noChoice, unaryTraits, traits, partChosen, effect, oneMoreIf, thingsAfter}
+use Rattle.replay_theory.proofs.Traits.{unary-plain}
 use Rattle.replay_theory.specs.Replay.{Outcome, checkLimits}
 use Rattle.replay_machine.specs.Environment.{Env}
 use Rattle.replay_machine.specs.Control as machine
@@ -207,13 +208,13 @@ module _ (p s : List ℕ) (T : Threads) (R : Replay) (t tid : ℕ) (σ : Env) (K
   roomy-value (name n) = roomy n
 
   -- a word with one part that uses what its part names
-  uses : (o : calculus.Unary) → Using o → isIf (shapeOf (ruleOf (codeOf (Unary (partWord o))))) ≡ false → thingsAfter (unaryEffect o) (R .things) ≡ R .things →
+  uses : (o : calculus.Unary) → Using o → isIf (shapeOf (ruleOf (codeOf (Unary (partWord o))))) ≡ false → ((v : Value) → thingsAfter (unaryTraits o v .effect) (R .things) ≡ R .things) →
       (q : Position) (v : Value) (f : ControlPoint) → WordAt p s row f (unaryWord q o v) → Frames p s t row (q .index) (continuation p (q .index)) K → There (unaryWord q o v) → (c : ℕ) → WordLine (unaryWord q o v) f c
-  unfolding partChosen effect
+  unfolding traits
   uses o u h same q v f (e, n, r, N) F there c =
       subst (λ (g : ControlPoint). WordLine (unaryWord q o v) g c) (sym e)
-      (plain p s T R t (redex σ (unaryWord q o v)) (λ part. stepWord M t tid σ K part (unaryWord q o v)) (readyAt row (q .index) (codeValue v)) (λ c. refl) refl (no-if q (Unary (partWord o)) r h)
-      (rw same (part-goes p s T R t tid σ K H low row inside values 0 q F o u v r (roomy-value v) there)) c)
+      (plain p s T R t (redex σ (unaryWord q o v)) (λ part. stepWord M t tid σ K part (unaryWord q o v)) (readyAt row (q .index) (codeValue v)) (λ c. ap (λ (part : ℕ → Option Part). part c) (unary-plain o v .0)) refl (no-if q (Unary (partWord o)) r h)
+      (rw (same v) (part-goes p s T R t tid σ K H low row inside values 0 q F o u v r (roomy-value v) there)) c)
 
   at-if : (q : Position) {v : ℕ} → RowOf p q (Binary If) v → mayChoose p (stoppedAt row (q .index)) 1 ≡ true
   unfolding mayChoose shapeAt isIf ruleOf printed
@@ -231,7 +232,7 @@ module _ (p s : List ℕ) (T : Threads) (R : Replay) (t tid : ℕ) (σ : Env) (K
   maker-no-if (calculus.newrwlock N) = refl
 
   word-goes : (w : machine.Word) (f : ControlPoint) → WordAt p s row f w → Frames p s t row (placeOf p s w) (continuation p (placeOf p s w)) K → There w → (c : ℕ) → WordLine w f c
-  unfolding partChosen effect unaryEffect thingsAfter isIf ruleOf printed
+  unfolding unaryTraits traits oneMoreIf thingsAfter isIf ruleOf printed
   word-goes (letWord q x v e) f (z, r, S) F there c =
       subst (λ (g : ControlPoint). WordLine (letWord q x v e) g c) (sym z)
       (plain p s T R t (redex σ (letWord q x v e)) (λ part. stepWord M t tid σ K part (letWord q x v e)) (readyAt row (q .index) (codeValue v)) (λ c. refl) refl (no-if q (Binary Let) r refl)
@@ -261,15 +262,15 @@ module _ (p s : List ℕ) (T : Threads) (R : Replay) (t tid : ℕ) (σ : Env) (K
       (plain p s T R t (redex σ (unaryWord q ref v)) (λ part. stepWord M t tid σ K part (unaryWord q ref v)) (readyAt row (q .index) (codeValue v)) (λ c. refl) refl (no-if q (Unary Ref) r refl)
       (rw (ref-acts p s row 0 (codeValue v) r)
       (making-goes p s T R t tid σ K H low row inside values (unaryWord q ref v) (readyAt row (q .index) (codeValue v)) (q .index) (r .below) F there cells (slot 2 (codeValue v) 0) (cell v) refl (refl, refl))) c)
-  word-goes (unaryWord q read v) f W F there c = uses read using-read refl refl q v f W F there c
-  word-goes (unaryWord q lock v) f W F there c = uses lock using-lock refl refl q v f W F there c
-  word-goes (unaryWord q unlock v) f W F there c = uses unlock using-unlock refl refl q v f W F there c
-  word-goes (unaryWord q post v) f W F there c = uses post using-post refl refl q v f W F there c
-  word-goes (unaryWord q wait v) f W F there c = uses wait using-wait refl refl q v f W F there c
-  word-goes (unaryWord q (hold rdlock) v) f W F there c = uses (hold rdlock) using-rdlock refl refl q v f W F there c
-  word-goes (unaryWord q (hold rdunlock) v) f W F there c = uses (hold rdunlock) using-rdunlock refl refl q v f W F there c
-  word-goes (unaryWord q (hold wrlock) v) f W F there c = uses (hold wrlock) using-wrlock refl refl q v f W F there c
-  word-goes (unaryWord q (hold wrunlock) v) f W F there c = uses (hold wrunlock) using-wrunlock refl refl q v f W F there c
+  word-goes (unaryWord q read v) f W F there c = uses read using-read refl (λ v. refl) q v f W F there c
+  word-goes (unaryWord q lock v) f W F there c = uses lock using-lock refl (λ v. refl) q v f W F there c
+  word-goes (unaryWord q unlock v) f W F there c = uses unlock using-unlock refl (λ v. refl) q v f W F there c
+  word-goes (unaryWord q post v) f W F there c = uses post using-post refl (λ v. refl) q v f W F there c
+  word-goes (unaryWord q wait v) f W F there c = uses wait using-wait refl (λ v. refl) q v f W F there c
+  word-goes (unaryWord q (hold rdlock) v) f W F there c = uses (hold rdlock) using-rdlock refl (λ v. refl) q v f W F there c
+  word-goes (unaryWord q (hold rdunlock) v) f W F there c = uses (hold rdunlock) using-rdunlock refl (λ v. refl) q v f W F there c
+  word-goes (unaryWord q (hold wrlock) v) f W F there c = uses (hold wrlock) using-wrlock refl (λ v. refl) q v f W F there c
+  word-goes (unaryWord q (hold wrunlock) v) f W F there c = uses (hold wrunlock) using-wrunlock refl (λ v. refl) q v f W F there c
   word-goes (unaryWord q (call g) v) f (z, n, r, N) F there c =
       subst (λ (h : ControlPoint). WordLine (unaryWord q (call g) v) h c) (sym z)
       (plain p s T R t (redex σ (unaryWord q (call g) v)) (λ part. stepWord M t tid σ K part (unaryWord q (call g) v)) (readyAt row (q .index) (codeValue v)) (λ c. refl) refl (no-if q (Unary Call) r refl)

@@ -16,7 +16,8 @@ use Rattle.lexer.specs.Numbers.{stored}
 use Rattle.threads.specs.declared.Threads.{Threads}
 use Rattle.replay_engine.specs.Steps as engine
 use Rattle.replay_theory.specs.Trace.{TraceLine}
-use Rattle.replay_theory.specs.Run.{partOfIf, noChoice, partChosen, effect, thingsAfter}
+use Rattle.replay_theory.specs.Run.{partOfIf, noChoice, traits, partChosen, effect, thingsAfter}
+use Rattle.replay_theory.proofs.Traits.{unary-plain}
 use Rattle.replay_theory.specs.Replay.{checkLimits}
 use Rattle.replay_machine.specs.Step.{step}
 use Rattle.replay_machine.specs.Replay.{Replay, wordOf, stepped, within}
@@ -38,7 +39,7 @@ stored-cases {A} f n past = by-size (leb n 4294967295) refl
     by-size false e = past (let l = leb-false n 4294967295 e in omega arith)
 
 part-past : (w : Redex) (c : ℕ) → 1 < c → partChosen w c ≡ none
-unfolding partChosen partOfIf noChoice
+unfolding partOfIf noChoice traits
 part-past w zero l = absurd (omega arith)
 part-past w (suc zero) l = absurd (omega arith)
 part-past (letRedex x v e) (suc (suc c)) l = refl
@@ -46,7 +47,7 @@ part-past (ifRedex e₁ e₂) (suc (suc c)) l = refl
 part-past (whileRedex e) (suc (suc c)) l = refl
 part-past (spawnRedex v e) (suc (suc c)) l = refl
 part-past (writeRedex v w) (suc (suc c)) l = refl
-part-past (unaryRedex o v) (suc (suc c)) l = refl
+part-past (unaryRedex o v) (suc (suc c)) l = ap (λ (part : ℕ → Option Part). part (suc (suc c))) (unary-plain o v .0)
 part-past (nullaryRedex o) (suc (suc c)) l = refl
 
 part-stored : (w : Redex) (c : ℕ) → partChosen w (stored c) ≡ partChosen w c

@@ -7,7 +7,7 @@ use lib.ListN.{length, replicate}
 use Rattle.calculus.specs.Expression.{int, name, value, ref, call, newtid, newlock, newsem, newrwlock, nullary, Redex, spawnRedex, unaryRedex, nullaryRedex}
 use Rattle.calculus.specs.Reduction.{startState}
 use Rattle.replay_theory.specs.Paths.{partAt}
-use Rattle.replay_theory.specs.Run.{ObjectKind, cells, locks, rwlocks, semaphores, identifiers, Run, startRun, placeOf, hasFinished, isOpen, makes, unaryEffect, effect, threadLimit, thingLimit, callLimit}
+use Rattle.replay_theory.specs.Run.{ObjectKind, cells, locks, rwlocks, semaphores, identifiers, Run, startRun, placeOf, hasFinished, isOpen, makes, unaryTraits, traits, oneMoreIf, threadLimit, thingLimit, callLimit}
 use Rattle.replay_theory.specs.Claim.{Reduced, partIn, openThrough, takesCall, openCallsOf, howMany, Within}
 
 -- Thread 0 reduces that word so many times.
@@ -38,7 +38,7 @@ staying n = replicate n (startRun (record { procedures = []; root = nullary newt
 
 -- 15 threads beside the start are within the limit, a 16th is not.
 pub threads-at-limit : Within [] (spawning 15) × (¬ Within [] (spawning 16))
-unfolding spawning steps howMany openCallsOf effect threadLimit thingLimit callLimit
+unfolding spawning steps howMany openCallsOf traits oneMoreIf threadLimit thingLimit callLimit
 threads-at-limit = (
   record { threads = omega arith; things = λ k. let none-made = nothing k in omega (arith, none-made); calls = λ i. omega arith },
   λ W. let many = W .threads in omega (arith, many),
@@ -53,7 +53,7 @@ threads-at-limit = (
 
 -- 64 things of every kind are within the limit: each kind is counted by itself. 65 of one kind are not.
 pub things-at-limit : Within [] (making 64) × ((k : ObjectKind) → ¬ Within [] (steps 65 (made k)))
-unfolding making made steps howMany openCallsOf effect unaryEffect threadLimit thingLimit callLimit
+unfolding making made steps howMany openCallsOf unaryTraits traits oneMoreIf threadLimit thingLimit callLimit
 things-at-limit = (
   record { threads = omega arith; things = λ k. let made-of = by-itself k in omega (arith, made-of); calls = λ i. omega arith },
   λ k W. let many = W .things k in let made-of = one-past k in omega (arith, many, made-of),
@@ -75,5 +75,5 @@ things-at-limit = (
 
 -- 64 open calls are within the limit, a 65th is not.
 pub calls-at-limit : (length (openCallsOf 0 (calling 64) (staying 64)) ≡ callLimit) × (¬ Within (staying 65) (calling 65))
-unfolding calling staying steps howMany openCallsOf openThrough takesCall partIn isOpen hasFinished placeOf partAt startRun startState effect unaryEffect callLimit
+unfolding calling staying steps howMany openCallsOf openThrough takesCall partIn isOpen hasFinished placeOf partAt startRun startState unaryTraits traits oneMoreIf callLimit
 calls-at-limit = (refl, λ W. let many = W .calls 0 in omega (arith, many))

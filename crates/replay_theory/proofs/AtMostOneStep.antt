@@ -13,7 +13,7 @@ use Rattle.calculus.specs.Reduction.{wordOf, reduct, reduce}
 use Rattle.calculus.proofs.Laws.Maps.{some-injective, none-is-not-some, bind-goes-on}
 use Rattle.replay_theory.specs.Trace.{TraceLine}
 use Rattle.replay_theory.specs.Paths.{nextPath}
-use Rattle.replay_theory.specs.Run.{ObjectKind, cells, Run, placeOf, partChosen, Effect, plain, spawns, joins, opens, makes, unaryEffect, kindMade, effect, numbersAfter, threadsAfter}
+use Rattle.replay_theory.specs.Run.{ObjectKind, cells, Run, placeOf, partChosen, Effect, plain, spawns, joins, opens, makes, unaryTraits, kindMade, traits, effect, entriesAfter, numbersAfter, oneMoreIf}
 use Rattle.replay_theory.specs.Claim.{Numbered, LowestFinished, Reduced, LanguageStep}
 use Rattle.replay_theory.specs.Exact.{Apart, OneLowest, Alike}
 use Rattle.replay_theory.proofs.Effects.{another}
@@ -54,8 +54,8 @@ rising-apart low high ns rising p q i h k = by-order (decLt p q) (decLt q p)
     by-order (no b) (yes c) = let less = rising-order low high ns q p i i rising c k h in absurd (omega (arith, less))
     by-order (no b) (no c) = omega (arith, b, c)
 
-rises-after : (r : Run) (m : Move) (e : Effect) → Rising 0 (r .numbers) (r .threads) → Rising 0 (numbersAfter r m e) (threadsAfter e (r .threads))
-unfolding numbersAfter threadsAfter
+rises-after : (r : Run) (m : Move) (e : Effect) → Rising 0 (r .numbers) (r .threads) → Rising 0 (numbersAfter r m e) (oneMoreIf spawns e (r .threads))
+unfolding entriesAfter oneMoreIf
 rises-after r m plain rising = rising
 rises-after r m spawns rising = rising-append 0 (r .threads) (r .numbers) rising
 rises-after r m joins rising = rising-remove 0 (r .threads) (r .numbers) (m .finished) rising
@@ -65,7 +65,7 @@ rises-after r m (makes k) rising = rising
 pub step-rises : {r r′ : Run} {l : TraceLine} {d : Reduced} → LanguageStep r l d r′ → Rising 0 (r .numbers) (r .threads) → Rising 0 (r′ .numbers) (r′ .threads)
 step-rises {r} {r′} {d = d} A rising =
     subst (Rising 0 (r′ .numbers)) (sym (A .counted))
-    (subst (λ (ns : List ℕ). Rising 0 ns (threadsAfter (effect (d .word)) (r .threads))) (sym (A .numbered)) (rises-after r (A .move) (effect (d .word)) rising))
+    (subst (λ (ns : List ℕ). Rising 0 ns (oneMoreIf spawns (effect (d .word)) (r .threads))) (sym (A .numbered)) (rises-after r (A .move) (effect (d .word)) rising))
 
 -- ---- What a word looks at in a move
 
@@ -75,9 +75,9 @@ listing m f n = record { thread = m .thread; part = m .part; finished = f; fresh
 
 -- A join alone looks at the finished thread, a word that makes something alone at the name.
 module _ (P : List Procedure) (s : State) (m : Move) (t : Thread) (f n : ℕ) where
-  unary-looks : (o : Unary) (v : Value) → (unaryEffect o ≡ joins → m .finished ≡ f) → ((k : ObjectKind) → unaryEffect o ≡ makes k → m .fresh ≡ n) →
+  unary-looks : (o : Unary) (v : Value) → (unaryTraits o v .effect ≡ joins → m .finished ≡ f) → ((k : ObjectKind) → unaryTraits o v .effect ≡ makes k → m .fresh ≡ n) →
       reduct P s m t (unaryRedex o v) ≡ reduct P s (listing m f n) t (unaryRedex o v)
-  unfolding unaryEffect
+  unfolding unaryTraits
   unary-looks join v same named = ap (λ (x : ℕ). reduct P s (listing m x n) t (unaryRedex join v)) (same refl)
   unary-looks ref v same named = ap (λ (x : ℕ). reduct P s (listing m f x) t (unaryRedex ref v)) (named cells refl)
   unary-looks read v same named = refl
@@ -90,7 +90,7 @@ module _ (P : List Procedure) (s : State) (m : Move) (t : Thread) (f n : ℕ) wh
 
   looks : (w : Redex) → (effect w ≡ joins → m .finished ≡ f) → ((k : ObjectKind) → effect w ≡ makes k → m .fresh ≡ n) →
       reduct P s m t w ≡ reduct P s (listing m f n) t w
-  unfolding effect
+  unfolding traits
   looks (letRedex x v e) same named = refl
   looks (ifRedex e₁ e₂) same named = refl
   looks (whileRedex e) same named = refl
@@ -100,9 +100,9 @@ module _ (P : List Procedure) (s : State) (m : Move) (t : Thread) (f n : ℕ) wh
   looks (nullaryRedex o) same named = ap (λ (x : ℕ). reduct P s (listing m f x) t (nullaryRedex o)) (named (kindMade o) refl)
 
   -- A join that reduces is of a name.
-  unary-name : {s′ : State} (o : Unary) (v : Value) → unaryEffect o ≡ joins → reduct P s m t (unaryRedex o v) ≡ some s′ →
+  unary-name : {s′ : State} (o : Unary) (v : Value) → unaryTraits o v .effect ≡ joins → reduct P s m t (unaryRedex o v) ≡ some s′ →
       (i : ℕ) × (unaryRedex o v ≡ unaryRedex join (name i))
-  unfolding unaryEffect
+  unfolding unaryTraits
   unary-name join (int k) is q = none-is-not-some q
   unary-name join (name i) is q = (i, refl)
   unary-name ref v is q = another (makes cells) joins refl is
@@ -115,7 +115,7 @@ module _ (P : List Procedure) (s : State) (m : Move) (t : Thread) (f n : ℕ) wh
   unary-name (call g) v is q = another opens joins refl is
 
   joins-name : {s′ : State} (w : Redex) → effect w ≡ joins → reduct P s m t w ≡ some s′ → (i : ℕ) × (w ≡ unaryRedex join (name i))
-  unfolding effect
+  unfolding traits
   joins-name (letRedex x v e) is q = another plain joins refl is
   joins-name (ifRedex e₁ e₂) is q = another plain joins refl is
   joins-name (whileRedex e) is q = another plain joins refl is
@@ -125,7 +125,7 @@ module _ (P : List Procedure) (s : State) (m : Move) (t : Thread) (f n : ℕ) wh
   joins-name (nullaryRedex o) is q = another (makes (kindMade o)) joins refl is
 
 numbers-alike : {r s : Run} (m k : Move) (e : Effect) → Alike r s → (e ≡ joins → m .finished ≡ k .finished) → numbersAfter r m e ≡ numbersAfter s k e
-unfolding numbersAfter
+unfolding entriesAfter
 numbers-alike m k plain E same = E .numbers
 numbers-alike m k spawns E same = λ z. E .numbers z ++ (E .threads z ∷ [])
 numbers-alike m k joins E same = λ z. remove (E .numbers z) (same refl z)
@@ -183,5 +183,5 @@ module _ {r s r′ s′ : Run} {l l′ : TraceLine} {d e : Reduced} (E : Alike r
           ∙ word-reduces B);
       numbers = A .numbered ∙ numbers-alike (A .move) (B .move) (effect (d .word)) E one-finished
           ∙ ap (λ (w : Redex). numbersAfter s (B .move) (effect w)) one-word ∙ sym (B .numbered);
-      threads = A .counted ∙ (λ z. threadsAfter (effect (one-word z)) (E .threads z)) ∙ sym (B .counted);
+      threads = A .counted ∙ (λ z. oneMoreIf spawns (effect (one-word z)) (E .threads z)) ∙ sym (B .counted);
     }

@@ -10,7 +10,7 @@ use Rattle.calculus.specs.Expression.{Value, name, Exp, value, Unary, join, ref
 use Rattle.calculus.specs.State.{Slot, unused, rwlock, Thread, State, Move, update, remove}
 use Rattle.calculus.specs.Reduction.{nameOf, ifUnused, ifIdentifier, cellValue, lockState, ifOpened, count, oneLess, rwState, insideAfter, ifEqual, valueOf, zeroExp, becomes, unaryReduct, reduct}
 use Rattle.calculus.proofs.Laws.Maps.{some-injective, none-is-not-some, bind-is-some, update-other}
-use Rattle.replay_theory.specs.Run.{ObjectKind, cells, Effect, plain, spawns, joins, opens, makes, unaryEffect, kindMade, effect}
+use Rattle.replay_theory.specs.Run.{ObjectKind, cells, Effect, plain, spawns, joins, opens, makes, unaryTraits, kindMade, traits, effect}
 
 -- Every unused name stays unused.
 abbrev pub StaysUnused : (ℕ → Slot) → (ℕ → Slot) → Type 0
@@ -50,8 +50,8 @@ module _ (P : List Procedure) (s : State) (m : Move) (t : Thread) where
       Changed s m t plain s′
   one-name n slot used q = told (becomes s m t (update (s .names) n slot) zeroExp) _ (goes _ zeroExp (used-updated (s .names) n slot used)) q
 
-  unary-changes : (o : Unary) (v : Value) (s′ : State) → unaryReduct P s m t o v ≡ some s′ → Changed s m t (unaryEffect o) s′
-  unfolding unaryEffect
+  unary-changes : (o : Unary) (v : Value) (s′ : State) → unaryReduct P s m t o v ≡ some s′ → Changed s m t (unaryTraits o v .effect) s′
+  unfolding unaryTraits
   unary-changes join v s′ q =
       let (n, _, q₁) = bind-is-some (nameOf v) q in
       let (_, _, q₂) = bind-is-some (ifIdentifier (s .names n)) q₁ in
@@ -90,7 +90,7 @@ module _ (P : List Procedure) (s : State) (m : Move) (t : Thread) where
   unary-changes (call f) v s′ q = let (p, _, q₁) = bind-is-some (getElem? P f) q in told _ s′ (called (substitute (p .parameter) v (p .body))) q₁
 
   pub reduct-changes : (w : Redex) (s′ : State) → reduct P s m t w ≡ some s′ → Changed s m t (effect w) s′
-  unfolding effect
+  unfolding traits
   reduct-changes (letRedex x v e) s′ q = same-names _ q
   reduct-changes (ifRedex e₁ e₂) s′ q = same-names _ q
   reduct-changes (whileRedex e) s′ q = same-names _ q

@@ -14,7 +14,7 @@ use Rattle.calculus.proofs.Laws.Maps.{some-injective, none-is-not-some, bind-is
 use Rattle.calculus.proofs.Laws.Questions.{equal-sound, equal-complete, word-tells}
 use Rattle.replay_theory.specs.Trace.{TraceLine}
 use Rattle.replay_theory.specs.Paths.{nextPath}
-use Rattle.replay_theory.specs.Run.{Run, placeOf, partChosen, lowestFinished, finishedFor, nameIn, moveOf, ofUnary, after, stepped}
+use Rattle.replay_theory.specs.Run.{Run, placeOf, partChosen, lowestFinished, finishedFor, nextName, unaryTraits, traits, moveOf, after, stepped}
 use Rattle.replay_theory.specs.Claim.{MoveOf, LowestFinished, Reduced, LanguageStep, NoStepOf}
 use Rattle.replay_theory.proofs.Lists.{there-in-both}
 use Rattle.replay_theory.proofs.Proper.{Proper, Stepped, step-taken, state-after, procedures-after, step-reduces}
@@ -39,10 +39,10 @@ module _ (r : Run) (proper : Proper r) (m : Move) (t : Thread) where
 
   names-next : (w : Redex) (new : Slot) → (s : State) × (named (r .state) (listed w) t new ≡ some s)
   unfolding moveOf
-  names-next w new = (_, answered (ifUnused (r .state .names (r .next))) _ (unused-is-free _ (proper .unused-from (r .next) (omega arith))) refl)
+  names-next w new = (_, answered (ifUnused (r .state .names (nextName (r .things)))) _ (unused-is-free _ (proper .unused-from (nextName (r .things)) (omega arith))) refl)
 
   joins-lowest : (n : ℕ) {one : Unit {0}} → ifIdentifier (r .state .names n) ≡ some one → FirstFinished n (r .state .threads) → Goes (unaryRedex join (name n))
-  unfolding moveOf finishedFor nameIn ofUnary
+  unfolding moveOf finishedFor traits unaryTraits
   joins-lowest n e L =
       let (v, value) = finished-has-value (nextWord (L .thread .body)) (L .has-finished) in (
         _,
@@ -116,8 +116,8 @@ module _ {r r′ : Run} {l : TraceLine} (S : Stepped r l r′) where
       first-is-there n (r .state .threads) (m .finished) u there (equal-sound (u .tid) n same) (value-has-finished (nextWord (u .body)) finished)
 
   join-lists : (n : ℕ) → S .word ≡ unaryRedex join (name n) → moveOf r (S .place) (S .word) (S .part) .finished ≡ lowestFinished n (r .state .threads)
-  unfolding moveOf finishedFor nameIn ofUnary
-  join-lists n is = ap (λ (w : Redex). finishedFor (nameIn w) (r .state .threads)) is
+  unfolding moveOf finishedFor traits unaryTraits
+  join-lists n is = ap (λ (w : Redex). finishedFor (traits w .joining) (r .state .threads)) is
 
   lowest-taken : Proper r → (n : ℕ) → S .word ≡ unaryRedex join (name n) → LowestFinished r n (moveOf r (S .place) (S .word) (S .part) .finished)
   lowest-taken proper n is =

@@ -10,7 +10,7 @@ use Rattle.calculus.specs.Reduction.{_>>=_, wordOf, becomes, reduct, reduce}
 use Rattle.calculus.specs.Claim.{ThreadAt}
 use Rattle.calculus.proofs.Laws.Maps.{some-injective, bind-is-some, bind-goes-on}
 use Rattle.replay_theory.specs.Paths.{nextPath, partAt}
-use Rattle.replay_theory.specs.Run.{Run, placeOf, hasFinished, recordFor, recordOf, unaryEffect, effect, numbersAfter}
+use Rattle.replay_theory.specs.Run.{Run, placeOf, hasFinished, recordFor, recordOf, unaryTraits, traits, effect, entriesAfter, numbersAfter}
 use Rattle.replay_theory.specs.Claim.{partIn}
 use Rattle.replay_theory.specs.declared.Status.the-variants.{Running}
 use Rattle.replay_theory.proofs.Lists.{set-here}
@@ -27,7 +27,7 @@ module _ (r : Run) (i : ℕ) (m : Move) (t : Thread) (w : Redex) (place : placeO
   pub body-implied : (r′ : Run) (f : ℕ) (v : Value) (p : Procedure) → reduce (r .procedures) (r .state) m ≡ some (r′ .state) →
       r′ .numbers ≡ numbersAfter r m (effect w) → w ≡ unaryRedex (call f) v → getElem? (r .procedures) f ≡ some p →
       partIn r′ i (nextPath (t .body)) ≡ some (substitute (p .parameter) v (p .body))
-  unfolding reduce partIn numbersAfter effect unaryEffect
+  unfolding reduce partIn unaryTraits traits entriesAfter
   body-implied r′ f v p reduces numbered is called =
       let body = substitute (p .parameter) v (p .body) in
       let moved : Thread = record { tid = t .tid; body = plug (t .body) body } in

@@ -8,6 +8,7 @@ pub mod Implied
 pub mod Records
 pub mod Joining
 pub mod Complete
+pub mod Traits
 pub mod Races
 pub mod Lowest
 pub mod Pairs

@@ -13,7 +13,7 @@ use Rattle.calculus.specs.Expression.{choose, Program}
 use Rattle.calculus.specs.Reduction.{startState}
 use Rattle.replay_theory.specs.Trace.{TraceLine}
 use Rattle.replay_theory.specs.Paths.{Path}
-use Rattle.replay_theory.specs.Run.{ObjectKind, cells, locks, rwlocks, semaphores, identifiers, sameKind, Run, startRun, Effect, plain, spawns, joins, opens, makes, sameEffect, effect, threadsAfter, oneMore, thingsAfter, after, threadLimit, thingLimit, withinLimits, callLimit, callsWithin, within}
+use Rattle.replay_theory.specs.Run.{ObjectKind, cells, locks, rwlocks, semaphores, identifiers, sameKind, Run, startRun, Effect, spawns, makes, sameEffect, effect, oneMoreIf, thingsAfter, after, threadLimit, thingLimit, withinLimits, callLimit, callsWithin, within}
 use Rattle.replay_theory.specs.Claim.{Reduced, openCallsOf, howMany, Within}
 use Rattle.replay_theory.proofs.Proper.{Proper, Stepped}
 use Rattle.replay_theory.proofs.Complete.{reduced}
@@ -23,44 +23,22 @@ use Rattle.replay_theory.proofs.OpenCalls.{step-keeps-open}
 
 -- ---- One step more
 
-counted : Effect → Effect → ℕ
-counted e f = choose (sameEffect sameKind f e) 1 0
+one-more-adds : (c e : Effect) (n : ℕ) → oneMoreIf c e n ≡ n + oneMoreIf c e 0
+unfolding oneMoreIf
+one-more-adds c e n = by-cases (sameEffect sameKind e c)
+  where
+    by-cases : (same : Dec (e ≡ c)) → choose same (suc n) n ≡ n + choose same 1 0
+    by-cases (yes p) = omega arith
+    by-cases (no p) = omega arith
 
-how-many-more : (e : Effect) (ds : List Reduced) (d : Reduced) → howMany e (ds ++ (d ∷ [])) ≡ howMany e ds + counted e (effect (d .word))
-unfolding howMany counted
+how-many-more : (e : Effect) (ds : List Reduced) (d : Reduced) → howMany e (ds ++ (d ∷ [])) ≡ howMany e ds + oneMoreIf e (effect (d .word)) 0
+unfolding howMany
 how-many-more e [] d = omega arith
-how-many-more e (c ∷ ds) d = by-cases (sameEffect sameKind (effect (c .word)) e) (how-many-more e ds d)
-  where
-    by-cases : (same : Dec (effect (c .word) ≡ e)) → howMany e (ds ++ (d ∷ [])) ≡ howMany e ds + counted e (effect (d .word)) →
-        choose same (suc (howMany e (ds ++ (d ∷ [])))) (howMany e (ds ++ (d ∷ [])))
-        ≡ choose same (suc (howMany e ds)) (howMany e ds) + counted e (effect (d .word))
-    by-cases (yes p) later = omega (arith, later)
-    by-cases (no p) later = later
-
-threads-more : (f : Effect) (n : ℕ) → threadsAfter f n ≡ n + counted spawns f
-unfolding threadsAfter counted
-threads-more plain n = omega arith
-threads-more spawns n = omega arith
-threads-more joins n = omega arith
-threads-more opens n = omega arith
-threads-more (makes k) n = omega arith
-
-makes-injective : {k l : ObjectKind} → makes k ≡ makes l → k ≡ l
-makes-injective h = cc
-
-things-more : (f : Effect) (things : ObjectKind → ℕ) (k : ObjectKind) → thingsAfter f things k ≡ things k + counted (makes k) f
-unfolding thingsAfter counted oneMore
-things-more plain things k = omega arith
-things-more spawns things k = omega arith
-things-more joins things k = omega arith
-things-more opens things k = omega arith
-things-more (makes l) things k = by-cases (sameKind k l) (sameEffect sameKind (makes l) (makes k))
-  where
-    by-cases : (d : Dec (k ≡ l)) (d′ : Dec (makes l ≡ makes k)) → choose d (suc (things k)) (things k) ≡ things k + choose d′ 1 0
-    by-cases (yes p) (yes q) = omega arith
-    by-cases (yes p) (no q) = absurd (q (ap makes (sym p)))
-    by-cases (no p) (yes q) = absurd (p (sym (makes-injective q)))
-    by-cases (no p) (no q) = omega arith
+how-many-more e (c ∷ ds) d =
+    let later = how-many-more e ds d in
+    let with-last = one-more-adds e (effect (c .word)) (howMany e (ds ++ (d ∷ []))) in
+    let without = one-more-adds e (effect (c .word)) (howMany e ds) in
+    omega (arith, later, with-last, without)
 
 -- ---- The books of a run
 
@@ -77,16 +55,16 @@ start-booked p = record { counted = refl; threads = refl; things = λ k. refl; c
 
 pub step-booked : {r r′ : Run} {l : TraceLine} (rs : List Run) (ds : List Reduced) (S : Stepped r l r′) → Proper r → Booked rs ds r →
     Booked (rs ++ (r′ ∷ [])) (ds ++ (reduced S ∷ [])) r′
-unfolding after
+unfolding after thingsAfter
 step-booked {r} {r′} rs ds S proper B = record {
   counted = length-append rs r′ ∙ ap suc (B .counted) ∙ ap suc (sym (length-append ds (reduced S)));
   threads =
-      let more = threads-more (effect (S .word)) (r .threads) in
+      let more = one-more-adds spawns (effect (S .word)) (r .threads) in
       let now-many = how-many-more spawns ds (reduced S) in
       let before = B .threads in
       sym (ap (λ (z : Run). z .threads) (S .is-after)) ∙ omega (arith, more, now-many, before);
   things = λ k.
-      let more = things-more (effect (S .word)) (r .things) k in
+      let more = one-more-adds (makes k) (effect (S .word)) (r .things k) in
       let now-many = how-many-more (makes k) ds (reduced S) in
       let before = B .things k in
       sym (ap (λ (z : Run). z .things k) (S .is-after)) ∙ omega (arith, more, now-many, before);

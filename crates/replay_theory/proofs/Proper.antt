@@ -1,4 +1,4 @@
--- What every run on the way keeps: a number and a list of calls for each thread, the numbers rising; and no name used from `next` on. So a
+-- What every run on the way keeps: a number and a list of calls for each thread, the numbers rising; and no name used from the next on. So a
 -- run's books are right.
 use Prim.Native.Nat.{ℕ, zero, suc, _≤_, _+_}
 use mathlib.Core.Path.{_≡_, refl, sym, _∙_, ap, subst}
@@ -12,7 +12,7 @@ use Rattle.calculus.specs.Reduction.{wordOf, reduct, reduce, startState}
 use Rattle.calculus.proofs.Laws.Maps.{some-injective, bind-is-some, bind-goes-on, update-other}
 use Rattle.replay_theory.specs.Trace.{TraceLine}
 use Rattle.replay_theory.specs.Paths.{Path, nextPath}
-use Rattle.replay_theory.specs.Run.{Run, startRun, placeOf, partChosen, moveOf, recordCall, openCalls, Effect, effect, numbersAfter, threadsAfter, callsAfter, nextAfter, after, stepped}
+use Rattle.replay_theory.specs.Run.{ObjectKind, cells, locks, rwlocks, semaphores, identifiers, Run, startRun, placeOf, partChosen, nextName, moveOf, recordCall, openCalls, Effect, makes, effect, entriesAfter, callsAfter, oneMoreIf, thingsAfter, after, stepped}
 use Rattle.replay_theory.proofs.Lists.{length-set, length-append, length-remove}
 use Rattle.replay_theory.proofs.Changes.{movedTo, Changed, goes, called, made, spawned, joined, reduct-changes}
 
@@ -93,16 +93,26 @@ rising-remove low high [] i r = r
 rising-remove low high (n ∷ ns) zero r = let first = r .0 in rising-from (suc n) low high ns (omega (arith, first)) (r .1)
 rising-remove low high (n ∷ ns) (suc i) r = (r .0, rising-remove (suc n) high ns i (r .1))
 
+-- ---- Names in turn
+
+pub name-more : (k : ObjectKind) (things : ObjectKind → ℕ) → nextName (thingsAfter (makes k) things) ≡ suc (nextName things)
+unfolding nextName oneMoreIf thingsAfter
+name-more cells things = omega arith
+name-more locks things = omega arith
+name-more rwlocks things = omega arith
+name-more semaphores things = omega arith
+name-more identifiers things = omega arith
+
 -- ---- Proper runs
 
 pub record Proper (r : Run) : Type 0 where
-  pub unused-from : (n : ℕ) → r .next ≤ n → r .state .names n ≡ unused
+  pub unused-from : (n : ℕ) → nextName (r .things) ≤ n → r .state .names n ≡ unused
   pub counted : length (r .numbers) ≡ length (r .state .threads)
   pub all-called : length (r .calls) ≡ length (r .state .threads)
   pub rising : Rising 0 (r .numbers) (r .threads)
 
 pub start-is-proper : (p : Program) → Proper (startRun p)
-unfolding startRun startState
+unfolding startRun startState nextName
 start-is-proper p = record {
   unused-from = λ n h. update-other (λ k. unused) 0 n identifier (λ q. omega (arith, h, q));
   counted = refl;
@@ -124,7 +134,7 @@ taken-counted p q [] = refl
 taken-counted zero q (ps ∷ calls) = refl
 taken-counted (suc p) q (ps ∷ calls) = ap suc (taken-counted p q calls)
 
-module _ (r : Run) (proper : Proper r) (m : Move) (q : Path) (fresh : m .fresh ≡ r .next) (u : Thread) where
+module _ (r : Run) (proper : Proper r) (m : Move) (q : Path) (fresh : m .fresh ≡ nextName (r .things)) (u : Thread) where
   set-counted : (t : Thread) → length (r .numbers) ≡ length (set (r .state .threads) (m .thread) t)
   set-counted t = proper .counted ∙ sym (length-set (r .state .threads) (m .thread) t)
 
@@ -132,7 +142,7 @@ module _ (r : Run) (proper : Proper r) (m : Move) (q : Path) (fresh : m .fresh �
   set-called t = proper .all-called ∙ sym (length-set (r .state .threads) (m .thread) t)
 
   change-keeps-proper : {e : Effect} {s : State} → Changed (r .state) m u e s → Proper (after r m q e s)
-  unfolding after numbersAfter threadsAfter callsAfter nextAfter
+  unfolding after entriesAfter callsAfter oneMoreIf thingsAfter
   change-keeps-proper (goes names b stays) = let t = movedTo u b in record {
     unused-from = λ n h. stays n (proper .unused-from n h);
     counted = set-counted t;
@@ -146,7 +156,9 @@ module _ (r : Run) (proper : Proper r) (m : Move) (q : Path) (fresh : m .fresh �
     rising = proper .rising;
   }
   change-keeps-proper (made k new b) = let t = movedTo u b in record {
-    unused-from = λ n h. update-other (r .state .names) (m .fresh) n new (λ q. omega (arith, h, q, fresh)) ∙ proper .unused-from n (omega (arith, h));
+    unused-from = λ n h.
+        let more = name-more k (r .things) in
+        update-other (r .state .names) (m .fresh) n new (λ q. omega (arith, h, q, fresh, more)) ∙ proper .unused-from n (omega (arith, h, more));
     counted = set-counted t;
     all-called = open-counted (set (r .state .threads) (m .thread) t) (r .calls) (set-called t);
     rising = proper .rising;

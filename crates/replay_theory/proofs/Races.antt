@@ -12,9 +12,10 @@ use Rattle.calculus.specs.Reduction.{_>>=_, nameOf, cellValue, wordOf}
 use Rattle.calculus.specs.Claim.{ThreadAt, AboutToRead, aboutToRead, AboutToWrite, aboutToWrite, Race, race}
 use Rattle.calculus.proofs.Laws.Maps.{some-injective, none-is-not-some, bind-is-some}
 use Rattle.calculus.proofs.Laws.Questions.{word-tells}
-use Rattle.replay_theory.specs.Run.{ofUnary}
-use Rattle.replay_theory.specs.LowestPair.{unaryReads, reads, writes, ifCell, Uses, usesOf, sameCell, clash}
+use Rattle.replay_theory.specs.Run.{unaryTraits, traits}
+use Rattle.replay_theory.specs.LowestPair.{ifCell, Uses, usesOf, sameCell, clash}
 use Rattle.replay_theory.specs.Claim.{Meet, writesIt, readsIt}
+use Rattle.replay_theory.proofs.Traits.{unary-plain}
 
 -- ---- What a thread is about to use
 
@@ -22,8 +23,8 @@ name-tells : (v : Value) (n : ℕ) → nameOf v ≡ some n → v ≡ name n
 name-tells (int k) n h = none-is-not-some h
 name-tells (name m) n h = ap name (some-injective h)
 
-unary-reads-tells : (o : Unary) (v : Value) (n : ℕ) → unaryReads o v ≡ some n → unaryRedex o v ≡ unaryRedex read (name n)
-unfolding unaryReads
+unary-reads-tells : (o : Unary) (v : Value) (n : ℕ) → unaryTraits o v .reading ≡ some n → unaryRedex o v ≡ unaryRedex read (name n)
+unfolding unaryTraits
 unary-reads-tells join v n h = none-is-not-some h
 unary-reads-tells ref v n h = none-is-not-some h
 unary-reads-tells read v n h = ap (unaryRedex read) (name-tells v n h)
@@ -34,8 +35,8 @@ unary-reads-tells wait v n h = none-is-not-some h
 unary-reads-tells (hold w) v n h = none-is-not-some h
 unary-reads-tells (call f) v n h = none-is-not-some h
 
-reads-tells : (w : Redex) (n : ℕ) → reads w ≡ some n → w ≡ unaryRedex read (name n)
-unfolding reads ofUnary
+reads-tells : (w : Redex) (n : ℕ) → traits w .reading ≡ some n → w ≡ unaryRedex read (name n)
+unfolding traits
 reads-tells (letRedex x v e) n h = none-is-not-some h
 reads-tells (ifRedex e₁ e₂) n h = none-is-not-some h
 reads-tells (whileRedex e) n h = none-is-not-some h
@@ -44,14 +45,14 @@ reads-tells (writeRedex v u) n h = none-is-not-some h
 reads-tells (unaryRedex o v) n h = unary-reads-tells o v n h
 reads-tells (nullaryRedex o) n h = none-is-not-some h
 
-writes-tells : (w : Redex) (n : ℕ) → writes w ≡ some n → (v : Value) × (w ≡ writeRedex (name n) v)
-unfolding writes
+writes-tells : (w : Redex) (n : ℕ) → traits w .writing ≡ some n → (v : Value) × (w ≡ writeRedex (name n) v)
+unfolding traits
 writes-tells (letRedex x v e) n h = none-is-not-some h
 writes-tells (ifRedex e₁ e₂) n h = none-is-not-some h
 writes-tells (whileRedex e) n h = none-is-not-some h
 writes-tells (spawnRedex v e) n h = none-is-not-some h
 writes-tells (writeRedex v u) n h = (u, ap (λ x. writeRedex x u) (name-tells v n h))
-writes-tells (unaryRedex o v) n h = none-is-not-some h
+writes-tells (unaryRedex o v) n h = none-is-not-some (sym (unary-plain o v .1) ∙ h)
 writes-tells (nullaryRedex o) n h = none-is-not-some h
 
 content-tells : {v : Value} (sl : Slot) → cellValue sl ≡ some v → sl ≡ cell v
@@ -79,21 +80,21 @@ module _ (s : State) (t : Thread) where
 
   reading-sound : (n : ℕ) → uses .reading ≡ some n → AboutToRead s t n
   unfolding usesOf
-  reading-sound n h = let (w, v, next, asked, held) = cell-found reads n h in aboutToRead v held (next ∙ ap atWord (reads-tells w n asked))
+  reading-sound n h = let (w, v, next, asked, held) = cell-found (λ x. traits x .reading) n h in aboutToRead v held (next ∙ ap atWord (reads-tells w n asked))
 
   writing-sound : (n : ℕ) → uses .writing ≡ some n → AboutToWrite s t n
   unfolding usesOf
   writing-sound n h =
-      let (w, v, next, asked, held) = cell-found writes n h in
+      let (w, v, next, asked, held) = cell-found (λ x. traits x .writing) n h in
       let (u, is) = writes-tells w n asked in
       aboutToWrite v u held (next ∙ ap atWord is)
 
   reading-complete : (n : ℕ) → AboutToRead s t n → uses .reading ≡ some n
-  unfolding usesOf ifCell reads ofUnary unaryReads
+  unfolding usesOf ifCell traits unaryTraits
   reading-complete n (aboutToRead v held next) = rw (next, held) refl
 
   writing-complete : (n : ℕ) → AboutToWrite s t n → uses .writing ≡ some n
-  unfolding usesOf ifCell writes
+  unfolding usesOf ifCell traits
   writing-complete n (aboutToWrite v u held next) = rw (next, held) refl
 
 -- ---- Two threads that meet

@@ -8,7 +8,7 @@ use mathlib.Core.Option.{Option, none, some, Option·map}
 use mathlib.Core.List.{List, [], _∷_, _++_}
 use native.Mathlib.Omega.{arith}
 use lib.Dec.{eqb}
-use lib.ListN.{getElem?, set, length, take}
+use lib.ListN.{getElem?, set, take}
 use lib.Seq.{length-take-le}
 use borrow.Author.Tests.{eqb-true, eq-eqb}
 use Rattle.spec.specs.Choice.{if_then_else_}
@@ -22,7 +22,7 @@ use Rattle.calculus.proofs.Laws.Maps.{some-injective, none-is-not-some}
 use Rattle.calculus.proofs.Laws.Places.{set-elsewhere}
 use Rattle.replay_theory.specs.Trace.{TraceLine}
 use Rattle.replay_theory.specs.Paths.{Path, nextPath, partAt}
-use Rattle.replay_theory.specs.Run.{Run, startRun, placeOf, hasFinished, isOpen, stillOpen, Effect, plain, spawns, joins, opens, makes, effect, numbersAfter}
+use Rattle.replay_theory.specs.Run.{Run, startRun, placeOf, hasFinished, isOpen, stillOpen, Effect, plain, spawns, joins, opens, makes, entriesAfter, numbersAfter}
 use Rattle.replay_theory.specs.Claim.{Reduced, LanguageStep, takesCall, openCallsOf, Follows}
 use Rattle.replay_theory.specs.Exact.{RunsAt, OpenCallsRun}
 use Rattle.replay_theory.specs.declared.Numbers.{Numbers}
@@ -189,7 +189,7 @@ module _ (r : Run) (rising : Rising 0 (r .numbers) (r .threads)) (m : Move) (j :
 
   change-runs : {e : Effect} {s : State} → Changed (r .state) m u e s →
       RunIn (lookUp i (numbersAfter r m e) (s .threads)) (openFor (lookUp i (numbersAfter r m e) (s .threads)) (looked e (eqb i j)))
-  unfolding numbersAfter
+  unfolding entriesAfter
   change-runs (goes names b stays) = open-runs (lookUp i (r .numbers) (moved b)) (looked plain (eqb i j)) (moved-may plain b)
   change-runs (called b) = open-runs (lookUp i (r .numbers) (moved b)) (looked opens (eqb i j)) (moved-may opens b)
   change-runs (made k new b) = open-runs (lookUp i (r .numbers) (moved b)) (looked (makes k) (eqb i j)) (moved-may (makes k) b)

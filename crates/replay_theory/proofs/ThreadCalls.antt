@@ -16,7 +16,7 @@ use Rattle.calculus.specs.State.{Thread, Move, remove}
 use Rattle.calculus.specs.Reduction.{_>>=_}
 use Rattle.calculus.proofs.Laws.Maps.{some-injective, none-is-not-some}
 use Rattle.replay_theory.specs.Paths.{Path}
-use Rattle.replay_theory.specs.Run.{sameKind, Run, placeOf, recordCall, stillOpen, openCalls, Effect, plain, spawns, joins, opens, makes, sameEffect, numbersAfter, callsAfter, callLimit, callsWithin}
+use Rattle.replay_theory.specs.Run.{sameKind, Run, placeOf, recordCall, stillOpen, openCalls, Effect, plain, spawns, joins, opens, makes, sameEffect, entriesAfter, numbersAfter, callsAfter, callLimit, callsWithin}
 use Rattle.replay_theory.proofs.Proper.{Rising, Proper}
 use Rattle.replay_theory.proofs.Order.{rising-above}
 
@@ -232,7 +232,7 @@ module _ (r : Run) (proper : Proper r) (m : Move) (j : ℕ) (there : placeOf j (
 
   pub after-looked : (e : Effect) → openFor (lookUp i (numbersAfter r m e) ts) (callsFor i (numbersAfter r m e) (callsAfter m q e (r .calls)))
       ≡ openFor (lookUp i (numbersAfter r m e) ts) (oneIf (isCall e (eqb i j)) q ++ callsFor i (r .numbers) (r .calls))
-  unfolding numbersAfter callsAfter isCall
+  unfolding entriesAfter callsAfter isCall
   after-looked plain = refl
   after-looked spawns = ap (openFor (lookUp i (r .numbers ++ (r .threads ∷ [])) ts)) (spawned-looked i (r .threads) (r .numbers) (r .calls) books-counted)
   after-looked joins = joined-looked (r .threads) i (m .finished) (r .numbers) ts (r .calls) (proper .rising)

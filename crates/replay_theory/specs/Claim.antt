@@ -25,7 +25,7 @@ use Rattle.calculus.specs.Claim.{ThreadAt, Finished, AboutToRead, AboutToWrite,
 use Rattle.soundness.specs.Erasure.{eraseProgram}
 use Rattle.replay_theory.specs.Trace.{TraceLine, traceLine}
 use Rattle.replay_theory.specs.Paths.{Path, nextPath, partAt}
-use Rattle.replay_theory.specs.Run.{ObjectKind, sameKind, Run, startRun, placeOf, recordOf, hasFinished, partChosen, isOpen, Effect, spawns, opens, makes, sameEffect, effect, numbersAfter, threadsAfter, threadLimit, thingLimit, callLimit}
+use Rattle.replay_theory.specs.Run.{ObjectKind, sameKind, Run, startRun, placeOf, recordOf, hasFinished, partChosen, isOpen, Effect, spawns, opens, makes, sameEffect, effect, numbersAfter, oneMoreIf, threadLimit, thingLimit, callLimit}
 use Rattle.replay_theory.specs.Replay.{execution, judged, lineNumbers}
 use Rattle.replay_theory.specs.declared.Status.the-variants.{Running}
 use Rattle.replay_theory.specs.declared.FirstRace.{FirstRace}
@@ -89,7 +89,7 @@ pub record LanguageStep (r : Run) (l : TraceLine) (d : Reduced) (r′ : Run) : T
       partIn r′ (d .thread) (d .path) ≡ some (substitute (p .parameter) v (p .body))
   pub sameProcedures : r′ .procedures ≡ r .procedures
   pub numbered : r′ .numbers ≡ numbersAfter r move (effect (d .word))
-  pub counted : r′ .threads ≡ threadsAfter (effect (d .word)) (r .threads)
+  pub counted : r′ .threads ≡ oneMoreIf spawns (effect (d .word)) (r .threads)
 
 -- The line l is no step of the language in the run r: no move of its thread with its choice is a reduction.
 abbrev pub NoStepOf : Run → TraceLine → Type 0
@@ -130,7 +130,7 @@ BodyGoesOn = (b e : Exp) (p : Path) (d : Exp) (w : Redex) → nextWord e ≡ atW
 -- how many of the words reduced have that effect
 unfoldable pub howMany : Effect → List Reduced → ℕ
 howMany e [] = 0
-howMany e (d ∷ ds) = choose (sameEffect sameKind (effect (d .word)) e) (suc (howMany e ds)) (howMany e ds)
+howMany e (d ∷ ds) = oneMoreIf e (effect (d .word)) (howMany e ds)
 
 -- Along these runs, by these steps, no limit is passed: "16 threads", "64 cells, locks, read-write locks, semaphores or identifiers, each kind
 -- counted by itself over the whole run, the start thread included and its identifier not", and 64 "open calls in one thread".

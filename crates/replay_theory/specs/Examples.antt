@@ -12,11 +12,11 @@ use Rattle.spec.specs.Pairs.KnownPairs.{barred, found, P}
 use Rattle.spec.specs.Pairs.EdgeSheets.{times}
 use Rattle.calculus.specs.Reduction.{reduce, startState}
 use Rattle.soundness.specs.Erasure.{eraseProgram, erase}
-use Rattle.replay_theory.specs.Run.{Run, startRun, recordOf, placeOf, hasFinished, recordFor, partOfIf, noChoice, partChosen, lowestFinished, finishedFor, ofUnary, nameIn, moveOf, recordCall, isOpen, stillOpen, openCalls, unaryEffect, effect, numbersAfter, threadsAfter, callsAfter, oneMore, thingsAfter, nextAfter, after, stepped, threadLimit, thingLimit, withinLimits, callLimit, callsWithin, within}
+use Rattle.replay_theory.specs.Run.{Run, startRun, recordOf, placeOf, hasFinished, recordFor, partOfIf, noChoice, unaryTraits, traits, lowestFinished, finishedFor, nextName, moveOf, recordCall, isOpen, stillOpen, openCalls, entriesAfter, callsAfter, oneMoreIf, thingsAfter, after, stepped, threadLimit, thingLimit, withinLimits, callLimit, callsWithin, within}
 use Rattle.replay_theory.specs.Replay.{lineOutcome, execution, replaySpace, judged, replay, lineNumbers, returnedFor, checkLimits, continue, raceOr, firstRace, reported, refused, replayed, sheetNumbers}
 use Rattle.replay_theory.specs.Trace.{twoNumbers, spelled, traceLine}
 use Rattle.replay_theory.specs.Paths.{pathOnce, nextPath, onlyPart, partOf, partAt}
-use Rattle.replay_theory.specs.LowestPair.{unaryReads, reads, writes, ifCell, usesOf, sameCell, clash, usesIn, clashing, pairOr, lowestAmong, lowestPair}
+use Rattle.replay_theory.specs.LowestPair.{ifCell, usesOf, sameCell, clash, usesIn, clashing, pairOr, lowestAmong, lowestPair}
 use Rattle.replay_theory.specs.declared.Status.{Status}
 use Rattle.replay_theory.specs.declared.FirstRace.{FirstRace}
 use Rattle.replay_theory.specs.declared.FirstRace.the-variants.{None, Found}
@@ -40,7 +40,7 @@ numbersAndReport a = (returnedFor (a .ending), a .report)
 
 -- they give each row of a table its answer and its report
 unfoldable pub Replays : List Recorded → Type 0
-unfolding found ℕ-discrete decLt reduce startState erase twoNumbers spelled traceLine pathOnce nextPath onlyPart partOf partAt startRun placeOf hasFinished partOfIf noChoice partChosen lowestFinished finishedFor ofUnary nameIn moveOf recordCall isOpen stillOpen openCalls unaryEffect effect numbersAfter threadsAfter callsAfter oneMore thingsAfter nextAfter after stepped threadLimit thingLimit withinLimits callLimit callsWithin within unaryReads reads writes ifCell usesOf sameCell clash usesIn clashing pairOr lowestAmong lowestPair checkLimits lineOutcome continue execution raceOr firstRace reported refused replaySpace judged replayed replay sheetNumbers lineNumbers returnedFor recordFor recordOf numbersAndReport
+unfolding found ℕ-discrete decLt reduce startState erase twoNumbers spelled traceLine pathOnce nextPath onlyPart partOf partAt startRun placeOf hasFinished partOfIf noChoice unaryTraits traits lowestFinished finishedFor nextName moveOf recordCall isOpen stillOpen openCalls entriesAfter callsAfter oneMoreIf thingsAfter after stepped threadLimit thingLimit withinLimits callLimit callsWithin within ifCell usesOf sameCell clash usesIn clashing pairOr lowestAmong lowestPair checkLimits lineOutcome continue execution raceOr firstRace reported refused replaySpace judged replayed replay sheetNumbers lineNumbers returnedFor recordFor recordOf numbersAndReport
 Replays rows =
     map (λ (r : Recorded). numbersAndReport (replay replaySpace (barred (r .program)) (barred (r .trace)))) rows
     ≡ map (λ (r : Recorded). r .expected) rows

@@ -5,36 +5,12 @@ use mathlib.Core.List.{List, [], _∷_}
 use mathlib.Core.Option.{Option, none, some}
 use lib.Dec.{eqb}
 use Rattle.spec.specs.Choice.{if_then_else_}
-use Rattle.calculus.specs.Expression.{Value, Unary, join, ref, read, lock, unlock, post, wait, hold, call, Redex, letRedex, ifRedex, whileRedex, spawnRedex, writeRedex, unaryRedex, nullaryRedex, nextWord}
+use Rattle.calculus.specs.Expression.{Redex, nextWord}
 use Rattle.calculus.specs.State.{Slot, Thread}
-use Rattle.calculus.specs.Reduction.{_>>=_, _>>_, nameOf, cellValue, wordOf}
-use Rattle.replay_theory.specs.Run.{Run, ofUnary}
+use Rattle.calculus.specs.Reduction.{_>>=_, _>>_, cellValue, wordOf}
+use Rattle.replay_theory.specs.Run.{Run, traits}
 
--- the name that a word reads, and the name that it writes
-unfoldable pub unaryReads : Unary → Value → Option ℕ
-unaryReads join v = none
-unaryReads ref v = none
-unaryReads read v = nameOf v
-unaryReads lock v = none
-unaryReads unlock v = none
-unaryReads post v = none
-unaryReads wait v = none
-unaryReads (hold w) v = none
-unaryReads (call f) v = none
-
-unfoldable pub reads : Redex → Option ℕ
-reads w = ofUnary unaryReads w
-
-unfoldable pub writes : Redex → Option ℕ
-writes (letRedex x v e) = none
-writes (ifRedex e₁ e₂) = none
-writes (whileRedex e) = none
-writes (spawnRedex v e) = none
-writes (writeRedex v w) = nameOf v
-writes (unaryRedex o v) = none
-writes (nullaryRedex o) = none
-
--- that name, if a cell has it
+-- the name, if a cell has it
 unfoldable pub ifCell : (ℕ → Slot) → Option ℕ → Option ℕ
 ifCell names o = do
   n ← o
@@ -47,7 +23,7 @@ pub record Uses : Type 0 where
   pub writing : Option ℕ
 
 unfoldable pub usesOf : (ℕ → Slot) → Option Redex → Uses
-usesOf names w = record { reading = ifCell names (w >>= reads); writing = ifCell names (w >>= writes) }
+usesOf names w = record { reading = ifCell names (w >>= λ x. traits x .reading); writing = ifCell names (w >>= λ x. traits x .writing) }
 
 unfoldable pub sameCell : Option ℕ → Option ℕ → Bool
 sameCell none o = false

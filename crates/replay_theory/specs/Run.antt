@@ -1,5 +1,5 @@
 -- A run as a trace records it: a state of the calculus with the numbers of its threads, and the step that a trace line is.
-use Prim.Native.Nat.{ℕ, zero, suc}
+use Prim.Native.Nat.{ℕ, zero, suc, _+_}
 use mathlib.Core.Bool.{Bool, true, false, not, _&&_}
 use mathlib.Core.List.{List, [], _∷_, _++_}
 use mathlib.Core.Option.{Option, none, some, Option·map}
@@ -23,7 +23,7 @@ pub data ObjectKind : Type 0 where
 
 -- A run so far, of a program with these procedures: `numbers` has the numbers of the threads that are in the state, place by place, and none
 -- of a joined one; `calls` has the open calls of each of them, the paths at which they were taken, the latest first; then how many threads
--- there have been, and things of each kind, "each kind counted by itself over the whole run"; the names used are those below `next`.
+-- there have been, and things of each kind, "each kind counted by itself over the whole run".
 pub record Run : Type 0 where
   pub procedures : List Procedure
   pub state : State
@@ -31,11 +31,10 @@ pub record Run : Type 0 where
   pub calls : List (List Path)
   pub threads : ℕ
   pub things : ObjectKind → ℕ
-  pub next : ℕ
 
 -- "the start thread included and its identifier not": it is thread 0, and its identifier has the name 0
 unfoldable pub startRun : Program → Run
-startRun p = record { procedures = p .procedures; state = startState p; numbers = 0 ∷ []; calls = [] ∷ []; threads = 1; things = λ k. 0; next = 1 }
+startRun p = record { procedures = p .procedures; state = startState p; numbers = 0 ∷ []; calls = [] ∷ []; threads = 1; things = λ k. 0 }
 
 -- ------------------------------------------------------------------ threads
 
@@ -58,7 +57,7 @@ recordFor begun none = if begun then some Joined else none
 unfoldable pub recordOf : Run → (i : ℕ) → Option Status
 recordOf r i = recordFor (ltb i (r .threads)) (placeOf i (r .numbers) >>= getElem? (r .state .threads))
 
--- ------------------------------------------------------------------ the move that a trace line lists
+-- ------------------------------------------------------------------ what a word does
 
 -- "choice is 0 or 1 at an if and 0 elsewhere, 0 taking e1"
 unfoldable pub partOfIf : (choice : ℕ) → Option Part
@@ -71,14 +70,57 @@ unfoldable pub noChoice : (choice : ℕ) → Option Part
 noChoice zero = some first
 noChoice (suc c) = none
 
-unfoldable pub partChosen : Redex → (choice : ℕ) → Option Part
-partChosen (letRedex x v e) c = noChoice c
-partChosen (ifRedex e₁ e₂) c = partOfIf c
-partChosen (whileRedex e) c = noChoice c
-partChosen (spawnRedex v e) c = noChoice c
-partChosen (writeRedex v w) c = noChoice c
-partChosen (unaryRedex o v) c = noChoice c
-partChosen (nullaryRedex o) c = noChoice c
+-- what a word does to the threads, calls and things of a run
+pub data Effect : Type 0 where
+  plain spawns joins opens : Effect
+  makes : ObjectKind → Effect
+  deriving Discrete as sameEffect
+
+-- All that a replay asks of a word: the part that a choice takes, its effect, and the names that it joins, reads and writes.
+pub record Traits : Type 0 where
+  pub part : (choice : ℕ) → Option Part
+  pub effect : Effect
+  pub joining : Option ℕ
+  pub reading : Option ℕ
+  pub writing : Option ℕ
+
+-- of most words there is only an effect to tell
+abbrev pub does : Effect → Traits
+does e = record { part = noChoice; effect = e; joining = none; reading = none; writing = none }
+
+unfoldable pub unaryTraits : Unary → Value → Traits
+unaryTraits join v = record { part = noChoice; effect = joins; joining = nameOf v; reading = none; writing = none }
+unaryTraits ref v = does (makes cells)
+unaryTraits read v = record { part = noChoice; effect = plain; joining = none; reading = nameOf v; writing = none }
+unaryTraits lock v = does plain
+unaryTraits unlock v = does plain
+unaryTraits post v = does plain
+unaryTraits wait v = does plain
+unaryTraits (hold w) v = does plain
+unaryTraits (call f) v = does opens
+
+abbrev pub kindMade : Nullary → ObjectKind
+kindMade newtid = identifiers
+kindMade newlock = locks
+kindMade newsem = semaphores
+kindMade (newrwlock N) = rwlocks
+
+unfoldable pub traits : Redex → Traits
+traits (letRedex x v e) = does plain
+traits (ifRedex e₁ e₂) = record { part = partOfIf; effect = plain; joining = none; reading = none; writing = none }
+traits (whileRedex e) = does plain
+traits (spawnRedex v e) = does spawns
+traits (writeRedex v w) = record { part = noChoice; effect = plain; joining = none; reading = none; writing = nameOf v }
+traits (unaryRedex o v) = unaryTraits o v
+traits (nullaryRedex o) = does (makes (kindMade o))
+
+abbrev pub partChosen : Redex → (choice : ℕ) → Option Part
+partChosen w c = traits w .part c
+
+abbrev pub effect : Redex → Effect
+effect w = traits w .effect
+
+-- ------------------------------------------------------------------ the move that a trace line lists
 
 -- "Among several finished threads a join takes the lowest": the first place of a finished thread with the identifier n. If there is none, this
 -- is the place behind the last, where no thread stands, and the join is no reduction.
@@ -91,22 +133,12 @@ unfoldable pub finishedFor : Option ℕ → List Thread → ℕ
 finishedFor none ts = 0
 finishedFor (some n) ts = lowestFinished n ts
 
--- what f tells of a word with one part and of its value
-unfoldable pub ofUnary : {A : Type 0} → (Unary → Value → Option A) → Redex → Option A
-ofUnary f (letRedex x v e) = none
-ofUnary f (ifRedex e₁ e₂) = none
-ofUnary f (whileRedex e) = none
-ofUnary f (spawnRedex v e) = none
-ofUnary f (writeRedex v w) = none
-ofUnary f (unaryRedex o v) = f o v
-ofUnary f (nullaryRedex o) = none
-
--- the name that such a word has for its value; of a join, the identifier
-unfoldable pub nameIn : Redex → Option ℕ
-nameIn w = ofUnary (λ o v. nameOf v) w
+-- names are given in turn: 0 to the start's identifier, then one to each thing that is made
+unfoldable pub nextName : (things : ObjectKind → ℕ) → ℕ
+nextName things = 1 + things cells + things locks + things rwlocks + things semaphores + things identifiers
 
 unfoldable pub moveOf : Run → (place : ℕ) → Redex → Part → Move
-moveOf r p w c = record { thread = p; part = c; finished = finishedFor (nameIn w) (r .state .threads); fresh = r .next }
+moveOf r p w c = record { thread = p; part = c; finished = finishedFor (traits w .joining) (r .state .threads); fresh = nextName (r .things) }
 
 -- ------------------------------------------------------------------ open calls
 
@@ -132,78 +164,28 @@ openCalls (t ∷ ts) (ps ∷ calls) = stillOpen (t .body) ps ∷ openCalls ts ca
 
 -- ------------------------------------------------------------------ the run after a step
 
--- what a word does to the threads, calls and things of a run
-pub data Effect : Type 0 where
-  plain spawns joins opens : Effect
-  makes : ObjectKind → Effect
-  deriving Discrete as sameEffect
+-- of a list with an entry for each thread: that of a spawned thread stands last, and that of a joined one is left out
+unfoldable pub entriesAfter : {A : Type 0} → Move → Effect → (new : A) → List A → List A
+entriesAfter m plain x xs = xs
+entriesAfter m spawns x xs = xs ++ (x ∷ [])
+entriesAfter m joins x xs = remove xs (m .finished)
+entriesAfter m opens x xs = xs
+entriesAfter m (makes k) x xs = xs
 
-unfoldable pub unaryEffect : Unary → Effect
-unaryEffect join = joins
-unaryEffect ref = makes cells
-unaryEffect read = plain
-unaryEffect lock = plain
-unaryEffect unlock = plain
-unaryEffect post = plain
-unaryEffect wait = plain
-unaryEffect (hold w) = plain
-unaryEffect (call f) = opens
+-- the number of a spawned thread is how many there were before it
+abbrev pub numbersAfter : Run → Move → Effect → List ℕ
+numbersAfter r m e = entriesAfter m e (r .threads) (r .numbers)
 
-abbrev pub kindMade : Nullary → ObjectKind
-kindMade newtid = identifiers
-kindMade newlock = locks
-kindMade newsem = semaphores
-kindMade (newrwlock N) = rwlocks
-
-unfoldable pub effect : Redex → Effect
-effect (letRedex x v e) = plain
-effect (ifRedex e₁ e₂) = plain
-effect (whileRedex e) = plain
-effect (spawnRedex v e) = spawns
-effect (writeRedex v w) = plain
-effect (unaryRedex o v) = unaryEffect o
-effect (nullaryRedex o) = makes (kindMade o)
-
--- a spawned thread stands last and its number is how many there were before it; a joined one is left out
-unfoldable pub numbersAfter : Run → Move → Effect → List ℕ
-numbersAfter r m plain = r .numbers
-numbersAfter r m spawns = r .numbers ++ (r .threads ∷ [])
-numbersAfter r m joins = remove (r .numbers) (m .finished)
-numbersAfter r m opens = r .numbers
-numbersAfter r m (makes k) = r .numbers
-
-unfoldable pub threadsAfter : Effect → (threads : ℕ) → ℕ
-threadsAfter plain n = n
-threadsAfter spawns n = suc n
-threadsAfter joins n = n
-threadsAfter opens n = n
-threadsAfter (makes k) n = n
-
-unfoldable pub oneMore : ObjectKind → (ObjectKind → ℕ) → ObjectKind → ℕ
-oneMore k things l = choose (sameKind l k) (suc (things l)) (things l)
-
--- the open calls before a step that are looked at after it, and the one taken at the path q. A new thread has none, and those of a joined one
--- are left out.
+-- the open calls before a step that are looked at after it, and the one taken at the path q; a spawned thread has none
 unfoldable pub callsAfter : Move → (q : Path) → Effect → List (List Path) → List (List Path)
-callsAfter m q plain calls = calls
-callsAfter m q spawns calls = calls ++ ([] ∷ [])
-callsAfter m q joins calls = remove calls (m .finished)
-callsAfter m q opens calls = recordCall (m .thread) q calls
-callsAfter m q (makes k) calls = calls
+callsAfter m q e calls = entriesAfter m e [] (choose (sameEffect sameKind e opens) (recordCall (m .thread) q calls) calls)
+
+-- one more, if the effect is the one that is counted
+unfoldable pub oneMoreIf : (counted e : Effect) → ℕ → ℕ
+oneMoreIf counted e n = choose (sameEffect sameKind e counted) (suc n) n
 
 unfoldable pub thingsAfter : Effect → (things : ObjectKind → ℕ) → ObjectKind → ℕ
-thingsAfter plain things = things
-thingsAfter spawns things = things
-thingsAfter joins things = things
-thingsAfter opens things = things
-thingsAfter (makes k) things = oneMore k things
-
-unfoldable pub nextAfter : Effect → (next : ℕ) → ℕ
-nextAfter plain n = n
-nextAfter spawns n = n
-nextAfter joins n = n
-nextAfter opens n = n
-nextAfter (makes k) n = suc n
+thingsAfter e things k = oneMoreIf (makes k) e (things k)
 
 -- the run whose state is s after the move m, of a thread whose next word stood at the path q
 unfoldable pub after : Run → Move → (q : Path) → Effect → State → Run
@@ -212,9 +194,8 @@ after r m q e s = record {
   state = s;
   numbers = numbersAfter r m e;
   calls = openCalls (s .threads) (callsAfter m q e (r .calls));
-  threads = threadsAfter e (r .threads);
+  threads = oneMoreIf spawns e (r .threads);
   things = thingsAfter e (r .things);
-  next = nextAfter e (r .next);
 }
 
 -- the run after "exactly the language's step", if thread i can take one with that choice
