@@ -24,8 +24,8 @@ use Rattle.replay_control.specs.Shapes.{isWrite}
 use Rattle.replay_control.specs.Control.{variable, kept, calledFrom, continuation, second, entering, returning, stoppedAt, readyAt, doneWith, enteredBy}
 use Rattle.replay_control.proofs.Advances.{found-stop}
 use Rattle.replay_machine.specs.Environment.{Env}
-use Rattle.replay_machine.specs.Control.{Frame, letFrame, spawnFrame, writeFirst, writeSecond, unaryFrame, againFrame, markFrame, letWord, ifWord, whileWord, spawnWord, writeWord, unaryWord, nullaryWord, againWord, Control, done, at, seekPart, seek, return, enter, runPart, marks}
-use Rattle.replay_simulation.proofs.Held.{codeValue, partWord, PartNumber, Row, RowOf, Stands, Values, FrameAt, stepOf, rowBehind, Frames, ControlAt}
+use Rattle.replay_machine.specs.Control.{FrameForm, letPart, spawnPart, writeFirst, writeSecond, unaryPart, againPart, Frame, stepFrame, markFrame, letWord, ifWord, whileWord, spawnWord, writeWord, unaryWord, nullaryWord, againWord, Control, done, at, seekPart, seek, return, enter, runPart, marks}
+use Rattle.replay_simulation.proofs.Held.{codeValue, partWord, PartNumber, Row, RowOf, Stands, Values, PartAt, Frames, ControlAt}
 use Rattle.replay_simulation.proofs.Advancing.{row-of, by-position, behind-is, go, enters, to-first, to-second, to-other, to-end, to-caller, SameBut, RowIn, same-but-one}
 
 -- ------------------------------------------------------------------ frames
@@ -34,12 +34,7 @@ module _ (p : List ℕ) (t : ℕ) where
   -- a higher bound
   pub frames-up : (s : List ℕ) (row b b′ c : ℕ) (K : List Frame) → b ≤ b′ → Frames p s t row b c K → Frames p s t row b′ c K
   frames-up s row b b′ c [] h F = F
-  frames-up s row b b′ c (letFrame q x e ∷ K) h ((l, is, r, S), F) = ((omega (arith, l, h), is, r, S), F)
-  frames-up s row b b′ c (spawnFrame q e ∷ K) h ((l, is, n, r, S), F) = ((omega (arith, l, h), is, n, r, S), F)
-  frames-up s row b b′ c (writeFirst q e ∷ K) h ((l, is, n, r, S), F) = ((omega (arith, l, h), is, n, r, S), F)
-  frames-up s row b b′ c (writeSecond q v ∷ K) h ((l, is, n, r, x), F) = ((omega (arith, l, h), is, n, r, x), F)
-  frames-up s row b b′ c (unaryFrame q o ∷ K) h ((l, is, n, r, N), F) = ((omega (arith, l, h), is, n, r, N), F)
-  frames-up s row b b′ c (againFrame q e ∷ K) h ((l, is, n, r, S), F) = ((omega (arith, l, h), is, n, r, S), F)
+  frames-up s row b b′ c (stepFrame q f ∷ K) h ((l, P), F) = ((omega (arith, l, h), P), F)
   frames-up s row b b′ c (markFrame σ ∷ K) h F = F
 
   -- in a space where the same is kept for the steps below b of a row and for the rows before it, which have the same variables and calls
@@ -62,15 +57,21 @@ module _ (p : List ℕ) (t : ℕ) where
     called = λ i a n. h .called i a (omega (arith, n));
   }
 
+  -- only the first value of a `write` is kept
+  part-same : (s s′ : List ℕ) (row c : ℕ) (q : Position) (f : FrameForm) → kept s′ row (q .index) ≡ kept s row (q .index) → PartAt p s row c q f → PartAt p s′ row c q f
+  part-same s s′ row c q (letPart x e) h P = P
+  part-same s s′ row c q (spawnPart e) h P = P
+  part-same s s′ row c q (writeFirst e) h P = P
+  part-same s s′ row c q (writeSecond v) h (is, n, r, x) = (is, n, r, h ∙ x)
+  part-same s s′ row c q (unaryPart o) h P = P
+  part-same s s′ row c q (againPart e) h P = P
+
   pub frames-same : (s s′ : List ℕ) (row b c : ℕ) (K : List Frame) → RowsSame row b s s′ → Frames p s t row b c K → Frames p s′ t row b c K
   frames-same s s′ row b c [] h F = F
-  frames-same s s′ row b c (letFrame q x e ∷ K) h (f, F) = (f, frames-same s s′ row (q .index) (continuation p (q .index)) K (rows-fewer s s′ row b (q .index) (omega (arith, f .0)) h) F)
-  frames-same s s′ row b c (spawnFrame q e ∷ K) h (f, F) = (f, frames-same s s′ row (q .index) (continuation p (q .index)) K (rows-fewer s s′ row b (q .index) (omega (arith, f .0)) h) F)
-  frames-same s s′ row b c (writeFirst q e ∷ K) h (f, F) = (f, frames-same s s′ row (q .index) (continuation p (q .index)) K (rows-fewer s s′ row b (q .index) (omega (arith, f .0)) h) F)
-  frames-same s s′ row b c (writeSecond q v ∷ K) h ((l, e, n, r, x), F) =
-      ((l, e, n, r, h .here (q .index) l ∙ x), frames-same s s′ row (q .index) (continuation p (q .index)) K (rows-fewer s s′ row b (q .index) (omega (arith, l)) h) F)
-  frames-same s s′ row b c (unaryFrame q o ∷ K) h (f, F) = (f, frames-same s s′ row (q .index) (continuation p (q .index)) K (rows-fewer s s′ row b (q .index) (omega (arith, f .0)) h) F)
-  frames-same s s′ row b c (againFrame q e ∷ K) h (f, F) = (f, frames-same s s′ row (q .index) (continuation p (q .index)) K (rows-fewer s s′ row b (q .index) (omega (arith, f .0)) h) F)
+  frames-same s s′ row b c (stepFrame q f ∷ K) h ((l, P), F) = (
+    (l, part-same s s′ row c q f (h .here (q .index) l) P),
+    frames-same s s′ row (q .index) (continuation p (q .index)) K (rows-fewer s s′ row b (q .index) (omega (arith, l)) h) F,
+  )
   frames-same s s′ row b c (markFrame σ ∷ K) h ((l, is, low, values), F) =
       let e = h .called row l (omega arith) in (
         (l, is, omega (arith, e, low), λ x m. h .variables (row - 1) x (omega (arith, l)) (omega (arith, l)) m ∙ values x m),
@@ -96,12 +97,7 @@ module _ (p : List ℕ) (t : ℕ) where
   pub frames-row : (s : List ℕ) (K : List Frame) (row b c : ℕ) → Frames p s t row b c K → row ≡ 66 * t + marks K
   unfolding marks
   frames-row s [] row b c F = omega (arith, F .0)
-  frames-row s (letFrame q x e ∷ K) row b c F = frames-row s K row (q .index) (continuation p (q .index)) (F .1)
-  frames-row s (spawnFrame q e ∷ K) row b c F = frames-row s K row (q .index) (continuation p (q .index)) (F .1)
-  frames-row s (writeFirst q e ∷ K) row b c F = frames-row s K row (q .index) (continuation p (q .index)) (F .1)
-  frames-row s (writeSecond q v ∷ K) row b c F = frames-row s K row (q .index) (continuation p (q .index)) (F .1)
-  frames-row s (unaryFrame q o ∷ K) row b c F = frames-row s K row (q .index) (continuation p (q .index)) (F .1)
-  frames-row s (againFrame q e ∷ K) row b c F = frames-row s K row (q .index) (continuation p (q .index)) (F .1)
+  frames-row s (stepFrame q f ∷ K) row b c F = frames-row s K row (q .index) (continuation p (q .index)) (F .1)
   frames-row s (markFrame σ ∷ K) row b c ((l, is, low, values), F) =
       let h = frames-row s K (row - 1) (calledFrom s row) (continuation p (calledFrom s row)) F in omega (arith, l, h)
 
@@ -159,32 +155,32 @@ module _ (p : List ℕ) (t : ℕ) (small : t < 16) (σ : Env) (row : ℕ) (s₀ 
       subst (λ (j : ℕ). Finds d (go p row m s (returning row j x))) (sym e)
       (takes-advance d m s (returning row (q .index) x) (readyAt row (q .index) x, s) le (to-first p row (m - 1) (q .index) x s r h) F)
 
-  let-lands : (q : Position) (x : ℕ) (e : Expr) (c : ℕ) (K : List Frame) → Follows c (letFrame q x e ∷ K) 1 (λ v. at σ (letWord q x v e) K)
+  let-lands : (q : Position) (x : ℕ) (e : Expr) (c : ℕ) (K : List Frame) → Follows c (stepFrame q (letPart x e) ∷ K) 1 (λ v. at σ (letWord q x v e) K)
   unfolding isWrite ruleOf printed
   let-lands q x e c K v b m s le R =
-      let ((l, is, r, S), F) = R .frames in
+      let ((l, (is, r, S)), F) = R .frames in
       lands (at σ (letWord q x v e) K) c (codeValue v) m s is r refl le ((R .values, (refl, r, S), F), R .same)
 
-  spawn-lands : (q : Position) (e : Expr) (c : ℕ) (K : List Frame) → Follows c (spawnFrame q e ∷ K) 1 (λ v. at σ (spawnWord q v e) K)
+  spawn-lands : (q : Position) (e : Expr) (c : ℕ) (K : List Frame) → Follows c (stepFrame q (spawnPart e) ∷ K) 1 (λ v. at σ (spawnWord q v e) K)
   unfolding isWrite ruleOf printed
   spawn-lands q e c K v b m s le R =
-      let ((l, is, n, r, S), F) = R .frames in
+      let ((l, (is, n, r, S)), F) = R .frames in
       lands (at σ (spawnWord q v e) K) c (codeValue v) m s is r refl le ((R .values, (refl, n, r, S), F), R .same)
 
-  unary-lands : (q : Position) (o : calculus.Unary) (c : ℕ) (K : List Frame) → Follows c (unaryFrame q o ∷ K) 1 (λ v. at σ (unaryWord q o v) K)
+  unary-lands : (q : Position) (o : calculus.Unary) (c : ℕ) (K : List Frame) → Follows c (stepFrame q (unaryPart o) ∷ K) 1 (λ v. at σ (unaryWord q o v) K)
   unary-lands q o c K v b m s le R =
-      let ((l, is, n, r, N), F) = R .frames in
+      let ((l, (is, n, r, N)), F) = R .frames in
       lands (at σ (unaryWord q o v) K) c (codeValue v) m s is r (not-write o) le ((R .values, (refl, n, r, N), F), R .same)
 
-  pub again-lands : (q : Position) (e : Expr) (c : ℕ) (K : List Frame) → Follows c (againFrame q e ∷ K) 1 (λ v. at σ (againWord q v e) K)
+  pub again-lands : (q : Position) (e : Expr) (c : ℕ) (K : List Frame) → Follows c (stepFrame q (againPart e) ∷ K) 1 (λ v. at σ (againWord q v e) K)
   unfolding isWrite ruleOf printed
   again-lands q e c K v b m s le R =
-      let ((l, is, n, r, S), F) = R .frames in
+      let ((l, (is, n, r, S)), F) = R .frames in
       lands (at σ (againWord q v e) K) c (codeValue v) m s is r refl le ((R .values, (refl, n, r, S), F), R .same)
 
-  write-lands : (q : Position) (w : Value) (c : ℕ) (K : List Frame) → Follows c (writeSecond q w ∷ K) 1 (λ u. at σ (writeWord q w u) K)
+  write-lands : (q : Position) (w : Value) (c : ℕ) (K : List Frame) → Follows c (stepFrame q (writeSecond w) ∷ K) 1 (λ u. at σ (writeWord q w u) K)
   write-lands q w c K u b m s le R =
-      let ((l, is, n, r, held), F) = R .frames in
+      let ((l, (is, n, r, held)), F) = R .frames in
       subst (λ (j : ℕ). Finds (at σ (writeWord q w u) K) (go p row m s (returning row j (codeValue u)))) (sym is)
       (takes-advance (at σ (writeWord q w u) K) m s (returning row (secondPart + q .index) (codeValue u)) (readyAt row (q .index) (codeValue u), s) le
       (to-second p row (m - 1) (q .index) (codeValue u) s (r .below)) ((R .values, (refl, n, r, held), F), R .same))
@@ -192,11 +188,11 @@ module _ (p : List ℕ) (t : ℕ) (small : t < 16) (σ : Env) (row : ℕ) (s₀ 
   -- ---------------------------------------------------------------- the second part of a `write`
 
   -- its first part's value is kept
-  other-ready : (q : Position) (e : Expr) (w : Value) (b c : ℕ) (K : List Frame) (s : List ℕ) → Ready s b c (writeFirst q e ∷ K) →
-      Ready (set s (keptValuesAt + 256 * row + q .index) (codeValue w)) (q .index + 1) (secondPart + q .index) (writeSecond q w ∷ K)
+  other-ready : (q : Position) (e : Expr) (w : Value) (b c : ℕ) (K : List Frame) (s : List ℕ) → Ready s b c (stepFrame q (writeFirst e) ∷ K) →
+      Ready (set s (keptValuesAt + 256 * row + q .index) (codeValue w)) (q .index + 1) (secondPart + q .index) (stepFrame q (writeSecond w) ∷ K)
   unfolding variable
   other-ready q e w b c K s R =
-      let ((l, is, n, r, S), F) = R .frames in
+      let ((l, (is, n, r, S)), F) = R .frames in
       let low = r .below in
       record {
         same = same-but-one t row (q .index) (codeValue w) s₀ s (R .inside) low (R .same);
@@ -204,7 +200,7 @@ module _ (p : List ℕ) (t : ℕ) (small : t < 16) (σ : Env) (row : ℕ) (s₀ 
         inside = R .inside;
         values = λ x h. getD-set-other s (keptValuesAt + 256 * row + q .index) (0 + 256 * row + x) (codeValue w) 0 (λ z. omega (arith, z, h, small, R .inside .1)) ∙ R .values x h;
         frames = (
-          (omega arith, refl, n, r, kept-here p t s row (q .index) (codeValue w) (omega (arith, R .long, small, low, R .inside .1))),
+          (omega arith, (refl, n, r, kept-here p t s row (q .index) (codeValue w) (omega (arith, R .long, small, low, R .inside .1)))),
           frames-same p t s (set s (keptValuesAt + 256 * row + q .index) (codeValue w)) row (q .index) (continuation p (q .index)) K (kept-other p t s row (q .index) (codeValue w) small (R .inside) low) F,
         );
       }
@@ -213,39 +209,36 @@ module _ (p : List ℕ) (t : ℕ) (small : t < 16) (σ : Env) (row : ℕ) (s₀ 
   raised s b b′ c K h R = record { same = R .same; long = R .long; inside = R .inside; values = R .values; frames = frames-up p t s row b b′ c K h (R .frames) }
 
   other-sought : (q : Position) (e : Expr) (c : ℕ) (K : List Frame) → ((d k : ℕ) → Stands p d k e → Sought d k e) →
-      Follows c (writeFirst q e ∷ K) (3 * size e + 2) (λ w. seek σ e (writeSecond q w ∷ K) (λ u. at σ (writeWord q w u) K))
+      Follows c (stepFrame q (writeFirst e) ∷ K) (3 * size e + 2) (λ w. seek σ e (stepFrame q (writeSecond w) ∷ K) (λ u. at σ (writeWord q w u) K))
   other-sought q e c K rec w b m s le R =
-      let ((l, is, n, r, S), F) = R .frames in
-      subst (λ (j : ℕ). Finds (seek σ e (writeSecond q w ∷ K) (λ u. at σ (writeWord q w u) K)) (go p row m s (returning row j (codeValue w)))) (sym is)
-      (takes-advance (seek σ e (writeSecond q w ∷ K) (λ u. at σ (writeWord q w u) K)) m s (returning row (q .index) (codeValue w))
+      let ((l, (is, n, r, S)), F) = R .frames in
+      subst (λ (j : ℕ). Finds (seek σ e (stepFrame q (writeSecond w) ∷ K) (λ u. at σ (writeWord q w u) K)) (go p row m s (returning row j (codeValue w)))) (sym is)
+      (takes-advance (seek σ e (stepFrame q (writeSecond w) ∷ K) (λ u. at σ (writeWord q w u) K)) m s (returning row (q .index) (codeValue w))
       (go p row (m - 1) (set s (keptValuesAt + 256 * row + q .index) (codeValue w)) (entering row (second p (q .index)))) (omega (arith, le))
       (to-other p row (m - 1) (q .index) (codeValue w) s r)
-      (rec (secondPart + q .index) (second p (q .index)) S (writeSecond q w ∷ K) (λ u. at σ (writeWord q w u) K) 1 (m - 1) (set s (keptValuesAt + 256 * row + q .index) (codeValue w)) (omega (arith, le))
-      (raised (set s (keptValuesAt + 256 * row + q .index) (codeValue w)) (q .index + 1) (second p (q .index)) (secondPart + q .index) (writeSecond q w ∷ K) (omega (arith, r .far)) (other-ready q e w b c K s R))
+      (rec (secondPart + q .index) (second p (q .index)) S (stepFrame q (writeSecond w) ∷ K) (λ u. at σ (writeWord q w u) K) 1 (m - 1) (set s (keptValuesAt + 256 * row + q .index) (codeValue w)) (omega (arith, le))
+      (raised (set s (keptValuesAt + 256 * row + q .index) (codeValue w)) (q .index + 1) (second p (q .index)) (secondPart + q .index) (stepFrame q (writeSecond w) ∷ K) (omega (arith, r .far)) (other-ready q e w b c K s R))
       (write-lands q w (secondPart + q .index) K)))
 
   -- ---------------------------------------------------------------- the theorem
 
   -- a step whose first part is entered, within a frame of the step
-  first-sought : (k : ℕ) {q : Position} {w : Word} {v c : ℕ} (e : Expr) (f : Frame) (κ : Value → Control) (r : Row p k q w v c) →
+  first-sought : (k : ℕ) {q : Position} {w : Word} {v c : ℕ} (e : Expr) (f : FrameForm) (κ : Value → Control) (r : Row p k q w v c) →
       ((x : ℕ) → enteredBy (shapeOf (ruleOf (codeOf w))) row k c x ≡ entering row (k + 1)) → Sought k (k + 1) e →
-      (K : List Frame) (n m : ℕ) (s : List ℕ) → n + 3 * size e + 1 ≤ m → Ready s k c K → FrameAt p s t row (k + 1) k f → stepOf p s row f ≡ k → rowBehind p s row f ≡ row → Follows k (f ∷ K) n κ →
-      Finds (seek σ e (f ∷ K) κ) (go p row m s (entering row k))
-  first-sought k {v = v} {c = c} e f κ r waits rec K n m s fuel R F is stays next =
-      takes-advance (seek σ e (f ∷ K) κ) m s (entering row k) (go p row (m - 1) s (entering row (k + 1))) (omega (arith, fuel)) (enters p row (m - 1) k s r ∙ ap (go p row (m - 1) s) (waits (variable s row v)))
-      (rec (f ∷ K) κ n (m - 1) s (omega (arith, fuel)) ready next)
+      (K : List Frame) (n m : ℕ) (s : List ℕ) → n + 3 * size e + 1 ≤ m → Ready s k c K → PartAt p s row k q f → Follows k (stepFrame q f ∷ K) n κ →
+      Finds (seek σ e (stepFrame q f ∷ K) κ) (go p row m s (entering row k))
+  first-sought k {q} {v = v} e f κ r waits rec K n m s fuel R P next =
+      takes-advance (seek σ e (stepFrame q f ∷ K) κ) m s (entering row k) (go p row (m - 1) s (entering row (k + 1))) (omega (arith, fuel))
+      (enters p row (m - 1) k s r ∙ ap (go p row (m - 1) s) (waits (variable s row v)))
+      (rec (stepFrame q f ∷ K) κ n (m - 1) s (omega (arith, fuel)) ready next)
     where
-      ready : Ready s (k + 1) k (f ∷ K)
+      ready : Ready s (k + 1) k (stepFrame q f ∷ K)
       ready = record {
         same = R .same;
         long = R .long;
         inside = R .inside;
         values = R .values;
-        frames = (
-          F,
-          subst (λ (i : ℕ). Frames p s t i (stepOf p s row f) (continuation p (stepOf p s row f)) K) (sym stays)
-              (subst (λ (j : ℕ). Frames p s t row j (continuation p j) K) (sym is) (subst (λ (d : ℕ). Frames p s t row k d K) (sym (r .next)) (R .frames))),
-        );
+        frames = ((let i = r .index in omega arith, P), by-position r (λ c k. Frames p s t row k c K) (R .frames));
       }
 
   -- a step that is the next word as it is
@@ -259,8 +252,8 @@ module _ (p : List ℕ) (t : ℕ) (small : t < 16) (σ : Env) (row : ℕ) (s₀ 
       ((x : ℕ) → enteredBy (shapeOf (ruleOf (codeOf (Unary (partWord o))))) row k c x ≡ entering row (k + 1)) → Sought k (k + 1) e →
       (K : List Frame) (n m : ℕ) (s : List ℕ) → n + 3 * suc (size e) ≤ m → Ready s k c K → Finds (seekPart σ q o K (seek σ e)) (go p row m s (entering row k))
   part-sought o k {q = q} {v = v} e r N waits rec K n m s fuel R =
-      first-sought k e (unaryFrame q o) (λ u. at σ (unaryWord q o u) K) r waits rec K 1 m s (omega (arith, fuel)) R
-      (let i = r .index in omega arith, sym (r .index), v, row-of r, N) (r .index) refl (unary-lands q o k K)
+      first-sought k e (unaryPart o) (λ u. at σ (unaryWord q o u) K) r waits rec K 1 m s (omega (arith, fuel)) R
+      (sym (r .index), v, row-of r, N) (unary-lands q o k K)
 
   pub seek-simulated : (e : Expr) (c k : ℕ) → Stands p c k e → Sought c k e
   unfolding size enteredBy ruleOf printed largestValue
@@ -292,17 +285,17 @@ module _ (p : List ℕ) (t : ℕ) (small : t < 16) (σ : Env) (row : ℕ) (s₀ 
   seek-simulated (unary Wrunlock q v e) c k (r, S) K κ n m s fuel R next = part-sought (hold wrunlock) k e r tt (λ x. ap (entering row) (behind-is k (r .below))) (seek-simulated e k (k + 1) S) K n m s fuel R
   seek-simulated (unary Call q v e) c k (r, S) K κ n m s fuel R next = part-sought (call v) k e r refl (λ x. ap (entering row) (behind-is k (r .below))) (seek-simulated e k (k + 1) S) K n m s fuel R
   seek-simulated (binary Let q x e₁ e₂) c k (r, S₁, z, S₂) K κ n m s fuel R next =
-      first-sought k e₁ (letFrame q x e₂) (λ v. at σ (letWord q x v e₂) K) r (λ y. ap (entering row) (behind-is k (r .below))) (seek-simulated e₁ k (k + 1) S₁) K 1 m s (omega (arith, fuel)) R
-      (let i = r .index in omega arith, sym (r .index), row-of r, by-position r (λ c k. Stands p c (second p k) e₂) S₂) (r .index) refl (let-lands q x e₂ k K)
+      first-sought k e₁ (letPart x e₂) (λ v. at σ (letWord q x v e₂) K) r (λ y. ap (entering row) (behind-is k (r .below))) (seek-simulated e₁ k (k + 1) S₁) K 1 m s (omega (arith, fuel)) R
+      (sym (r .index), row-of r, by-position r (λ c k. Stands p c (second p k) e₂) S₂) (let-lands q x e₂ k K)
   seek-simulated (binary If q v e₁ e₂) c k (r, S₁, z, S₂) K κ n m s fuel R next = stops (at σ (ifWord q e₁ e₂) K) k r (λ x. refl) m s (omega (arith, fuel))
       ((R .values, (ap (stoppedAt row) (sym (r .index)), v, row-of r, by-position r (λ c k. Stands p c (k + 1) e₁) S₁, by-position r (λ c k. Stands p c (second p k) e₂) S₂), by-position r (λ c k. Frames p s t row k c K) (R .frames)), R .same)
   seek-simulated (binary Spawn q v e₁ e₂) c k (r, S₁, z, S₂) K κ n m s fuel R next =
-      first-sought k e₁ (spawnFrame q e₂) (λ u. at σ (spawnWord q u e₂) K) r (λ y. ap (entering row) (behind-is k (r .below))) (seek-simulated e₁ k (k + 1) S₁) K 1 m s (omega (arith, fuel)) R
-      (let i = r .index in omega arith, sym (r .index), v, row-of r, by-position r (λ c k. Stands p finish (second p k) e₂) S₂) (r .index) refl (spawn-lands q e₂ k K)
+      first-sought k e₁ (spawnPart e₂) (λ u. at σ (spawnWord q u e₂) K) r (λ y. ap (entering row) (behind-is k (r .below))) (seek-simulated e₁ k (k + 1) S₁) K 1 m s (omega (arith, fuel)) R
+      (sym (r .index), v, row-of r, by-position r (λ c k. Stands p finish (second p k) e₂) S₂) (spawn-lands q e₂ k K)
   seek-simulated (binary Write q v e₁ e₂) c k (r, S₁, z, S₂) K κ n m s fuel R next =
-      first-sought k e₁ (writeFirst q e₂) (λ w. seek σ e₂ (writeSecond q w ∷ K) (λ u. at σ (writeWord q w u) K)) r (λ y. ap (entering row) (behind-is k (r .below))) (seek-simulated e₁ k (k + 1) S₁)
+      first-sought k e₁ (writeFirst e₂) (λ w. seek σ e₂ (stepFrame q (writeSecond w) ∷ K) (λ u. at σ (writeWord q w u) K)) r (λ y. ap (entering row) (behind-is k (r .below))) (seek-simulated e₁ k (k + 1) S₁)
       K (3 * size e₂ + 2) m s (omega (arith, fuel)) R
-      (let i = r .index in omega arith, sym (r .index), v, row-of r, by-position r (λ c k. Stands p (secondPart + k) (second p k) e₂) S₂) (r .index) refl
+      (sym (r .index), v, row-of r, by-position r (λ c k. Stands p (secondPart + k) (second p k) e₂) S₂)
       (other-sought q e₂ k K (λ d j. seek-simulated e₂ d j))
 
 -- ------------------------------------------------------------------ a value is handed back, an expression is entered
@@ -310,12 +303,12 @@ module _ (p : List ℕ) (t : ℕ) (small : t < 16) (σ : Env) (row : ℕ) (s₀ 
 -- the turns that a value may take: one an open call that ends with it, and those at the frame behind
 abbrev pub cost : List Frame → ℕ
 cost [] = 1
-cost (letFrame q x e ∷ K) = 1
-cost (spawnFrame q e ∷ K) = 1
-cost (writeFirst q e ∷ K) = 3 * size e + 2
-cost (writeSecond q v ∷ K) = 1
-cost (unaryFrame q o ∷ K) = 1
-cost (againFrame q e ∷ K) = 1
+cost (stepFrame q (letPart x e) ∷ K) = 1
+cost (stepFrame q (spawnPart e) ∷ K) = 1
+cost (stepFrame q (writeFirst e) ∷ K) = 3 * size e + 2
+cost (stepFrame q (writeSecond v) ∷ K) = 1
+cost (stepFrame q (unaryPart o) ∷ K) = 1
+cost (stepFrame q (againPart e) ∷ K) = 1
 cost (markFrame σ ∷ K) = suc (cost K)
 
 module _ (p : List ℕ) (t : ℕ) (small : t < 16) where
@@ -324,12 +317,12 @@ module _ (p : List ℕ) (t : ℕ) (small : t < 16) where
       subst (λ (j : ℕ). Finds p t small σ row s₀ (done v) (go p row m s (returning row j (codeValue v)))) (sym (R .frames .1))
       (takes-advance p t small σ row s₀ (done v) m s (returning row finish (codeValue v)) (doneWith row (codeValue v), s) le (to-end p row (m - 1) (codeValue v) s)
       (ap (λ (i : ℕ). doneWith i (codeValue v)) (R .frames .0), R .same))
-  return-simulated (letFrame q x e ∷ K) σ row s₀ c = let-lands p t small σ row s₀ q x e c K
-  return-simulated (spawnFrame q e ∷ K) σ row s₀ c = spawn-lands p t small σ row s₀ q e c K
-  return-simulated (writeFirst q e ∷ K) σ row s₀ c = other-sought p t small σ row s₀ q e c K (λ d j. seek-simulated p t small σ row s₀ e d j)
-  return-simulated (writeSecond q w ∷ K) σ row s₀ c = write-lands p t small σ row s₀ q w c K
-  return-simulated (unaryFrame q o ∷ K) σ row s₀ c = unary-lands p t small σ row s₀ q o c K
-  return-simulated (againFrame q e ∷ K) σ row s₀ c = again-lands p t small σ row s₀ q e c K
+  return-simulated (stepFrame q (letPart x e) ∷ K) σ row s₀ c = let-lands p t small σ row s₀ q x e c K
+  return-simulated (stepFrame q (spawnPart e) ∷ K) σ row s₀ c = spawn-lands p t small σ row s₀ q e c K
+  return-simulated (stepFrame q (writeFirst e) ∷ K) σ row s₀ c = other-sought p t small σ row s₀ q e c K (λ d j. seek-simulated p t small σ row s₀ e d j)
+  return-simulated (stepFrame q (writeSecond w) ∷ K) σ row s₀ c = write-lands p t small σ row s₀ q w c K
+  return-simulated (stepFrame q (unaryPart o) ∷ K) σ row s₀ c = unary-lands p t small σ row s₀ q o c K
+  return-simulated (stepFrame q (againPart e) ∷ K) σ row s₀ c = again-lands p t small σ row s₀ q e c K
   return-simulated (markFrame σ′ ∷ K) σ row s₀ c = λ v b m s le R.
       let ((l, is, low, values), F) = R .frames in
       subst (λ (j : ℕ). Finds p t small σ row s₀ (return σ′ v K) (go p row m s (returning row j (codeValue v)))) (sym is)
@@ -355,12 +348,12 @@ module _ (p : List ℕ) (t : ℕ) (small : t < 16) where
 
   cost-small : (s : List ℕ) (K : List Frame) (row b c : ℕ) → 66 * t ≤ row → Frames p s t row b c K → cost K + 66 * t ≤ 770 + row
   cost-small s [] row b c lo F = omega (arith, lo)
-  cost-small s (letFrame q x e ∷ K) row b c lo F = omega (arith, lo)
-  cost-small s (spawnFrame q e ∷ K) row b c lo F = omega (arith, lo)
-  cost-small s (writeFirst q e ∷ K) row b c lo ((l, is, n, r, S), F) = let h = stands-size e (secondPart + q .index) (second p (q .index)) S in omega (arith, lo)
-  cost-small s (writeSecond q v ∷ K) row b c lo F = omega (arith, lo)
-  cost-small s (unaryFrame q o ∷ K) row b c lo F = omega (arith, lo)
-  cost-small s (againFrame q e ∷ K) row b c lo F = omega (arith, lo)
+  cost-small s (stepFrame q (letPart x e) ∷ K) row b c lo F = omega (arith, lo)
+  cost-small s (stepFrame q (spawnPart e) ∷ K) row b c lo F = omega (arith, lo)
+  cost-small s (stepFrame q (writeFirst e) ∷ K) row b c lo ((l, (is, n, r, S)), F) = let h = stands-size e (secondPart + q .index) (second p (q .index)) S in omega (arith, lo)
+  cost-small s (stepFrame q (writeSecond v) ∷ K) row b c lo F = omega (arith, lo)
+  cost-small s (stepFrame q (unaryPart o) ∷ K) row b c lo F = omega (arith, lo)
+  cost-small s (stepFrame q (againPart e) ∷ K) row b c lo F = omega (arith, lo)
   cost-small s (markFrame σ ∷ K) row b c lo ((l, is, low, values), F) =
       let h = cost-small s K (row - 1) (calledFrom s row) (continuation p (calledFrom s row)) (omega (arith, l)) F in omega (arith, l)
 
@@ -381,5 +374,5 @@ module _ (p : List ℕ) (t : ℕ) (small : t < 16) where
       Ready p t small σ row s₀ s (q .index) (continuation p (q .index)) K → Finds p t small σ row s₀ (runPart σ q e K) (go p row 2048 s (entering row (q .index + 1)))
   runs-part σ row s₀ q {v} e K s r S R =
       let h = stands-size e (q .index) (q .index + 1) S in
-      seek-simulated p t small σ row s₀ e (q .index) (q .index + 1) S (againFrame q e ∷ K) (λ u. at σ (againWord q u e) K) 1 2048 s (omega arith)
-      (record { same = R .same; long = R .long; inside = R .inside; values = R .values; frames = ((omega arith, refl, v, r, S), R .frames) }) (again-lands p t small σ row s₀ q e (q .index) K)
+      seek-simulated p t small σ row s₀ e (q .index) (q .index + 1) S (stepFrame q (againPart e) ∷ K) (λ u. at σ (againWord q u e) K) 1 2048 s (omega arith)
+      (record { same = R .same; long = R .long; inside = R .inside; values = R .values; frames = ((omega arith, (refl, v, r, S)), R .frames) }) (again-lands p t small σ row s₀ q e (q .index) K)
