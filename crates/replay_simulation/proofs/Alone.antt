@@ -33,12 +33,13 @@ use Rattle.replay_simulation.proofs.Finding.{frames-up, RowsSame, frame
 use Rattle.replay_simulation.proofs.Agreeing.{agree-variable}
 use Rattle.replay_simulation.proofs.Proceeding.{names-same}
 use Rattle.replay_simulation.proofs.Moving.{moves}
-use Rattle.replay_simulation.proofs.AtWord.{AtWord, Answers, pausing, goes, ready}
+use Rattle.replay_simulation.proofs.AtWord.{AtWord, Goes, by-act, pausing, goes, ready}
 
 -- ------------------------------------------------------------------ what the code does
 
 module _ (p s : List ℕ) (row c : ℕ) {q : Position} where
-  let-acts : {x : ℕ} (v : ℕ) → RowOf p q (Binary Let) x → acted p s (readyAt row (q .index) v) c ≡ (Go (entering row (second p (q .index))), set s (0 + 256 * row + x) v)
+  let-acts : {x : ℕ} (v : ℕ) → RowOf p q (Binary Let) x →
+      acted p s (readyAt row (q .index) v) c ≡ (Go (entering row (second p (q .index))), set s (0 + 256 * row + x) v)
   unfolding acted actedBy bound shapeAt ruleOf printed
   let-acts v r = rw (r .code, r .number)
 
@@ -56,8 +57,8 @@ stays p s t g d h C = subst (Finds p t s d) (sym (found-stop p s g 2048 h)) (C, 
 
 -- ------------------------------------------------------------------ let
 
-module _ {p s : List ℕ} {T : Threads} {R : Replay} {t row tid : ℕ} {σ : Env} {q : Position} {x : ℕ} {v : Value} {e : Expr} {K : List Frame} (A : AtWord p s T R t row tid σ (letWord q x v e) K)
-    (r : RowOf p q (Binary Let) x) (S : Stands p (continuation p (q .index)) (second p (q .index)) e) where
+module _ {p s : List ℕ} {T : Threads} {R : Replay} {t row tid : ℕ} {σ : Env} {q : Position} {x : ℕ} {v : Value} {e : Expr} {K : List Frame}
+    (A : AtWord p s T R t row tid σ (letWord q x v e) K) (r : RowOf p q (Binary Let) x) (S : Stands p (continuation p (q .index)) (second p (q .index)) e) where
   abbrev s₁ : List ℕ
   s₁ = set s (0 + 256 * row + x) (codeValue v)
 
@@ -101,64 +102,69 @@ module _ {p s : List ℕ} {T : Threads} {R : Replay} {t row tid : ℕ} {σ : Env
         (frames-same p t s s₁ row (q .index) (continuation p (q .index)) K bound-rows (A .frames));
   }
 
-  pub let-goes : Answers A (readyAt row (q .index) (codeValue v)) (stepWord (R .machine) t tid σ K first (letWord q x v e)) (acted p s (readyAt row (q .index) (codeValue v)) 0)
+  pub let-goes : Goes A first (readyAt row (q .index) (codeValue v)) 0
   let-goes =
-      subst (Answers A (readyAt row (q .index) (codeValue v)) (stepWord (R .machine) t tid σ K first (letWord q x v e))) (sym (let-acts p s row 0 (codeValue v) r))
+      by-act A first word 0 (let-acts p s row 0 (codeValue v) r)
       (moves
       (pausing A long₁ (λ i l n. agree-variable i t row x (codeValue v) s l (A .low) (A .inside) x-low n)
       (names-same s s₁ (λ j h. elsewhere j (λ z. omega (arith, z, h, A .low, A .inside .1, x-low))) (A .holds .names)))
-      (readyAt row (q .index) (codeValue v)) (entering row (second p (q .index))) (enter (update σ x v) e K) (enters-word bound-ready e S))
+      word (entering row (second p (q .index))) (enter (update σ x v) e K) (enters-word bound-ready e S))
+    where
+      word : ControlPoint
+      word = readyAt row (q .index) (codeValue v)
 
 -- ------------------------------------------------------------------ if
 
-module _ {p s : List ℕ} {T : Threads} {R : Replay} {t row tid : ℕ} {σ : Env} {q : Position} {e₁ e₂ : Expr} {K : List Frame} (A : AtWord p s T R t row tid σ (ifWord q e₁ e₂) K) {n : ℕ} (r : RowOf p q (Binary If) n) where
-  pub if-first : Stands p (continuation p (q .index)) (q .index + 1) e₁ →
-      Answers A (stoppedAt row (q .index)) (stepWord (R .machine) t tid σ K first (ifWord q e₁ e₂)) (acted p s (stoppedAt row (q .index)) 0)
+module _ {p s : List ℕ} {T : Threads} {R : Replay} {t row tid : ℕ} {σ : Env} {q : Position} {e₁ e₂ : Expr} {K : List Frame}
+    (A : AtWord p s T R t row tid σ (ifWord q e₁ e₂) K) {n : ℕ} (r : RowOf p q (Binary If) n) where
+  abbrev word : ControlPoint
+  word = stoppedAt row (q .index)
+
+  pub if-first : Stands p (continuation p (q .index)) (q .index + 1) e₁ → Goes A first word 0
   unfolding branched
   if-first S =
-      subst (Answers A (stoppedAt row (q .index)) (stepWord (R .machine) t tid σ K first (ifWord q e₁ e₂)))
-      (sym (if-acts p s row 0 r ∙ ap (λ (k : ℕ). (Go (entering row k), s)) (behind-is (q .index) (r .below))))
-      (goes A (stoppedAt row (q .index)) (entering row (q .index + 1)) (enter σ e₁ K) (enters-word (ready A (q .index + 1) (omega arith)) e₁ S))
+      by-act A first word 0 (if-acts p s row 0 r ∙ ap (λ (k : ℕ). (Go (entering row k), s)) (behind-is (q .index) (r .below)))
+      (goes A word (entering row (q .index + 1)) (enter σ e₁ K) (enters-word (ready A (q .index + 1) (omega arith)) e₁ S))
 
-  pub if-second : Stands p (continuation p (q .index)) (second p (q .index)) e₂ →
-      Answers A (stoppedAt row (q .index)) (stepWord (R .machine) t tid σ K secondOfTwo (ifWord q e₁ e₂)) (acted p s (stoppedAt row (q .index)) 1)
+  pub if-second : Stands p (continuation p (q .index)) (second p (q .index)) e₂ → Goes A secondOfTwo word 1
   unfolding branched
   if-second S =
-      subst (Answers A (stoppedAt row (q .index)) (stepWord (R .machine) t tid σ K secondOfTwo (ifWord q e₁ e₂))) (sym (if-acts p s row 1 r))
-      (goes A (stoppedAt row (q .index)) (entering row (second p (q .index))) (enter σ e₂ K) (enters-word (ready A (second p (q .index)) (omega (arith, r .far))) e₂ S))
+      by-act A secondOfTwo word 1 (if-acts p s row 1 r)
+      (goes A word (entering row (second p (q .index))) (enter σ e₂ K) (enters-word (ready A (second p (q .index)) (omega (arith, r .far))) e₂ S))
 
 -- ------------------------------------------------------------------ while
 
-module _ {p s : List ℕ} {T : Threads} {R : Replay} {t row tid : ℕ} {σ : Env} {K : List Frame} {q : Position} {e : Expr} {n : ℕ} (r : RowOf p q (Unary While) n) (S : Stands p (q .index) (q .index + 1) e) where
+module _ {p s : List ℕ} {T : Threads} {R : Replay} {t row tid : ℕ} {σ : Env} {q : Position} {e : Expr} {K : List Frame} {n : ℕ}
+    (r : RowOf p q (Unary While) n) (S : Stands p (q .index) (q .index + 1) e) where
   -- it becomes an `if`
-  pub while-goes : (A : AtWord p s T R t row tid σ (whileWord q e) K) → Answers A (stoppedAt row (q .index)) (stepWord (R .machine) t tid σ K first (whileWord q e)) (acted p s (stoppedAt row (q .index)) 0)
+  pub while-goes : (A : AtWord p s T R t row tid σ (whileWord q e) K) → Goes A first (stoppedAt row (q .index)) 0
   unfolding looped
   while-goes A =
-      subst (Answers A (stoppedAt row (q .index)) (stepWord (R .machine) t tid σ K first (whileWord q e))) (sym (while-acts p s row 0 (stoppedAt row (q .index)) refl r))
+      by-act A first (stoppedAt row (q .index)) 0 (while-acts p s row 0 (stoppedAt row (q .index)) refl r)
       (goes A (stoppedAt row (q .index)) (unrolledAt row (q .index)) (at σ (unrolledWord q e) K)
       (stays p s t (unrolledAt row (q .index)) (at σ (unrolledWord q e) K) (omega arith) (A .values, (refl, n, r, S), A .frames)))
 
   -- its part has given its value
-  pub again-goes : {v : Value} (A : AtWord p s T R t row tid σ (againWord q v e) K) →
-      Answers A (readyAt row (q .index) (codeValue v)) (stepWord (R .machine) t tid σ K first (againWord q v e)) (acted p s (readyAt row (q .index) (codeValue v)) 0)
+  pub again-goes : {v : Value} (A : AtWord p s T R t row tid σ (againWord q v e) K) → Goes A first (readyAt row (q .index) (codeValue v)) 0
   unfolding looped
   again-goes {v} A =
-      subst (Answers A (readyAt row (q .index) (codeValue v)) (stepWord (R .machine) t tid σ K first (againWord q v e))) (sym (while-acts p s row 0 (readyAt row (q .index) (codeValue v)) refl r))
-      (goes A (readyAt row (q .index) (codeValue v)) (stoppedAt row (q .index)) (at σ (whileWord q e) K)
+      by-act A first word 0 (while-acts p s row 0 word refl r)
+      (goes A word (stoppedAt row (q .index)) (at σ (whileWord q e) K)
       (stays p s t (stoppedAt row (q .index)) (at σ (whileWord q e) K) (omega arith) (A .values, (refl, n, r, S), A .frames)))
+    where
+      word : ControlPoint
+      word = readyAt row (q .index) (codeValue v)
 
   -- the part runs once more
-  pub unrolled-first : (A : AtWord p s T R t row tid σ (unrolledWord q e) K) →
-      Answers A (unrolledAt row (q .index)) (stepWord (R .machine) t tid σ K first (unrolledWord q e)) (acted p s (unrolledAt row (q .index)) 0)
+  pub unrolled-first : (A : AtWord p s T R t row tid σ (unrolledWord q e) K) → Goes A first (unrolledAt row (q .index)) 0
   unfolding looped
   unrolled-first A =
-      subst (Answers A (unrolledAt row (q .index)) (stepWord (R .machine) t tid σ K first (unrolledWord q e)))
-      (sym (while-acts p s row 0 (unrolledAt row (q .index)) refl r ∙ ap (λ (k : ℕ). (Go (entering row k), s)) (behind-is (q .index) (r .below))))
+      by-act A first (unrolledAt row (q .index)) 0
+      (while-acts p s row 0 (unrolledAt row (q .index)) refl r ∙ ap (λ (k : ℕ). (Go (entering row k), s)) (behind-is (q .index) (r .below)))
       (goes A (unrolledAt row (q .index)) (entering row (q .index + 1)) (runPart σ q e K) (runs-part (ready A (q .index) (omega arith)) e r S))
 
-  pub unrolled-second : (A : AtWord p s T R t row tid σ (unrolledWord q e) K) →
-      Answers A (unrolledAt row (q .index)) (stepWord (R .machine) t tid σ K secondOfTwo (unrolledWord q e)) (acted p s (unrolledAt row (q .index)) 1)
+  pub unrolled-second : (A : AtWord p s T R t row tid σ (unrolledWord q e) K) → Goes A secondOfTwo (unrolledAt row (q .index)) 1
   unfolding looped given
   unrolled-second A =
-      subst (Answers A (unrolledAt row (q .index)) (stepWord (R .machine) t tid σ K secondOfTwo (unrolledWord q e))) (sym (while-acts p s row 1 (unrolledAt row (q .index)) refl r))
-      (goes A (unrolledAt row (q .index)) (returning row (continuation p (q .index)) 0) (return σ zeroValue K) (returns-word (ready A (q .index) (omega arith)) zeroValue))
+      by-act A secondOfTwo (unrolledAt row (q .index)) 1 (while-acts p s row 1 (unrolledAt row (q .index)) refl r)
+      (goes A (unrolledAt row (q .index)) (given p row (q .index) 0) (return σ zeroValue K) (returns-word (ready A (q .index) (omega arith)) zeroValue))

@@ -15,7 +15,7 @@ use Rattle.spec.specs.Words.{role, calls}
 use Rattle.spec.specs.declared.Word.the-variants.{Unary}
 use Rattle.spec.specs.declared.UnaryWord.the-variants.{Call}
 use Rattle.calculus.specs.Expression.{Value, int, call, choose}
-use Rattle.calculus.specs.State.{update}
+use Rattle.calculus.specs.State.{first, update}
 use Rattle.workspace.specs.Layout.{ruleOf, printed}
 use Rattle.threads.specs.declared.Threads.{Threads}
 use Rattle.replay_control.specs.Layout.{leave, proceduresAt, keptValuesAt, openCallsAt, controlPointModesAt, controlPointPlacesAt, controlPointValuesAt, controlPointRowsAt, spaceSize}
@@ -37,7 +37,7 @@ use Rattle.replay_simulation.proofs.Finding.{RowsSame, frames-same, fra
 use Rattle.replay_simulation.proofs.Agreeing.{Agree, SharedSame, less-or-more}
 use Rattle.replay_simulation.proofs.Proceeding.{names-same}
 use Rattle.replay_simulation.proofs.Moving.{moves}
-use Rattle.replay_simulation.proofs.AtWord.{AtWord, Answers, pausing}
+use Rattle.replay_simulation.proofs.AtWord.{AtWord, Answers, Goes, pausing}
 
 -- ------------------------------------------------------------------ a row is cleared
 
@@ -164,8 +164,8 @@ place-found [] i h = absurd (omega (arith, h))
 place-found (x ∷ xs) zero h = (x, refl)
 place-found (x ∷ xs) (suc i) h = place-found xs i (omega (arith, h))
 
-module _ {p s : List ℕ} {T : Threads} {R : Replay} {t row tid : ℕ} {σ : Env} {q : Position} {g : ℕ} {v : Value} {K : List Frame} (A : AtWord p s T R t row tid σ (unaryWord q (call g) v) K)
-    {n : ℕ} (r : RowOf p q (Unary Call) n) (is : n ≡ g) where
+module _ {p s : List ℕ} {T : Threads} {R : Replay} {t row tid : ℕ} {σ : Env} {q : Position} {g : ℕ} {v : Value} {K : List Frame}
+    (A : AtWord p s T R t row tid σ (unaryWord q (call g) v) K) {n : ℕ} (r : RowOf p q (Unary Call) n) (is : n ≡ g) where
   abbrev M : Machine
   M = R .machine
 
@@ -225,7 +225,7 @@ module _ {p s : List ℕ} {T : Threads} {R : Replay} {t row tid : ℕ} {σ : Env
         (moves (pausing A (long₂ E) (λ i h m. agree-called E t i (body-ready .inside) h m) (names-same s after (shared-called E) (A .holds .names)))
         word (entering (row + 1) (firstOf p g)) entered (enters-word body-ready (body .body) (B .stands)))
 
-  pub call-goes : Answers A word (stepUnary M t tid σ K (call g) v) (acted p s word 0)
+  pub call-goes : Goes A first word 0
   call-goes =
       let (body, listed) = place-found (M .procedures) g called in
       rw listed (body-goes body listed)

@@ -37,7 +37,7 @@ use Rattle.replay_simulation.proofs.Agreeing.{agree-all}
 use Rattle.replay_simulation.proofs.Holds.{SlotIs}
 use Rattle.replay_simulation.proofs.Using.{Use, gave, left, Using, using-read, using-lock, using-unlock, using-post, using-wait, using-rdlock, using-rdunlock, using-wrlock, using-wrunlock, useOf, nameIn, usedTo, step-asks, UseIs, Roomy, uses-alike}
 use Rattle.replay_simulation.proofs.Naming.{slot-put-length, slot-agree, slotOf, slot-decodes, used-below, names-put}
-use Rattle.replay_simulation.proofs.AtWord.{AtWord, Answers, becomes}
+use Rattle.replay_simulation.proofs.AtWord.{AtWord, Answers, Goes, by-act, becomes}
 
 -- ------------------------------------------------------------------ what the code does
 
@@ -89,20 +89,22 @@ write-used x (rwlock N writer) w h = rw (h .0)
 
 -- ------------------------------------------------------------------ the machine's word
 
-module _ {p s : List ℕ} {T : Threads} {R : Replay} {t row tid : ℕ} {σ : Env} {w : machine.Word} {K : List Frame} (A : AtWord p s T R t row tid σ w K) (below : placeOf p s w < 256) where
+module _ {p s : List ℕ} {T : Threads} {R : Replay} {t row tid : ℕ} {σ : Env} {w : machine.Word} {K : List Frame}
+    (A : AtWord p s T R t row tid σ w K) (below : placeOf p s w < 256) where
   abbrev M : Machine
   M = R .machine
 
   -- the word becomes a value
-  gives-value : (f : ControlPoint) (x : Value) → Answers A f (some (gives M t tid σ K (M .names) x)) (Go (given p row (placeOf p s w) (codeValue x)), s)
-  unfolding given
+  gives-value : (f : ControlPoint) (x : Value) →
+      Answers A f (some (gives M t tid σ K (M .names) x)) (Go (given p row (placeOf p s w) (codeValue x)), s)
   gives-value f x = becomes A s (A .holds .long) (λ i h. agree-all i s) (A .holds .names) below f x
 
   -- the word leaves something else where it was
-  leaves-slot : (f : ControlPoint) (n : ℕ) (sl : state.Slot) (y : Slot) → n < M .next → SlotIs y sl → Answers A f (some (leaves M t tid σ K n sl)) (Go (given p row (placeOf p s w) 0), slotPut s (suc n) y)
-  unfolding given
+  leaves-slot : (f : ControlPoint) (n : ℕ) (sl : state.Slot) (y : Slot) → n < M .next → SlotIs y sl →
+      Answers A f (some (leaves M t tid σ K n sl)) (Go (given p row (placeOf p s w) 0), slotPut s (suc n) y)
   leaves-slot f n sl y l is =
-      becomes A (slotPut s (suc n) y) (slot-put-length s (suc n) y ∙ A .holds .long) (λ i h. slot-agree i s (suc n) y h) (names-put (A .holds .names) n sl y (A .holds .long) l is) below f zeroValue
+      becomes A (slotPut s (suc n) y) (slot-put-length s (suc n) y ∙ A .holds .long) (λ i h. slot-agree i s (suc n) y h)
+      (names-put (A .holds .names) n sl y (A .holds .long) l is) below f zeroValue
 
   -- the word asks for the use of what a value names
   asks : (f : ControlPoint) (v : Value) (u : Option Use) (x : StepEffect) → (slotOf (M .names) v ≡ unused → u ≡ none) → UseIs u x →
@@ -130,15 +132,16 @@ write-asks M t tid σ K q (name m) w = by-slot (M .names m)
     by-slot (rwlock N x) = refl
 
 module _ {p s : List ℕ} {T : Threads} {R : Replay} {t row tid : ℕ} {σ : Env} {q : Position} {K : List Frame} {n : ℕ} where
-  pub part-goes : {o : calculus.Unary} {v : Value} (A : AtWord p s T R t row tid σ (unaryWord q o v) K) → Using o → RowOf p q (Unary (partWord o)) n → Roomy (slotOf (R .machine .names) v) →
-      Answers A (readyAt row (q .index) (codeValue v)) (stepUnary (R .machine) t tid σ K o v) (acted p s (readyAt row (q .index) (codeValue v)) 0)
+  pub part-goes : {o : calculus.Unary} {v : Value} (A : AtWord p s T R t row tid σ (unaryWord q o v) K) → Using o → RowOf p q (Unary (partWord o)) n →
+      Roomy (slotOf (R .machine .names) v) → Goes A state.first (readyAt row (q .index) (codeValue v)) 0
   part-goes {o} {v} A u r roomy =
-      subst (λ (a : Act × List ℕ). Answers A f (stepUnary (R .machine) t tid σ K o v) a) (sym (part-acts p s row 0 o u (codeValue v) r))
-      (subst (λ (m : Option Machine). Answers A f m (effected p s row (q .index) (codeValue v) x)) (sym (step-asks (R .machine) t tid σ K o u v))
-      (asks A (r .below) f v (useOf o sl) x (λ e. ap (useOf o) e ∙ unused-useless o u) (uses-alike (slotAt s (codeValue v)) o u sl (slot-decodes (A .holds .names) v) roomy (codeValue v))))
+      by-act A state.first word 0 (part-acts p s row 0 o u (codeValue v) r)
+      (subst (λ (m : Option Machine). Answers A word m (effected p s row (q .index) (codeValue v) x)) (sym (step-asks (R .machine) t tid σ K o u v))
+      (asks A (r .below) word v (useOf o sl) x (λ e. ap (useOf o) e ∙ unused-useless o u)
+      (uses-alike (slotAt s (codeValue v)) o u sl (slot-decodes (A .holds .names) v) roomy (codeValue v))))
     where
-      f : ControlPoint
-      f = readyAt row (q .index) (codeValue v)
+      word : ControlPoint
+      word = readyAt row (q .index) (codeValue v)
 
       sl : state.Slot
       sl = slotOf (R .machine .names) v
@@ -147,14 +150,15 @@ module _ {p s : List ℕ} {T : Threads} {R : Replay} {t row tid : ℕ} {σ : Env
       x = effectOf (ruleOf (codeOf (Unary (partWord o)))) (slotAt s (codeValue v)) (codeValue v)
 
   pub write-goes : {v w : Value} (A : AtWord p s T R t row tid σ (writeWord q v w) K) → RowOf p q (Binary Write) n → kept s row (q .index) ≡ codeValue v →
-      Answers A (readyAt row (q .index) (codeValue w)) (stepWord (R .machine) t tid σ K state.first (writeWord q v w)) (acted p s (readyAt row (q .index) (codeValue w)) 0)
+      Goes A state.first (readyAt row (q .index) (codeValue w)) 0
   write-goes {v} {w} A r held =
-      subst (λ (a : Act × List ℕ). Answers A f (stepWord (R .machine) t tid σ K state.first (writeWord q v w)) a) (sym (write-acts p s row 0 (codeValue v) (codeValue w) held r))
-      (subst (λ (m : Option Machine). Answers A f m (effected p s row (q .index) (codeValue v) x)) (sym (write-asks (R .machine) t tid σ K q v w))
-      (asks A (r .below) f v (writeUse sl w) x (λ e. ap (λ (y : state.Slot). writeUse y w) e) (write-used (slotAt s (codeValue v)) sl w (slot-decodes (A .holds .names) v))))
+      by-act A state.first word 0 (write-acts p s row 0 (codeValue v) (codeValue w) held r)
+      (subst (λ (m : Option Machine). Answers A word m (effected p s row (q .index) (codeValue v) x)) (sym (write-asks (R .machine) t tid σ K q v w))
+      (asks A (r .below) word v (writeUse sl w) x (λ e. ap (λ (y : state.Slot). writeUse y w) e)
+      (write-used (slotAt s (codeValue v)) sl w (slot-decodes (A .holds .names) v))))
     where
-      f : ControlPoint
-      f = readyAt row (q .index) (codeValue w)
+      word : ControlPoint
+      word = readyAt row (q .index) (codeValue w)
 
       sl : state.Slot
       sl = slotOf (R .machine .names) v

@@ -11,7 +11,6 @@ use lib.ListN.{length, getD, set, replicate, getElem?, length-set}
 use lib.Seq.{getD-set-same, getD-set-other}
 use Rattle.spec.specs.Program.{Program}
 use Rattle.calculus.specs.Expression.{int, choose}
-use Rattle.calculus.specs.State as state
 use Rattle.calculus.specs.State.{unused, identifier, update}
 use Rattle.calculus.proofs.Laws.Maps.{none-is-not-some, update-other}
 use Rattle.replay_theory.specs.declared.Status.the-variants.{Running}

@@ -51,7 +51,7 @@ use Rattle.replay_simulation.proofs.Proceeding.{place-below}
 use Rattle.replay_simulation.proofs.Using.{Using, using-read, using-lock, using-unlock, using-post, using-wait, using-rdlock, using-rdunlock, using-wrlock, using-wrunlock, Roomy}
 use Rattle.replay_simulation.proofs.Naming.{slotOf, slot-decodes}
 use Rattle.replay_simulation.proofs.Moving.{Answered}
-use Rattle.replay_simulation.proofs.AtWord.{AtWord, Answers, at-word}
+use Rattle.replay_simulation.proofs.AtWord.{AtWord, Answers, Goes, at-word}
 use Rattle.replay_simulation.proofs.Alone.{let-goes, if-first, if-second, while-goes, again-goes, unrolled-first, unrolled-second}
 use Rattle.replay_simulation.proofs.Sharing.{part-goes, write-goes}
 use Rattle.replay_simulation.proofs.Making.{making-goes, maker-acts, ref-acts, ref-new, maker-new}
@@ -104,10 +104,12 @@ stuck : (p s : List ℕ) (T : Threads) → Answered p (checkLimits within none) 
 unfolding checkLimits
 stuck p s T = refl
 
-module _ {p s : List ℕ} {T : Threads} {R : Replay} {t row tid : ℕ} {σ : Env} {w : machine.Word} {K : List Frame} (A : AtWord p s T R t row tid σ w K) where
+module _ {p s : List ℕ} {T : Threads} {R : Replay} {t row tid : ℕ} {σ : Env} {w : machine.Word} {K : List Frame}
+    (A : AtWord p s T R t row tid σ w K) where
   -- what is left of a line once the word is known
   abbrev Line : Option Part → Outcome Replay
-  Line o = checkLimits within (o >>= λ part. stepWord (R .machine) t tid σ K part w >>= λ N. some (record { machine = N; things = thingsAfter (effect (redex σ w)) (R .things) }))
+  Line o =
+      checkLimits within (o >>= λ part. stepWord (R .machine) t tid σ K part w >>= λ N. some (record { machine = N; things = thingsAfter (effect (redex σ w)) (R .things) }))
 
   abbrev WordLine : ControlPoint → ℕ → Type 0
   WordLine f c = Answered p (Line (partChosen (redex σ w) c)) (steppedFrom p s T t f c)
@@ -129,7 +131,8 @@ module _ {p s : List ℕ} {T : Threads} {R : Replay} {t row tid : ℕ} {σ : Env
   choice-none f c e h = rw (h, e) (stuck p s T)
 
   -- a word with nothing to choose
-  plain : {f g : ControlPoint} → f ≡ g → ((c : ℕ) → partChosen (redex σ w) c ≡ noChoice c) → eqb (g .mode) 4 ≡ false → isIf (shapeAt p (g .at)) ≡ false → Takes first g 0 → (c : ℕ) → WordLine f c
+  plain : {f g : ControlPoint} → f ≡ g → ((c : ℕ) → partChosen (redex σ w) c ≡ noChoice c) → eqb (g .mode) 4 ≡ false →
+      isIf (shapeAt p (g .at)) ≡ false → Takes first g 0 → (c : ℕ) → WordLine f c
   unfolding noChoice
   plain {g = g} z is a b G c = subst (λ (h : ControlPoint). WordLine h c) (sym z) (by-choice c)
     where
@@ -138,7 +141,8 @@ module _ {p s : List ℕ} {T : Threads} {R : Replay} {t row tid : ℕ} {σ : Env
       by-choice (suc c) = choice-none g (suc c) (is (suc c)) (refuses p g a b c)
 
   -- an `if`
-  either : {f g : ControlPoint} → f ≡ g → ((c : ℕ) → partChosen (redex σ w) c ≡ partOfIf c) → mayChoose p g 1 ≡ true → Takes first g 0 → Takes second g 1 → (c : ℕ) → WordLine f c
+  either : {f g : ControlPoint} → f ≡ g → ((c : ℕ) → partChosen (redex σ w) c ≡ partOfIf c) → mayChoose p g 1 ≡ true →
+      Takes first g 0 → Takes second g 1 → (c : ℕ) → WordLine f c
   unfolding partOfIf
   either {g = g} z is a G₁ G₂ c = subst (λ (h : ControlPoint). WordLine h c) (sym z) (by-choice c)
     where
@@ -180,29 +184,33 @@ roomy-value names roomy (name n) = roomy n
 
 module _ {p s : List ℕ} {T : Threads} {R : Replay} {t row tid : ℕ} {σ : Env} {K : List Frame} where
   join-goes : {q : Position} {m : ℕ} (v : Value) (A : AtWord p s T R t row tid σ (unaryWord q join v) K) → RowOf p q (Unary Join) m →
-      Answers A (readyAt row (q .index) (codeValue v)) (stepUnary (R .machine) t tid σ K join v) (acted p s (readyAt row (q .index) (codeValue v)) 0)
+      Goes A first (readyAt row (q .index) (codeValue v)) 0
   unfolding afterAct effected actStep
-  join-goes {q} (int k) A r = rw (join-acts p s row 0 0 r) (constant (identified (slotAt s 0) unused (slot-decodes (A .holds .names) (int k))))
+  join-goes {q} (int k) A r =
+      rw (join-acts p s row 0 0 r) (constant (identified (slotAt s 0) unused (slot-decodes (A .holds .names) (int k))))
     where
       constant : Identified (slotAt s 0) unused → Answers A (readyAt row (q .index) 0) none (effected p s row (q .index) 0 (joinedOf (slotAt s 0)))
       constant (is-one a b c) = none-is-not-some a
       constant (is-none a b c) = rw b (no-identifier A (readyAt row (q .index) 0) (q .index) 0)
-  join-goes {q} (name n) A r = rw (join-acts p s row 0 (suc n) r) (by-slot (identified (slotAt s (suc n)) (R .machine .names n) (slot-decodes (A .holds .names) (name n))))
+  join-goes {q} (name n) A r =
+      rw (join-acts p s row 0 (suc n) r) (by-slot (identified (slotAt s (suc n)) (R .machine .names n) (slot-decodes (A .holds .names) (name n))))
     where
       by-slot : Identified (slotAt s (suc n)) (R .machine .names n) →
           Answers A (readyAt row (q .index) (suc n)) (stepUnary (R .machine) t tid σ K join (name n)) (effected p s row (q .index) (suc n) (joinedOf (slotAt s (suc n))))
       by-slot (is-one a b c) = rw (a, b) (joining-goes A)
       by-slot (is-none a b c) = rw (a, b) (no-identifier A (readyAt row (q .index) (suc n)) (q .index) (suc n))
 
-  spawn-goes : {q : Position} {m : ℕ} (v : Value) {e : Expr} (A : AtWord p s T R t row tid σ (spawnWord q v e) K) → RowOf p q (Binary Spawn) m → Stands p finish (secondAt p (q .index)) e →
-      Answers A (readyAt row (q .index) (codeValue v)) (stepWord (R .machine) t tid σ K first (spawnWord q v e)) (acted p s (readyAt row (q .index) (codeValue v)) 0)
+  spawn-goes : {q : Position} {m : ℕ} (v : Value) {e : Expr} (A : AtWord p s T R t row tid σ (spawnWord q v e) K) → RowOf p q (Binary Spawn) m →
+      Stands p finish (secondAt p (q .index)) e → Goes A first (readyAt row (q .index) (codeValue v)) 0
   unfolding afterAct effected actStep
-  spawn-goes {q} (int k) A r S = rw (spawn-acts p s row 0 0 r) (constant (identified (slotAt s 0) unused (slot-decodes (A .holds .names) (int k))))
+  spawn-goes {q} (int k) A r S =
+      rw (spawn-acts p s row 0 0 r) (constant (identified (slotAt s 0) unused (slot-decodes (A .holds .names) (int k))))
     where
       constant : Identified (slotAt s 0) unused → Answers A (readyAt row (q .index) 0) none (effected p s row (q .index) 0 (spawnedOf (slotAt s 0)))
       constant (is-one a b c) = none-is-not-some a
       constant (is-none a b c) = rw c (no-identifier A (readyAt row (q .index) 0) (q .index) 0)
-  spawn-goes {q} (name n) {e} A r S = rw (spawn-acts p s row 0 (suc n) r) (by-slot (identified (slotAt s (suc n)) (R .machine .names n) (slot-decodes (A .holds .names) (name n))))
+  spawn-goes {q} (name n) {e} A r S =
+      rw (spawn-acts p s row 0 (suc n) r) (by-slot (identified (slotAt s (suc n)) (R .machine .names n) (slot-decodes (A .holds .names) (name n))))
     where
       by-slot : Identified (slotAt s (suc n)) (R .machine .names n) →
           Answers A (readyAt row (q .index) (suc n)) (stepWord (R .machine) t tid σ K first (spawnWord q (name n) e)) (effected p s row (q .index) (suc n) (spawnedOf (slotAt s (suc n))))
