@@ -29,7 +29,7 @@ use Rattle.replay_engine.specs.ControlPoints.{controlPointAt}
 use Rattle.replay_machine.specs.Environment.{Env, zeros}
 use Rattle.replay_machine.specs.Control.{Frame, markFrame, unaryWord, Control, enter}
 use Rattle.replay_machine.specs.State.{Machine}
-use Rattle.replay_machine.specs.Step.{goesTo, stepUnary}
+use Rattle.replay_machine.specs.Step.{goesTo}
 use Rattle.replay_machine.specs.Replay.{Replay}
 use Rattle.replay_simulation.proofs.Held.{codeValue, RowOf, BodyStands, Values, Frames}
 use Rattle.replay_simulation.proofs.Advancing.{same-all, RowIn}

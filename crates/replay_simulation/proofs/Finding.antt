@@ -21,11 +21,12 @@ use Rattle.workspace.specs.Layout.{ruleOf, codeOf, printed, shapeOf}
 use Rattle.replay_control.specs.Layout.{secondPart, finish, leave, keptValuesAt, openCallsAt, spaceSize}
 use Rattle.replay_control.specs.declared.ControlPoint.{ControlPoint}
 use Rattle.replay_control.specs.Shapes.{isWrite}
-use Rattle.replay_control.specs.Control.{variable, kept, calledFrom, continuation, second, entering, returning, stoppedAt, readyAt, doneWith, enteredBy, found}
+use Rattle.replay_control.specs.Control.{variable, kept, calledFrom, continuation, second, behind, entering, returning, stoppedAt, readyAt, doneWith, enteredBy, found}
 use Rattle.replay_control.proofs.Advances.{found-stop}
 use Rattle.replay_machine.specs.Environment.{Env}
+use Rattle.replay_machine.specs.Control as machine
 use Rattle.replay_machine.specs.Control.{FrameForm, letPart, spawnPart, writeFirst, writeSecond, unaryPart, againPart, Frame, stepFrame, markFrame, letWord, ifWord, whileWord, spawnWord, writeWord, unaryWord, nullaryWord, againWord, Control, done, at, seekPart, seek, return, enter, runPart, marks}
-use Rattle.replay_simulation.proofs.Held.{codeValue, partWord, PartNumber, Row, RowOf, Stands, Values, PartAt, Frames, ControlAt}
+use Rattle.replay_simulation.proofs.Held.{codeValue, partWord, PartNumber, Row, RowOf, Stands, Values, PartAt, Frames, WordAt, placeOf, ControlAt}
 use Rattle.replay_simulation.proofs.Advancing.{row-of, by-position, behind-is, go, enters, to-first, to-second, to-other, to-end, to-caller, SameBut, RowIn, same-but-one}
 
 -- ------------------------------------------------------------------ frames
@@ -122,8 +123,10 @@ module _ (p : List ℕ) (t : ℕ) (s₀ : List ℕ) where
   abbrev pub Finds : Control → ControlPoint × List ℕ → Type 0
   Finds d r = ControlAt p (r .1) t (r .0) d × SameBut t s₀ (r .1)
 
-  takes-advance : (d : Control) (m : ℕ) (s : List ℕ) (f : ControlPoint) (r : ControlPoint × List ℕ) → 1 ≤ m → found (suc (m - 1)) p s f ≡ r → Finds d r → Finds d (found m p s f)
-  takes-advance d m s f r h e F = subst (λ (z : ℕ). Finds d (found z p s f)) back (subst (Finds d) (sym e) F)
+  -- one turn, and what it finds from there
+  takes-turn : (d : Control) (m : ℕ) (s : List ℕ) (f : ControlPoint) {r : ControlPoint × List ℕ} → 1 ≤ m → found (suc (m - 1)) p s f ≡ r → Finds d r →
+      Finds d (found m p s f)
+  takes-turn d m s f h e F = subst (λ (z : ℕ). Finds d (found z p s f)) back (subst (Finds d) (sym e) F)
     where
       back : suc (m - 1) ≡ m
       back = omega (arith, h)
@@ -137,6 +140,10 @@ module _ (p : List ℕ) (t : ℕ) (s₀ : List ℕ) where
       pub inside : RowIn t row
       pub values : Values p s row σ
       pub frames : Frames p s t row b c K
+
+    -- the same within other frames
+    framed : {s : List ℕ} {b b′ c c′ : ℕ} {K K′ : List Frame} → Ready s b c K → Frames p s t row b′ c′ K′ → Ready s b′ c′ K′
+    framed R F = record { low = R .low; same = R .same; long = R .long; inside = R .inside; values = R .values; frames = F }
 
     -- what follows once what has continuation c is a value, with n turns left
     abbrev pub Follows : (c : ℕ) → List Frame → (n : ℕ) → (Value → Control) → Type 0
@@ -163,11 +170,11 @@ module _ (p : List ℕ) (t : ℕ) (s₀ : List ℕ) where
     not-write (hold wrunlock) = refl
     not-write (call f) = refl
 
-    lands : (d : Control) {q : Position} {w : Word} {v : ℕ} (c x m : ℕ) (s : List ℕ) → c ≡ q .index → RowOf p q w v → isWrite (shapeOf (ruleOf (codeOf w))) ≡ false → 1 ≤ m →
-        Finds d (readyAt row (q .index) x, s) → Finds d (go p row m s (returning row c x))
+    lands : (d : Control) {q : Position} {w : Word} {v : ℕ} (c x m : ℕ) (s : List ℕ) → c ≡ q .index → RowOf p q w v →
+        isWrite (shapeOf (ruleOf (codeOf w))) ≡ false → 1 ≤ m → Finds d (readyAt row (q .index) x, s) → Finds d (go p row m s (returning row c x))
     lands d {q = q} c x m s e r h le F =
         subst (λ (j : ℕ). Finds d (go p row m s (returning row j x))) (sym e)
-        (takes-advance d m s (returning row (q .index) x) (readyAt row (q .index) x, s) le (to-first p row (m - 1) (q .index) x s r h) F)
+        (takes-turn d m s (returning row (q .index) x) le (to-first p row (m - 1) (q .index) x s r h) F)
 
     let-lands : (q : Position) (x : ℕ) (e : Expr) (c : ℕ) (K : List Frame) → Follows c (stepFrame q (letPart x e) ∷ K) 1 (λ v. at σ (letWord q x v e) K)
     unfolding isWrite ruleOf printed
@@ -196,122 +203,121 @@ module _ (p : List ℕ) (t : ℕ) (s₀ : List ℕ) where
     write-lands q w c K u b m s le R =
         let ((l, (is, n, r, held)), F) = R .frames in
         subst (λ (j : ℕ). Finds (at σ (writeWord q w u) K) (go p row m s (returning row j (codeValue u)))) (sym is)
-        (takes-advance (at σ (writeWord q w u) K) m s (returning row (secondPart + q .index) (codeValue u)) (readyAt row (q .index) (codeValue u), s) le
-        (to-second p row (m - 1) (q .index) (codeValue u) s (r .below)) ((R .values, (refl, n, r, held), F), R .same))
+        (takes-turn (at σ (writeWord q w u) K) m s (returning row (secondPart + q .index) (codeValue u)) le (to-second p row (m - 1) (q .index) (codeValue u) s (r .below))
+        ((R .values, (refl, n, r, held), F), R .same))
 
     -- ---------------------------------------------------------------- the second part of a `write`
 
     -- its first part's value is kept
     other-ready : (q : Position) (e : Expr) (w : Value) (b c : ℕ) (K : List Frame) (s : List ℕ) → Ready s b c (stepFrame q (writeFirst e) ∷ K) →
-        Ready (set s (keptValuesAt + 256 * row + q .index) (codeValue w)) (q .index + 1) (secondPart + q .index) (stepFrame q (writeSecond w) ∷ K)
+        Ready (set s (keptValuesAt + 256 * row + q .index) (codeValue w)) (second p (q .index)) (secondPart + q .index) (stepFrame q (writeSecond w) ∷ K)
     unfolding variable
     other-ready q e w b c K s R =
         let ((l, (is, n, r, S)), F) = R .frames in
-        let low = r .below in
+        let at-kept = keptValuesAt + 256 * row + q .index in
         record {
           low = R .low;
-          same = same-but-one t row (q .index) (codeValue w) s₀ s (R .inside) low (R .same);
-          long = length-set s (keptValuesAt + 256 * row + q .index) (codeValue w) ∙ R .long;
+          same = same-but-one t row (q .index) (codeValue w) s₀ s (R .inside) (r .below) (R .same);
+          long = length-set s at-kept (codeValue w) ∙ R .long;
           inside = R .inside;
-          values = λ x h. getD-set-other s (keptValuesAt + 256 * row + q .index) (0 + 256 * row + x) (codeValue w) 0 (λ z. omega (arith, z, h, R .low, R .inside .1)) ∙ R .values x h;
+          values = λ x h. getD-set-other s at-kept (0 + 256 * row + x) (codeValue w) 0 (λ z. omega (arith, z, h, R .low, R .inside .1)) ∙ R .values x h;
           frames = (
-            (omega arith, (refl, n, r, kept-here p t s row (q .index) (codeValue w) (omega (arith, R .long, R .low, low, R .inside .1)))),
-            frames-same p t s (set s (keptValuesAt + 256 * row + q .index) (codeValue w)) row (q .index) (continuation p (q .index)) K (kept-other p t s row (q .index) (codeValue w) (R .low) (R .inside) low) F,
+            (r .far, (refl, n, r, kept-here p t s row (q .index) (codeValue w) (omega (arith, R .long, R .low, r .below, R .inside .1)))),
+            frames-same p t s (set s at-kept (codeValue w)) row (q .index) (continuation p (q .index)) K
+                (kept-other p t s row (q .index) (codeValue w) (R .low) (R .inside) (r .below)) F,
           );
         }
-
-    raised : (s : List ℕ) (b b′ c : ℕ) (K : List Frame) → b ≤ b′ → Ready s b c K → Ready s b′ c K
-    raised s b b′ c K h R = record { low = R .low; same = R .same; long = R .long; inside = R .inside; values = R .values; frames = frames-up p t s row b b′ c K h (R .frames) }
 
     other-sought : (q : Position) (e : Expr) (c : ℕ) (K : List Frame) → ((d k : ℕ) → Stands p d k e → Sought d k e) →
         Follows c (stepFrame q (writeFirst e) ∷ K) (3 * size e + 2) (λ w. seek σ e (stepFrame q (writeSecond w) ∷ K) (λ u. at σ (writeWord q w u) K))
     other-sought q e c K rec w b m s le R =
         let ((l, (is, n, r, S)), F) = R .frames in
-        subst (λ (j : ℕ). Finds (seek σ e (stepFrame q (writeSecond w) ∷ K) (λ u. at σ (writeWord q w u) K)) (go p row m s (returning row j (codeValue w)))) (sym is)
-        (takes-advance (seek σ e (stepFrame q (writeSecond w) ∷ K) (λ u. at σ (writeWord q w u) K)) m s (returning row (q .index) (codeValue w))
-        (go p row (m - 1) (set s (keptValuesAt + 256 * row + q .index) (codeValue w)) (entering row (second p (q .index)))) (omega (arith, le))
+        subst (λ (j : ℕ). Finds (seek σ e (stepFrame q (writeSecond w) ∷ K) κ) (go p row m s (returning row j (codeValue w)))) (sym is)
+        (takes-turn (seek σ e (stepFrame q (writeSecond w) ∷ K) κ) m s (returning row (q .index) (codeValue w)) (omega (arith, le))
         (to-other p row (m - 1) (q .index) (codeValue w) s r)
-        (rec (secondPart + q .index) (second p (q .index)) S (stepFrame q (writeSecond w) ∷ K) (λ u. at σ (writeWord q w u) K) 1 (m - 1) (set s (keptValuesAt + 256 * row + q .index) (codeValue w)) (omega (arith, le))
-        (raised (set s (keptValuesAt + 256 * row + q .index) (codeValue w)) (q .index + 1) (second p (q .index)) (secondPart + q .index) (stepFrame q (writeSecond w) ∷ K) (omega (arith, r .far)) (other-ready q e w b c K s R))
+        (rec (secondPart + q .index) (second p (q .index)) S (stepFrame q (writeSecond w) ∷ K) κ 1 (m - 1) _ (omega (arith, le)) (other-ready q e w b c K s R)
         (write-lands q w (secondPart + q .index) K)))
+      where
+        κ : Value → Control
+        κ u = at σ (writeWord q w u) K
 
     -- ---------------------------------------------------------------- the theorem
 
     -- a step whose first part is entered, within a frame of the step
-    first-sought : (k : ℕ) {q : Position} {w : Word} {v c : ℕ} (e : Expr) (f : FrameForm) (κ : Value → Control) (r : Row p k q w v c) →
-        ((x : ℕ) → enteredBy (shapeOf (ruleOf (codeOf w))) row k c x ≡ entering row (k + 1)) → Sought k (k + 1) e →
-        (K : List Frame) (n m : ℕ) (s : List ℕ) → n + 3 * size e + 1 ≤ m → Ready s k c K → PartAt p s row k q f → Follows k (stepFrame q f ∷ K) n κ →
-        Finds (seek σ e (stepFrame q f ∷ K) κ) (go p row m s (entering row k))
-    first-sought k {q} {v = v} e f κ r waits rec K n m s fuel R P next =
-        takes-advance (seek σ e (stepFrame q f ∷ K) κ) m s (entering row k) (go p row (m - 1) s (entering row (k + 1))) (omega (arith, fuel))
-        (enters p row (m - 1) k s r ∙ ap (go p row (m - 1) s) (waits (variable s row v)))
-        (rec (stepFrame q f ∷ K) κ n (m - 1) s (omega (arith, fuel)) ready next)
-      where
-        ready : Ready s (k + 1) k (stepFrame q f ∷ K)
-        ready = record {
-          low = R .low;
-          same = R .same;
-          long = R .long;
-          inside = R .inside;
-          values = R .values;
-          frames = ((let i = r .index in omega arith, P), by-position r (λ c k. Frames p s t row k c K) (R .frames));
-        }
+    first-sought : {k : ℕ} {q : Position} {w : Word} {v c : ℕ} (r : Row p k q w v c) → ((x : ℕ) → enteredBy (shapeOf (ruleOf (codeOf w))) row k c x ≡ entering row (behind k)) →
+        (e : Expr) → Sought k (k + 1) e → (K : List Frame) (f : FrameForm) (κ : Value → Control) (n m : ℕ) (s : List ℕ) → n + 3 * size e + 1 ≤ m → Ready s k c K →
+        PartAt p s row k q f → Follows k (stepFrame q f ∷ K) n κ → Finds (seek σ e (stepFrame q f ∷ K) κ) (go p row m s (entering row k))
+    first-sought {k} {q} {v = v} r waits e rec K f κ n m s fuel R P next =
+        takes-turn (seek σ e (stepFrame q f ∷ K) κ) m s (entering row k) (omega (arith, fuel))
+        (enters p row (m - 1) k s r ∙ ap (go p row (m - 1) s) (waits (variable s row v) ∙ ap (entering row) (behind-is k (r .below))))
+        (rec (stepFrame q f ∷ K) κ n (m - 1) s (omega (arith, fuel))
+        (framed R ((let i = r .index in omega arith, P), by-position r (λ c k. Frames p s t row k c K) (R .frames))) next)
 
     -- a step that is the next word as it is
-    stops : (d : Control) (k : ℕ) {q : Position} {w : Word} {v c : ℕ} → Row p k q w v c → ((x : ℕ) → enteredBy (shapeOf (ruleOf (codeOf w))) row k c x ≡ stoppedAt row k) →
-        (m : ℕ) (s : List ℕ) → 1 ≤ m → Finds d (stoppedAt row k, s) → Finds d (go p row m s (entering row k))
-    stops d k {v = v} r here m s le F =
-        takes-advance d m s (entering row k) (stoppedAt row k, s) le (enters p row (m - 1) k s r ∙ ap (go p row (m - 1) s) (here (variable s row v)) ∙ found-stop p s (stoppedAt row k) (m - 1) (omega arith)) F
+    stops : (w′ : machine.Word) {k : ℕ} {q : Position} {w : Word} {v c : ℕ} (r : Row p k q w v c) → ((x : ℕ) → enteredBy (shapeOf (ruleOf (codeOf w))) row k c x ≡ stoppedAt row k) →
+        (K : List Frame) (m : ℕ) (s : List ℕ) → 1 ≤ m → Ready s k c K → placeOf p s w′ ≡ q .index → WordAt p s row (stoppedAt row (q .index)) w′ →
+        Finds (at σ w′ K) (go p row m s (entering row k))
+    stops w′ {k} {v = v} r here K m s le R is W =
+        takes-turn (at σ w′ K) m s (entering row k) le
+        (enters p row (m - 1) k s r ∙ ap (go p row (m - 1) s) (here (variable s row v)) ∙ found-stop p s (stoppedAt row k) (m - 1) (omega arith)) (
+          (
+            R .values,
+            subst (λ (j : ℕ). WordAt p s row (stoppedAt row j) w′) (r .index) W,
+            subst (λ (j : ℕ). Frames p s t row j (continuation p j) K) (sym is) (by-position r (λ c k. Frames p s t row k c K) (R .frames)),
+          ),
+          R .same,
+        )
 
     -- a word with one part that must be a value
-    part-sought : (o : calculus.Unary) (k : ℕ) {q : Position} {v c : ℕ} (e : Expr) → Row p k q (Unary (partWord o)) v c → PartNumber o v →
-        ((x : ℕ) → enteredBy (shapeOf (ruleOf (codeOf (Unary (partWord o))))) row k c x ≡ entering row (k + 1)) → Sought k (k + 1) e →
-        (K : List Frame) (n m : ℕ) (s : List ℕ) → n + 3 * suc (size e) ≤ m → Ready s k c K → Finds (seekPart σ q o K (seek σ e)) (go p row m s (entering row k))
-    part-sought o k {q = q} {v = v} e r N waits rec K n m s fuel R =
-        first-sought k e (unaryPart o) (λ u. at σ (unaryWord q o u) K) r waits rec K 1 m s (omega (arith, fuel)) R
-        (sym (r .index), v, row-of r, N) (unary-lands q o k K)
+    part-sought : (o : calculus.Unary) {k : ℕ} {q : Position} {v c : ℕ} (r : Row p k q (Unary (partWord o)) v c) → PartNumber o v →
+        ((x : ℕ) → enteredBy (shapeOf (ruleOf (codeOf (Unary (partWord o))))) row k c x ≡ entering row (behind k)) →
+        (e : Expr) → Sought k (k + 1) e → (K : List Frame) (n m : ℕ) (s : List ℕ) → n + 3 * suc (size e) ≤ m → Ready s k c K →
+        Finds (seekPart σ q o K (seek σ e)) (go p row m s (entering row k))
+    part-sought o {k} {q} {v} r N waits e rec K n m s fuel R =
+        first-sought r waits e rec K (unaryPart o) (λ u. at σ (unaryWord q o u) K) 1 m s (omega (arith, fuel)) R (sym (r .index), v, row-of r, N) (unary-lands q o k K)
 
     pub seek-simulated : (e : Expr) (c k : ℕ) → Stands p c k e → Sought c k e
     unfolding size enteredBy ruleOf printed largestValue
     seek-simulated (leaf Var q x) c k r K κ n m s fuel R next =
-        takes-advance (κ (σ x)) m s (entering row k) (go p row (m - 1) s (returning row c (codeValue (σ x)))) (omega (arith, fuel))
-        (enters p row (m - 1) k s r ∙ ap (λ (z : ℕ). go p row (m - 1) s (returning row c z)) (R .values x (omega (arith, r .small .0)))) (next (σ x) k (m - 1) s (omega (arith, fuel)) R)
+        takes-turn (κ (σ x)) m s (entering row k) (omega (arith, fuel))
+        (enters p row (m - 1) k s r ∙ ap (λ (z : ℕ). go p row (m - 1) s (returning row c z)) (R .values x (omega (arith, r .small .0))))
+        (next (σ x) k (m - 1) s (omega (arith, fuel)) R)
     seek-simulated (leaf Int q v) c k r K κ n m s fuel R next =
-        takes-advance (κ (int v)) m s (entering row k) (go p row (m - 1) s (returning row c 0)) (omega (arith, fuel)) (enters p row (m - 1) k s r) (next (int v) k (m - 1) s (omega (arith, fuel)) R)
-    seek-simulated (leaf Newtid q v) c k r K κ n m s fuel R next = stops (at σ (nullaryWord q calculus.newtid) K) k r (λ x. refl) m s (omega (arith, fuel))
-        ((R .values, (ap (stoppedAt row) (sym (r .index)), v, row-of r, tt), by-position r (λ c k. Frames p s t row k c K) (R .frames)), R .same)
-    seek-simulated (leaf Newlock q v) c k r K κ n m s fuel R next = stops (at σ (nullaryWord q calculus.newlock) K) k r (λ x. refl) m s (omega (arith, fuel))
-        ((R .values, (ap (stoppedAt row) (sym (r .index)), v, row-of r, tt), by-position r (λ c k. Frames p s t row k c K) (R .frames)), R .same)
-    seek-simulated (leaf Newsem q v) c k r K κ n m s fuel R next = stops (at σ (nullaryWord q calculus.newsem) K) k r (λ x. refl) m s (omega (arith, fuel))
-        ((R .values, (ap (stoppedAt row) (sym (r .index)), v, row-of r, tt), by-position r (λ c k. Frames p s t row k c K) (R .frames)), R .same)
-    seek-simulated (leaf Newrwlock q v) c k r K κ n m s fuel R next = stops (at σ (nullaryWord q (calculus.newrwlock v)) K) k r (λ x. refl) m s (omega (arith, fuel))
-        ((R .values, (ap (stoppedAt row) (sym (r .index)), v, row-of r, refl), by-position r (λ c k. Frames p s t row k c K) (R .frames)), R .same)
-    seek-simulated (unary While q v e) c k (r, S) K κ n m s fuel R next = stops (at σ (whileWord q e) K) k r (λ x. refl) m s (omega (arith, fuel))
-        ((R .values, (ap (stoppedAt row) (sym (r .index)), v, row-of r, by-position r (λ c k. Stands p k (k + 1) e) S), by-position r (λ c k. Frames p s t row k c K) (R .frames)), R .same)
-    seek-simulated (unary Join q v e) c k (r, S) K κ n m s fuel R next = part-sought join k e r tt (λ x. ap (entering row) (behind-is k (r .below))) (seek-simulated e k (k + 1) S) K n m s fuel R
-    seek-simulated (unary Ref q v e) c k (r, S) K κ n m s fuel R next = part-sought ref k e r tt (λ x. ap (entering row) (behind-is k (r .below))) (seek-simulated e k (k + 1) S) K n m s fuel R
-    seek-simulated (unary Read q v e) c k (r, S) K κ n m s fuel R next = part-sought read k e r tt (λ x. ap (entering row) (behind-is k (r .below))) (seek-simulated e k (k + 1) S) K n m s fuel R
-    seek-simulated (unary Lock q v e) c k (r, S) K κ n m s fuel R next = part-sought lock k e r tt (λ x. ap (entering row) (behind-is k (r .below))) (seek-simulated e k (k + 1) S) K n m s fuel R
-    seek-simulated (unary Unlock q v e) c k (r, S) K κ n m s fuel R next = part-sought unlock k e r tt (λ x. ap (entering row) (behind-is k (r .below))) (seek-simulated e k (k + 1) S) K n m s fuel R
-    seek-simulated (unary Post q v e) c k (r, S) K κ n m s fuel R next = part-sought post k e r tt (λ x. ap (entering row) (behind-is k (r .below))) (seek-simulated e k (k + 1) S) K n m s fuel R
-    seek-simulated (unary Wait q v e) c k (r, S) K κ n m s fuel R next = part-sought wait k e r tt (λ x. ap (entering row) (behind-is k (r .below))) (seek-simulated e k (k + 1) S) K n m s fuel R
-    seek-simulated (unary Rdlock q v e) c k (r, S) K κ n m s fuel R next = part-sought (hold rdlock) k e r tt (λ x. ap (entering row) (behind-is k (r .below))) (seek-simulated e k (k + 1) S) K n m s fuel R
-    seek-simulated (unary Rdunlock q v e) c k (r, S) K κ n m s fuel R next = part-sought (hold rdunlock) k e r tt (λ x. ap (entering row) (behind-is k (r .below))) (seek-simulated e k (k + 1) S) K n m s fuel R
-    seek-simulated (unary Wrlock q v e) c k (r, S) K κ n m s fuel R next = part-sought (hold wrlock) k e r tt (λ x. ap (entering row) (behind-is k (r .below))) (seek-simulated e k (k + 1) S) K n m s fuel R
-    seek-simulated (unary Wrunlock q v e) c k (r, S) K κ n m s fuel R next = part-sought (hold wrunlock) k e r tt (λ x. ap (entering row) (behind-is k (r .below))) (seek-simulated e k (k + 1) S) K n m s fuel R
-    seek-simulated (unary Call q v e) c k (r, S) K κ n m s fuel R next = part-sought (call v) k e r refl (λ x. ap (entering row) (behind-is k (r .below))) (seek-simulated e k (k + 1) S) K n m s fuel R
+        takes-turn (κ (int v)) m s (entering row k) (omega (arith, fuel)) (enters p row (m - 1) k s r) (next (int v) k (m - 1) s (omega (arith, fuel)) R)
+    seek-simulated (leaf Newtid q v) c k r K κ n m s fuel R next =
+        stops (nullaryWord q calculus.newtid) r (λ x. refl) K m s (omega (arith, fuel)) R refl (refl, v, row-of r, tt)
+    seek-simulated (leaf Newlock q v) c k r K κ n m s fuel R next =
+        stops (nullaryWord q calculus.newlock) r (λ x. refl) K m s (omega (arith, fuel)) R refl (refl, v, row-of r, tt)
+    seek-simulated (leaf Newsem q v) c k r K κ n m s fuel R next =
+        stops (nullaryWord q calculus.newsem) r (λ x. refl) K m s (omega (arith, fuel)) R refl (refl, v, row-of r, tt)
+    seek-simulated (leaf Newrwlock q v) c k r K κ n m s fuel R next =
+        stops (nullaryWord q (calculus.newrwlock v)) r (λ x. refl) K m s (omega (arith, fuel)) R refl (refl, v, row-of r, refl)
+    seek-simulated (unary While q v e) c k (r, S) K κ n m s fuel R next =
+        stops (whileWord q e) r (λ x. refl) K m s (omega (arith, fuel)) R refl (refl, v, row-of r, by-position r (λ c k. Stands p k (k + 1) e) S)
+    seek-simulated (unary Join q v e) c k (r, S) K κ n m s fuel R next = part-sought join r tt (λ x. refl) e (seek-simulated e k (k + 1) S) K n m s fuel R
+    seek-simulated (unary Ref q v e) c k (r, S) K κ n m s fuel R next = part-sought ref r tt (λ x. refl) e (seek-simulated e k (k + 1) S) K n m s fuel R
+    seek-simulated (unary Read q v e) c k (r, S) K κ n m s fuel R next = part-sought read r tt (λ x. refl) e (seek-simulated e k (k + 1) S) K n m s fuel R
+    seek-simulated (unary Lock q v e) c k (r, S) K κ n m s fuel R next = part-sought lock r tt (λ x. refl) e (seek-simulated e k (k + 1) S) K n m s fuel R
+    seek-simulated (unary Unlock q v e) c k (r, S) K κ n m s fuel R next = part-sought unlock r tt (λ x. refl) e (seek-simulated e k (k + 1) S) K n m s fuel R
+    seek-simulated (unary Post q v e) c k (r, S) K κ n m s fuel R next = part-sought post r tt (λ x. refl) e (seek-simulated e k (k + 1) S) K n m s fuel R
+    seek-simulated (unary Wait q v e) c k (r, S) K κ n m s fuel R next = part-sought wait r tt (λ x. refl) e (seek-simulated e k (k + 1) S) K n m s fuel R
+    seek-simulated (unary Rdlock q v e) c k (r, S) K κ n m s fuel R next = part-sought (hold rdlock) r tt (λ x. refl) e (seek-simulated e k (k + 1) S) K n m s fuel R
+    seek-simulated (unary Rdunlock q v e) c k (r, S) K κ n m s fuel R next = part-sought (hold rdunlock) r tt (λ x. refl) e (seek-simulated e k (k + 1) S) K n m s fuel R
+    seek-simulated (unary Wrlock q v e) c k (r, S) K κ n m s fuel R next = part-sought (hold wrlock) r tt (λ x. refl) e (seek-simulated e k (k + 1) S) K n m s fuel R
+    seek-simulated (unary Wrunlock q v e) c k (r, S) K κ n m s fuel R next = part-sought (hold wrunlock) r tt (λ x. refl) e (seek-simulated e k (k + 1) S) K n m s fuel R
+    seek-simulated (unary Call q v e) c k (r, S) K κ n m s fuel R next = part-sought (call v) r refl (λ x. refl) e (seek-simulated e k (k + 1) S) K n m s fuel R
     seek-simulated (binary Let q x e₁ e₂) c k (r, S₁, z, S₂) K κ n m s fuel R next =
-        first-sought k e₁ (letPart x e₂) (λ v. at σ (letWord q x v e₂) K) r (λ y. ap (entering row) (behind-is k (r .below))) (seek-simulated e₁ k (k + 1) S₁) K 1 m s (omega (arith, fuel)) R
+        first-sought r (λ y. refl) e₁ (seek-simulated e₁ k (k + 1) S₁) K (letPart x e₂) (λ v. at σ (letWord q x v e₂) K) 1 m s (omega (arith, fuel)) R
         (sym (r .index), row-of r, by-position r (λ c k. Stands p c (second p k) e₂) S₂) (let-lands q x e₂ k K)
-    seek-simulated (binary If q v e₁ e₂) c k (r, S₁, z, S₂) K κ n m s fuel R next = stops (at σ (ifWord q e₁ e₂) K) k r (λ x. refl) m s (omega (arith, fuel))
-        ((R .values, (ap (stoppedAt row) (sym (r .index)), v, row-of r, by-position r (λ c k. Stands p c (k + 1) e₁) S₁, by-position r (λ c k. Stands p c (second p k) e₂) S₂), by-position r (λ c k. Frames p s t row k c K) (R .frames)), R .same)
+    seek-simulated (binary If q v e₁ e₂) c k (r, S₁, z, S₂) K κ n m s fuel R next =
+        stops (ifWord q e₁ e₂) r (λ x. refl) K m s (omega (arith, fuel)) R refl
+        (refl, v, row-of r, by-position r (λ c k. Stands p c (k + 1) e₁) S₁, by-position r (λ c k. Stands p c (second p k) e₂) S₂)
     seek-simulated (binary Spawn q v e₁ e₂) c k (r, S₁, z, S₂) K κ n m s fuel R next =
-        first-sought k e₁ (spawnPart e₂) (λ u. at σ (spawnWord q u e₂) K) r (λ y. ap (entering row) (behind-is k (r .below))) (seek-simulated e₁ k (k + 1) S₁) K 1 m s (omega (arith, fuel)) R
+        first-sought r (λ y. refl) e₁ (seek-simulated e₁ k (k + 1) S₁) K (spawnPart e₂) (λ u. at σ (spawnWord q u e₂) K) 1 m s (omega (arith, fuel)) R
         (sym (r .index), v, row-of r, by-position r (λ c k. Stands p finish (second p k) e₂) S₂) (spawn-lands q e₂ k K)
     seek-simulated (binary Write q v e₁ e₂) c k (r, S₁, z, S₂) K κ n m s fuel R next =
-        first-sought k e₁ (writeFirst e₂) (λ w. seek σ e₂ (stepFrame q (writeSecond w) ∷ K) (λ u. at σ (writeWord q w u) K)) r (λ y. ap (entering row) (behind-is k (r .below))) (seek-simulated e₁ k (k + 1) S₁)
-        K (3 * size e₂ + 2) m s (omega (arith, fuel)) R
-        (sym (r .index), v, row-of r, by-position r (λ c k. Stands p (secondPart + k) (second p k) e₂) S₂)
+        first-sought r (λ y. refl) e₁ (seek-simulated e₁ k (k + 1) S₁) K (writeFirst e₂) (λ w. seek σ e₂ (stepFrame q (writeSecond w) ∷ K) (λ u. at σ (writeWord q w u) K))
+        (3 * size e₂ + 2) m s (omega (arith, fuel)) R (sym (r .index), v, row-of r, by-position r (λ c k. Stands p (secondPart + k) (second p k) e₂) S₂)
         (other-sought q e₂ k K (λ d j. seek-simulated e₂ d j))
 
   -- ---------------------------------------------------------------- a value is handed back
@@ -319,7 +325,7 @@ module _ (p : List ℕ) (t : ℕ) (s₀ : List ℕ) where
   pub return-simulated : (K : List Frame) (σ : Env) (row : ℕ) (c : ℕ) → Follows σ row c K (cost K) (λ v. return σ v K)
   return-simulated [] σ row c = λ v b m s le R.
       subst (λ (j : ℕ). Finds (done v) (go p row m s (returning row j (codeValue v)))) (sym (R .frames .1))
-      (takes-advance (done v) m s (returning row finish (codeValue v)) (doneWith row (codeValue v), s) le (to-end p row (m - 1) (codeValue v) s)
+      (takes-turn (done v) m s (returning row finish (codeValue v)) le (to-end p row (m - 1) (codeValue v) s)
       (ap (λ (i : ℕ). doneWith i (codeValue v)) (R .frames .0), R .same))
   return-simulated (stepFrame q (letPart x e) ∷ K) σ row c = let-lands σ row q x e c K
   return-simulated (stepFrame q (spawnPart e) ∷ K) σ row c = spawn-lands σ row q e c K
@@ -330,8 +336,7 @@ module _ (p : List ℕ) (t : ℕ) (s₀ : List ℕ) where
   return-simulated (markFrame σ′ ∷ K) σ row c = λ v b m s le R.
       let ((l, is, low, values), F) = R .frames in
       subst (λ (j : ℕ). Finds (return σ′ v K) (go p row m s (returning row j (codeValue v)))) (sym is)
-      (takes-advance (return σ′ v K) m s (returning row leave (codeValue v)) (go p row (m - 1) s (returning (row - 1) (continuation p (calledFrom s row)) (codeValue v))) (omega (arith, le))
-      (to-caller p row (m - 1) (codeValue v) s)
+      (takes-turn (return σ′ v K) m s (returning row leave (codeValue v)) (omega (arith, le)) (to-caller p row (m - 1) (codeValue v) s)
       (return-simulated K σ′ (row - 1) (continuation p (calledFrom s row)) v (calledFrom s row) (m - 1) s (omega (arith, le))
       (record { low = R .low; same = R .same; long = R .long; inside = (omega (arith, l), omega (arith, R .inside .1)); values = values; frames = F })))
 
@@ -370,9 +375,9 @@ module _ {p : List ℕ} {t : ℕ} {s : List ℕ} {σ : Env} {row : ℕ} {K : Lis
       return-simulated p t s K σ row c v b 2048 s (let l = cost-small p t s K row b c (R .inside .0) (R .frames) in omega (arith, R .inside .1)) R
 
   -- the part of a `while` runs
-  pub runs-part : {q : Position} {v : ℕ} → Ready p t s σ row s (q .index) (continuation p (q .index)) K → (e : Expr) → RowOf p q (Unary While) v → Stands p (q .index) (q .index + 1) e →
-      Finds p t s (runPart σ q e K) (go p row 2048 s (entering row (q .index + 1)))
+  pub runs-part : {q : Position} {v : ℕ} → Ready p t s σ row s (q .index) (continuation p (q .index)) K → (e : Expr) → RowOf p q (Unary While) v →
+      Stands p (q .index) (q .index + 1) e → Finds p t s (runPart σ q e K) (go p row 2048 s (entering row (q .index + 1)))
   runs-part {q} {v} R e r S =
       let h = stands-size p t e (q .index) (q .index + 1) S in
       seek-simulated p t s σ row e (q .index) (q .index + 1) S (stepFrame q (againPart e) ∷ K) (λ u. at σ (againWord q u e) K) 1 2048 s (omega arith)
-      (record { low = R .low; same = R .same; long = R .long; inside = R .inside; values = R .values; frames = ((omega arith, (refl, v, r, S)), R .frames) }) (again-lands p t s σ row q e (q .index) K)
+      (framed p t s σ row R ((omega arith, (refl, v, r, S)), R .frames)) (again-lands p t s σ row q e (q .index) K)

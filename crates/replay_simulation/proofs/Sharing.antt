@@ -19,7 +19,6 @@ use Rattle.replay_control.specs.Shapes.{shapeAt, isWrite}
 use Rattle.replay_control.specs.Control.{kept, readyAt}
 use Rattle.replay_objects.specs.declared.Slot.{Slot}
 use Rattle.replay_objects.specs.declared.StepEffect.{StepEffect}
-use Rattle.replay_step.specs.declared.words.Act.{Act}
 use Rattle.replay_step.specs.declared.words.Act.the-variants.{Go}
 use Rattle.replay_objects.specs.Uses.{slot, writtenOf, effectOf}
 use Rattle.replay_step.specs.Slots.{slotAt, slotPut}
@@ -30,7 +29,7 @@ use Rattle.replay_machine.specs.Environment.{Env}
 use Rattle.replay_machine.specs.Control as machine
 use Rattle.replay_machine.specs.Control.{Frame, writeWord, unaryWord}
 use Rattle.replay_machine.specs.State.{Machine}
-use Rattle.replay_machine.specs.Step.{zeroValue, gives, leaves, stepUnary, stepWord}
+use Rattle.replay_machine.specs.Step.{zeroValue, gives, leaves, stepWord}
 use Rattle.replay_machine.specs.Replay.{Replay}
 use Rattle.replay_simulation.proofs.Held.{codeValue, partWord, RowOf, placeOf}
 use Rattle.replay_simulation.proofs.Agreeing.{agree-all}
