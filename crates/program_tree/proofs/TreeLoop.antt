@@ -264,7 +264,7 @@ module _ {steps procs count last : ℕ} {w₀ w : List ℕ} {i f : ℕ} (s : Wal
 
   module _ {w₁ : List ℕ} {r : Found} (x : ExpressionFound steps procs i count last w w₁ r) where
     root-at : (items : List Item) → StoredFrom w steps procs i f items → BodyAnswer steps procs i count w₁ r (expression last i items)
-    root-at items h = expression-answers steps procs i count last w w₁ r (s .left .room .few) (s .left .few) x items (here items h)
+    root-at items h = expression-answers (s .left .room .few) (s .left .few) x items (here items h)
 
     rooted : (r′ : Found) → ((items : List Item) → StoredFrom w steps procs i f items → AnswerFrom w₁ i r′ (structure last 0 i items))
         → Structured steps procs count last w₀ w₁ r′
