@@ -23,7 +23,7 @@ use Rattle.replay_theory.specs.Run.{ObjectKind}
 use Rattle.replay_theory.specs.Replay.{checkLimits}
 use Rattle.replay_machine.specs.Environment.{Env}
 use Rattle.replay_machine.specs.Control.{Frame, Word, Control, at, return, marks, openCalls}
-use Rattle.replay_machine.specs.State.{Machine, running}
+use Rattle.replay_machine.specs.State.{MachineThread, Machine, running}
 use Rattle.replay_machine.specs.Step.{goesTo, stepWord}
 use Rattle.replay_machine.specs.Replay.{Replay, within}
 use Rattle.replay_simulation.proofs.Held.{codeValue, Values, Frames, placeOf, ControlAt}
@@ -48,6 +48,11 @@ pub record AtWord (p s : List ℕ) (T : Threads) (R : Replay) (t row tid : ℕ) 
 abbrev pub renamed : Replay → (ℕ → state.Slot) → (next : ℕ) → (ObjectKind → ℕ) → Replay
 renamed R names next things =
     record { machine = record { procedures = R .machine .procedures; threads = R .machine .threads; names = names; next = next }; things = things }
+
+-- these are its threads
+abbrev pub withThreads : Replay → List MachineThread → Replay
+withThreads R ts =
+    record { machine = record { procedures = R .machine .procedures; threads = ts; names = R .machine .names; next = R .machine .next }; things = R .things }
 
 module _ {p s : List ℕ} {T : Threads} {R : Replay} {t row tid : ℕ} {σ : Env} {w : Word} {K : List Frame}
     (A : AtWord p s T R t row tid σ w K) where

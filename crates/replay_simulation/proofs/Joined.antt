@@ -41,7 +41,7 @@ use Rattle.replay_simulation.proofs.Finding.{returns-word}
 use Rattle.replay_simulation.proofs.Holds.{recordOf, ThreadHeld, Sized, Holds}
 use Rattle.replay_simulation.proofs.Proceeding.{place-below, set-here, Paused}
 use Rattle.replay_simulation.proofs.Moving.{Answered, moves}
-use Rattle.replay_simulation.proofs.AtWord.{AtWord, ready}
+use Rattle.replay_simulation.proofs.AtWord.{AtWord, withThreads, ready}
 
 -- ------------------------------------------------------------------ the lowest finished thread
 
@@ -191,7 +191,7 @@ module _ {p s : List ℕ} {T : Threads} {R : Replay} {t row tid : ℕ} {σ : Env
     joins-one : Answered p (checkLimits within (some (record { machine = markJoined j u (gives M t tid σ K (M .names) zeroValue); things = R .things }))) (givesZero p t word (joined T j, s))
     unfolding givesZero given afterAct actStep
     joins-one =
-        subst (λ (ts : List MachineThread). Answered p (checkLimits within (some (record { machine = record { procedures = M .procedures; threads = ts; names = M .names; next = M .next }; things = R .things }))) (givesZero p t word (joined T j, s)))
+        subst (λ (ts : List MachineThread). Answered p (checkLimits within (some (withThreads R ts))) (givesZero p t word (joined T j, s)))
         (sym (sets-swap (M .threads) t j (running tid (return σ zeroValue K)) (asJoined u) apart))
         (moves paused word (returning row (continuation p (q .index)) 0) (return σ zeroValue K) (returns-word (ready A (q .index) (omega arith)) zeroValue))
 

@@ -191,17 +191,19 @@ module _ {p s : List ℕ} {T : Threads} {R : Replay} {t tid : ℕ} (P : Paused p
             subst (λ (j : ℕ). ThreadHeld p s′ T′ j th) (sym e) (subst (ThreadHeld p s′ T′ t) here thread-here)
         by-place (no n) = thread-there i th n (sym (set-elsewhere ts t i (running tid d) (λ e. n (sym e))) ∙ h)
 
-  pub proceeds : (f : ControlPoint) (d : Control) → openCalls d ≤ 64 → Finds p t s d (found 2048 p s f) → Holds p (proceeded p s T t f .1) (proceeded p s T t f .0) (goneTo R t tid d)
+    held-after : Holds p s′ T′ (goneTo R t tid d)
+    held-after = record {
+      long = control-point-length s₂ t g ∙ long₂;
+      bodies = P .bodies;
+      names = names-same s s′ shared (P .names);
+      sized = sized-after;
+      threads = threads-after;
+    }
+
+  pub proceeds : (f : ControlPoint) (d : Control) → openCalls d ≤ 64 → Finds p t s d (found 2048 p s f) →
+      Holds p (proceeded p s T t f .1) (proceeded p s T t f .0) (goneTo R t tid d)
   unfolding proceeded recorded wentOn settled
-  proceeds f d few (C, S) = with-found (found 2048 p s f .0) (found 2048 p s f .1) C S
-    where
-      with-found : (g : ControlPoint) (s₂ : List ℕ) → ControlAt p s₂ t g d → SameBut t s s₂ → Holds p (controlPointPut s₂ t g) (if eqb (g .mode) 5 then finished T t else T) (goneTo R t tid d)
-      with-found g s₂ C S =
-          subst (λ (b : Bool). Holds p (controlPointPut s₂ t g) (if b then finished T t else T) (goneTo R t tid d)) (sym (mode-tells p s₂ t g d C))
-          (record {
-            long = control-point-length s₂ t g ∙ long₂ g s₂ d few C S;
-            bodies = P .bodies;
-            names = names-same s (controlPointPut s₂ t g) (shared g s₂ d few C S) (P .names);
-            sized = sized-after g s₂ d few C S;
-            threads = threads-after g s₂ d few C S;
-          })
+  proceeds f d few (C, S) =
+      let g = found 2048 p s f .0 in
+      let s₂ = found 2048 p s f .1 in
+      subst (λ (b : Bool). Holds p (controlPointPut s₂ t g) (if b then finished T t else T) (goneTo R t tid d)) (sym (mode-tells p s₂ t g d C)) (held-after g s₂ d few C S)

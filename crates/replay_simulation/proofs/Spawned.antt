@@ -44,7 +44,7 @@ use Rattle.replay_simulation.proofs.Agreeing.{Agree, SharedSame, contro
 use Rattle.replay_simulation.proofs.Holds.{Sized, Holds}
 use Rattle.replay_simulation.proofs.Proceeding.{names-same, place-below, Paused, goneTo, proceeds}
 use Rattle.replay_simulation.proofs.Moving.{Answered}
-use Rattle.replay_simulation.proofs.AtWord.{AtWord, goes, ready, at-word}
+use Rattle.replay_simulation.proofs.AtWord.{AtWord, withThreads, goes, ready, at-word}
 
 -- ------------------------------------------------------------------ the copy of the variables
 
@@ -247,7 +247,7 @@ module _ {p s : List ℕ} {T : Threads} {R : Replay} {t row tid : ℕ} {σ : Env
     spawns-one : Answered p (checkLimits within (some Spawns)) (givesZero p t word after)
     unfolding givesZero given afterAct actStep
     spawns-one =
-        subst (λ (ts : List MachineThread). Answered p (checkLimits within (some (record { machine = record { procedures = M .procedures; threads = ts; names = M .names; next = M .next }; things = R .things }))) (givesZero p t word after)) threads-after
+        subst (λ (ts : List MachineThread). Answered p (checkLimits within (some (withThreads R ts))) (givesZero p t word after)) threads-after
         (goes still-at word (returning row (continuation p (q .index)) 0) (return σ zeroValue K) (returns-word (ready still-at (q .index) (omega arith)) zeroValue))
 
     with-room : Answered p (checkLimits within (some Spawns)) (spawnedStep p s T t word (suc n))
