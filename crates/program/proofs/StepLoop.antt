@@ -154,7 +154,7 @@ start text h n c w l p = record {
   changed = changed-nothing wordsAt rowTypesAt w;
 }
 
-module _ (text : List ℕ) (h : ProgramHeading) (n : ℕ) (c₀ : Cursor) (w₀ w : List ℕ) (c : Cursor) (i j k : ℕ) (s : StepsSoFar text h n c₀ w₀ w c i j k) where
+module _ {text : List ℕ} {h : ProgramHeading} {n : ℕ} {c₀ : Cursor} {w₀ w : List ℕ} {c : Cursor} {i j k : ℕ} (s : StepsSoFar text h n c₀ w₀ w c i j k) where
   -- what reading all of the lines comes to
   all-of : (o : Result (List Item × Place)) → readLines programSheet (numbered (lineFrom h (c₀ .line)) 0 n) (placeAt text c₀) ≡ o → itemsAt text h n c₀ ≡ o
   unfolding itemsAt

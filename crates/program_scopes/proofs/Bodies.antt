@@ -26,7 +26,7 @@ use Rattle.program_scopes.specs.Scopes.{unbound, scopesFrom, firstAt, wi
 use Rattle.program_tree.proofs.Limits.{limited-parts}
 use Rattle.program_scopes.proofs.JudgingLaws.{from-proc, till-proc}
 use Rattle.program_scopes.proofs.ScopeLaws.{after-on, replicate-any}
-use Rattle.program_scopes.proofs.Tables.{names, Agrees, extends-same, extends-then, agrees-narrow, agrees-onward, let-extends, let-first, let-second}
+use Rattle.program_scopes.proofs.Tables.{names, Agrees, extends-same, extends-then, agrees-narrow, agrees-onward, Binds, let-extends, let-first, let-second}
 use Rattle.program_scopes.proofs.Walk.{Gone, Walked, walk}
 
 -- ------------------------------------------------------------------ where they stand
@@ -135,27 +135,29 @@ walk-all w n count few hc (p ∷ ps) root f k t bound s e c a =
     let mark = procMark + f in
     let next : firstAt w (f + 1) ≡ end = first-stands w (f + 1) end ps root (s .6) in
     let low : f + 1 ≤ count = omega arith in
-    let small : mark < noMark = omega arith in
     let at₁ : f ≡ mark - 256 = omega arith in
     let at₂ : f + 1 ≡ mark - 255 = omega arith in
     let begins : scopeFrom w mark ≡ k = sym (from-proc w mark mark k refl (omega arith) (sym (ap (λ i. firstAt w i) (sym at₁) ∙ s .0))) in
     let stops : scopeTill w mark ≡ end = sym (till-proc w mark mark end refl (omega arith) (sym (ap (λ i. firstAt w i) (sym at₂) ∙ next))) in
-    let order : (k ≤ k) × (k ≤ end) = (omega arith, omega arith) in
     let v = p .parameter in
-    let inner : Agrees w k end t [] bound = agrees-narrow w k n k end t [] bound (omega arith) (omega arith) a in
+    let B : Binds w mark k k end v t [] bound = record {
+      variable = s .3;
+      mark = omega arith;
+      begins = begins;
+      ends = stops;
+      order = (omega arith, omega arith);
+      agrees = agrees-narrow k end (omega arith) (omega arith) a;
+    } in
     body-walked w n count (length ps) f k p ps root t bound (s .0) next (s .1) (s .2) (a .bind v (s .3))
     (λ b. scope count (p .body) (v ∷ []) b)
     (λ b. scopes count ps root b)
     (λ free.
     walk count w (p .body) k 0 end (set t v mark) ((v, mark) ∷ []) (v ∷ bound) (s .4) (s .5) (omega arith) (omega arith)
-    (let-second w mark k k end v t [] bound (s .3) small begins stops order inner free (set t v mark) (v ∷ bound)
-    (let-first w mark k k end v t [] bound (s .3) small begins stops order inner free .long)
-    (extends-same w k (set t v mark))
-    (let-first w mark k k end v t [] bound (s .3) small begins stops order inner free .bind)))
+    (let-second B free (set t v mark) (v ∷ bound) (let-first B free .long) (extends-same w k (set t v mark)) (let-first B free .bind)))
     (λ free b x.
     walk-all w n count few hc ps root (f + 1) end (x .table) b (s .6) (omega arith) (omega arith)
     (agrees-onward w k n end t (x .table) [] bound b (omega arith) a (x .long)
-    (extends-then w end end t (set t v mark) (x .table) (omega arith) (let-extends w mark k k end v t [] bound (s .3) small begins stops order inner free) (x .extends))
+    (extends-then w end end t (set t v mark) (x .table) (omega arith) (let-extends B free) (x .extends))
     (x .bind)))
     (among v bound)
     refl

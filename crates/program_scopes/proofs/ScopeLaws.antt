@@ -80,7 +80,7 @@ start count from to w t h l m = record {
   rest = refl;
 }
 
-module _ (count from to : ℕ) (w₀ w t₀ t : List ℕ) (k : ℕ) (s : ScopesSoFar count from to w₀ w t₀ t k) where
+module _ {count from to : ℕ} {w₀ w t₀ t : List ℕ} {k : ℕ} (s : ScopesSoFar count from to w₀ w t₀ t k) where
   pub finish : to ≤ k → PartScoped count from to w₀ w t₀ t outcome.Holds
   unfolding scopesFrom
   finish h =
@@ -92,7 +92,7 @@ module _ (count from to : ℕ) (w₀ w t₀ t : List ℕ) (k : ℕ) (s : ScopesS
       ∙ ap (λ l. ok (l, t)) (append-nil (s .stored)) in
       record { found = rw f (refl, (s .held, refl)); changed = s .changed; tableLong = s .long }
 
-  module _ (v b : ℕ) (j : Judged) (hw : length w₀ ≡ workSize) (hn : to ≤ 256) (h : k < to) (hv : v ≡ getD w (valuesAt + k) 0)
+  module _ {v b : ℕ} {j : Judged} (hw : length w₀ ≡ workSize) (hn : to ≤ 256) (h : k < to) (hv : v ≡ getD w (valuesAt + k) 0)
       (hb : b ≡ getD t v noMark) (hj : j ≡ judgeOf w count k b) where
     step : scopesFrom w₀ count (to - k) k t ≡ continued (λ u. scopesFrom w₀ count (to - (k + 1)) (k + 1) u) k t v j
     unfolding scopesFrom valueAt

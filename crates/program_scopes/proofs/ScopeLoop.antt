@@ -164,7 +164,7 @@ no-refusal p q = let z : _≡_ {A = ℕ} 0 1 = cc in omega arith
 same-refusal : {x y : Refusal} {o : Ruling} → o ≡ outcome.Refused x → o ≡ outcome.Refused y → x ≡ y
 same-refusal p q = cc
 
-module _ (n count : ℕ) (w₀ w t : List ℕ) (f : ℕ) (d : Scopable n count w₀) (s : BodiesSoFar n count w₀ w t f) where
+module _ {n count : ℕ} {w₀ w t : List ℕ} {f : ℕ} (d : Scopable n count w₀) (s : BodiesSoFar n count w₀ w t f) where
   kept : (g : ℕ) → firstAt w g ≡ firstAt w₀ g
   kept g = first-kept g (s .changed)
 
@@ -189,7 +189,7 @@ module _ (n count : ℕ) (w₀ w t : List ℕ) (f : ℕ) (d : Scopable n count w
     unfolding scopesBehind
     one-more = let e : count - f ≡ suc (count - (f + 1)) = omega arith in rw e refl
 
-    module _ (w′ t′ : List ℕ) (r : Ruling) (x : BodyScoped count f w w′ t t′ r) where
+    module _ {w′ t′ : List ℕ} {r : Ruling} (x : BodyScoped count f w w′ t t′ r) where
       further : ChangedWithin (letsAt + 0) (letsAt + 256) w₀ w′
       further = changed-then (letsAt + 0) (letsAt + 256) (s .changed)
           (changed-wider (letsAt + 0) (letsAt + 256) (omega arith) (omega (arith, kept (f + 1), near)) (x .changed))
@@ -235,7 +235,7 @@ module _ (n count : ℕ) (w₀ w t : List ℕ) (f : ℕ) (d : Scopable n count w
       pub body-passes : r ≡ outcome.Holds → BodiesSoFar n count w₀ w′ t′ (f + 1)
       body-passes p = passed-by p (bodyScopes w₀ count f t) refl found-first (body-sized w₀ count f t)
 
-  module _ (l : count ≤ f) (root : ℕ) (e : root ≡ firstAt w count) where
+  module _ (l : count ≤ f) {root : ℕ} (e : root ≡ firstAt w count) where
     all : f ≡ count
     all = omega (arith, s .few)
 
@@ -249,7 +249,7 @@ module _ (n count : ℕ) (w₀ w t : List ℕ) (f : ℕ) (d : Scopable n count w
     unfolding scopesBehind
     root-rest = let z : count - f ≡ 0 = omega arith in rw (z, all, root-at) refl
 
-    module _ (w′ t′ : List ℕ) (r : Ruling) (x : PartScoped count root n w w′ t t′ r) where
+    module _ {w′ t′ : List ℕ} {r : Ruling} (x : PartScoped count root n w w′ t t′ r) where
       abbrev RootFound : Result Passing → Type 0
       RootFound o = Answers (λ (p : Passing). Region w′ (letsAt + root) (p .0) × (t′ ≡ p .1)) r o
 

@@ -78,9 +78,9 @@ extends-then w till till′ t t′ t″ h x y v l =
     (λ p. ⊎-elim (λ f. inr (p .0, rw f (omega (arith, p .1)))) (λ q. inr (p .0, q .1)) (y v l))
     (x v l)
 
-pub agrees-narrow : (w : List ℕ) (lo hi lo′ hi′ : ℕ) (t : List ℕ) (ins : List (ℕ × ℕ)) (bound : List ℕ) → lo ≤ lo′ → hi′ ≤ hi
+pub agrees-narrow : {w : List ℕ} {lo hi : ℕ} (lo′ hi′ : ℕ) {t : List ℕ} {ins : List (ℕ × ℕ)} {bound : List ℕ} → lo ≤ lo′ → hi′ ≤ hi
     → Agrees w lo hi t ins bound → Agrees w lo′ hi′ t ins bound
-agrees-narrow w lo hi lo′ hi′ t ins bound h l a = record {
+agrees-narrow {w} {lo} {hi} lo′ hi′ {t} {ins} h l a = record {
   long = a .long;
   bind = a .bind;
   at = λ v p. right-narrow w lo hi lo′ hi′ (among v (names ins)) (letIn ins v) (getD t v noMark) h l (a .at v p);
@@ -97,21 +97,29 @@ agrees-onward w lo hi lo′ t t′ ins bound bound′ h a long x b = record {
 
 -- ------------------------------------------------------------------ a variable bound at k, a let's index or a procedure's mark
 
--- the variable v was not bound; from `lo` on its scope begins at `mid` and ends at `hi`
-module _ (w : List ℕ) (k lo mid hi v : ℕ) (t : List ℕ) (ins : List (ℕ × ℕ)) (bound : List ℕ) (hv : v < 256) (hk : k < noMark)
-    (e₁ : scopeFrom w k ≡ mid) (e₂ : scopeTill w k ≡ hi) (order : (lo ≤ mid) × (mid ≤ hi)) (a : Agrees w lo hi t ins bound) (free : among v bound ≡ false) where
+-- the variable v gets the mark k: from `lo` on its scope begins at `mid` and ends at `hi`
+pub record Binds (w : List ℕ) (k lo mid hi v : ℕ) (t : List ℕ) (ins : List (ℕ × ℕ)) (bound : List ℕ) : Type 0 where
+  pub variable : v < 256
+  pub mark : k < noMark
+  pub begins : scopeFrom w k ≡ mid
+  pub ends : scopeTill w k ≡ hi
+  pub order : (lo ≤ mid) × (mid ≤ hi)
+  pub agrees : Agrees w lo hi t ins bound
+
+-- it was not bound
+module _ {w : List ℕ} {k lo mid hi v : ℕ} {t : List ℕ} {ins : List (ℕ × ℕ)} {bound : List ℕ} (B : Binds w k lo mid hi v t ins bound) (free : among v bound ≡ false) where
   free-at : noMark ≤ getD t v noMark
-  free-at = ltb-false (getD t v noMark) noMark (sym (a .bind v hv) ∙ free)
+  free-at = ltb-false (getD t v noMark) noMark (sym (B .agrees .bind v (B .variable)) ∙ free)
 
   set-here : getD (set t v k) v noMark ≡ k
-  set-here = getD-set-same t v k noMark (omega (arith, a .long))
+  set-here = getD-set-same t v k noMark (omega (arith, B .agrees .long, B .variable))
 
   set-there : (u : ℕ) → (u ≡ v → ⊥) → getD (set t v k) u noMark ≡ getD t u noMark
   set-there u n = getD-set-other t v u k noMark n
 
   -- it was not in scope
   outside : among v (names ins) ≡ false
-  outside = from (among v (names ins)) refl (a .at v hv)
+  outside = from (among v (names ins)) refl (B .agrees .at v (B .variable))
     where
       from : (x : Bool) → among v (names ins) ≡ x → Right w lo hi x (letIn ins v) (getD t v noMark) → among v (names ins) ≡ false
       from true e r = let f : getD t v noMark < noMark = r .1 in absurd (omega (arith, free-at))
@@ -121,29 +129,29 @@ module _ (w : List ℕ) (k lo mid hi v : ℕ) (t : List ℕ) (ins : List (ℕ ×
   let-extends u l = from (ℕ-discrete u v)
     where
       from : Dec (u ≡ v) → Moved w hi (getD t u noMark) (getD (set t v k) u noMark)
-      from (yes e) = rw (e, set-here) (inr (free-at, omega arith))
+      from (yes e) = rw (e, set-here) (inr (free-at, omega (arith, B .ends)))
       from (no n) = inl (set-there u n)
 
   -- in e1 the variable is bound, and not in scope
   pub let-first : Agrees w (lo + 1) mid (set t v k) ins (v ∷ bound)
   unfolding among
-  let-first = record { long = length-set t v k ∙ a .long; bind = bind; at = at }
+  let-first = record { long = length-set t v k ∙ B .agrees .long; bind = bind; at = at }
     where
       bind : Bound (set t v k) (v ∷ bound)
       bind u l = from (ℕ-discrete u v)
         where
           from : Dec (u ≡ v) → among u (v ∷ bound) ≡ ltb (getD (set t v k) u noMark) noMark
-          from (yes e) = rw (e, set-here, eq-eqb v v refl, lt-ltb k noMark hk) refl
-          from (no n) = rw (ne-eqb u v n, set-there u n) (a .bind u l)
+          from (yes e) = rw (e, set-here, eq-eqb v v refl, lt-ltb k noMark (B .mark)) refl
+          from (no n) = rw (ne-eqb u v n, set-there u n) (B .agrees .bind u l)
 
       at : (u : ℕ) → u < 256 → Right w (lo + 1) mid (among u (names ins)) (letIn ins u) (getD (set t v k) u noMark)
       at u l = from (ℕ-discrete u v)
         where
           from : Dec (u ≡ v) → Right w (lo + 1) mid (among u (names ins)) (letIn ins u) (getD (set t v k) u noMark)
-          from (yes e) = rw (e, outside, set-here) (inr (inl (omega arith)))
+          from (yes e) = rw (e, outside, set-here) (inr (inl (omega (arith, B .begins))))
           from (no n) =
               rw (set-there u n)
-              (right-narrow w lo hi (lo + 1) mid (among u (names ins)) (letIn ins u) (getD t u noMark) (omega arith) (order .1) (a .at u l))
+              (right-narrow w lo hi (lo + 1) mid (among u (names ins)) (letIn ins u) (getD t u noMark) (omega arith) (B .order .1) (B .agrees .at u l))
 
   -- in e2 it is in scope
   pub let-second : (t′ bound′ : List ℕ) → length t′ ≡ 256 → Extends w mid (set t v k) t′ → Bound t′ bound′
@@ -157,10 +165,10 @@ module _ (w : List ℕ) (k lo mid hi v : ℕ) (t : List ℕ) (ins : List (ℕ ×
           from : Dec (u ≡ v) → Right w mid hi (among u (names ((v, k) ∷ ins))) (letIn ((v, k) ∷ ins) u) (getD t′ u noMark)
           from (yes e) =
               let m : getD t′ v noMark ≡ k =
-              ⊎-elim (λ f. f ∙ set-here) (λ q. absurd (omega (arith, q .0, set-here))) (x v hv) in
-              rw (e, eq-eqb v v refl, m) (refl, hk, omega arith, omega arith)
+              ⊎-elim (λ f. f ∙ set-here) (λ q. absurd (omega (arith, q .0, set-here, B .mark))) (x v (B .variable)) in
+              rw (e, eq-eqb v v refl, m) (refl, B .mark, omega (arith, B .begins), omega (arith, B .ends))
           from (no n) =
               rw (ne-eqb u v n, ne-eqb v u (λ e. n (sym e)))
-              (right-onward w lo hi mid (among u (names ins)) (letIn ins u) (getD t u noMark) (getD t′ u noMark) (order .0)
+              (right-onward w lo hi mid (among u (names ins)) (letIn ins u) (getD t u noMark) (getD t′ u noMark) (B .order .0)
               (rw (set-there u n) at (x u l))
-              (a .at u l))
+              (B .agrees .at u l))

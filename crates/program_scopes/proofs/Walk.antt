@@ -32,7 +32,7 @@ use Rattle.program_scopes.specs.declared.binders.Judged.the-variants.{St
 use Rattle.program_tree.proofs.Limits.{limited-first, limited-behind, limited-parts}
 use Rattle.program_scopes.proofs.JudgingLaws.{from-let, till-let}
 use Rattle.program_scopes.proofs.ScopeLaws.{after, after-append, after-stop}
-use Rattle.program_scopes.proofs.Tables.{endAt, names, Right, Bound, Extends, Agrees, extends-same, extends-then, agrees-narrow, agrees-onward, let-extends, let-first, let-second}
+use Rattle.program_scopes.proofs.Tables.{endAt, names, Right, Bound, Extends, Agrees, extends-same, extends-then, agrees-narrow, agrees-onward, Binds, let-extends, let-first, let-second}
 
 -- of a sheet with `count` procedures
 module _ (count : ℕ) where
@@ -218,7 +218,7 @@ module _ (count : ℕ) where
       (extends-same w (k + suc (size e₁ + size e₂)) t)
       (scope count e₁ (names ins) bound)
       (λ b. scope count e₂ (names ins) b)
-      (x₁ (agrees-narrow w k hi (k + 1) hi t ins bound (omega arith) (omega arith) a))
+      (x₁ (agrees-narrow (k + 1) hi (omega arith) (omega arith) a))
       (λ b y.
       x₂ b (y .table)
       (agrees-onward w k hi (k + 1 + size e₁) t (y .table) ins bound b (omega arith) a (y .long) (y .extends) (y .bind)))
@@ -257,7 +257,7 @@ module _ (count : ℕ) where
   walk w (unary x l v e) k m hi t ins bound s r hh top a =
       walk-unary w m k (size e) (lets (k + 1) ins e) t ins bound x (unary-head x l v e s) (λ b. scope count e (names ins) b) (calls x) refl
       (walk w e (k + 1) m hi t ins bound (standing-part x l v e s) (limited-behind r) (omega arith) top
-      (agrees-narrow w k hi (k + 1) hi t ins bound (omega arith) (omega arith) a))
+      (agrees-narrow (k + 1) hi (omega arith) (omega arith) a))
   walk w (binary Let l v e₁ e₂) k m hi t ins bound s r hh top a =
       let mid = k + 1 + size e₁ in
       let end = k + suc (size e₁ + size e₂) in
@@ -268,21 +268,26 @@ module _ (count : ℕ) where
       let begins : scopeFrom w k ≡ mid = sym (from-let w k k mid refl (omega arith) (sym divided)) in
       let stops : scopeTill w k ≡ end = sym (till-let w k k end refl (omega arith) (sym ended)) in
       let variable : v < 256 = omega (arith, limited-first r) in
-      let inner : Agrees w k end t ins bound = agrees-narrow w k hi k end t ins bound (omega arith) hh a in
-      let order : (k ≤ mid) × (mid ≤ end) = (omega arith, omega arith) in
-      let small : k < noMark = omega arith in
+      let B : Binds w k k mid end v t ins bound = record {
+        variable = variable;
+        mark = omega arith;
+        begins = begins;
+        ends = stops;
+        order = (omega arith, omega arith);
+        agrees = agrees-narrow k end (omega arith) hh a;
+      } in
       walk-let w m k (size e₁) (size e₂) (lets (k + 1) ins e₁) (lets mid ((v, k) ∷ ins) e₂) t (binary-head Let l v e₁ e₂ s) bound ended variable
       (a .long)
       (a .bind)
-      (let-extends w k k mid end v t ins bound variable small begins stops order inner)
+      (let-extends B)
       (λ b. scope count e₁ (names ins) b)
       (λ b. scope count e₂ (v ∷ names ins) b)
       (λ free.
       walk w e₁ (k + 1) (size e₂ + m) mid (set t v k) ins (v ∷ bound) first (parts .0) (omega arith) (omega arith)
-      (let-first w k k mid end v t ins bound variable small begins stops order inner free))
+      (let-first B free))
       (λ free b₁ x₁.
       walk w e₂ mid m end (x₁ .table) ((v, k) ∷ ins) b₁ (standing-second Let l v e₁ e₂ s) (parts .1) (omega arith) (omega arith)
-      (let-second w k k mid end v t ins bound variable small begins stops order inner free (x₁ .table) b₁ (x₁ .long) (x₁ .extends) (x₁ .bind)))
+      (let-second B free (x₁ .table) b₁ (x₁ .long) (x₁ .extends) (x₁ .bind)))
       (among v bound)
       refl
   walk w (binary If l v e₁ e₂) k m hi t ins bound s r hh top a =

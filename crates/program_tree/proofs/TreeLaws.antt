@@ -182,7 +182,7 @@ items-stored {w} steps procs items h es ep =
 
 -- ------------------------------------------------------------------ one expression
 
-module _ (steps procs i j last : ℕ) (w w′ : List ℕ) (r : Found) (hs : steps ≤ stepRoom) (hp : procs ≤ stepRoom) (x : ExpressionFound steps procs i j last w w′ r)
+module _ {steps procs i j last : ℕ} {w w′ : List ℕ} {r : Found} (hs : steps ≤ stepRoom) (hp : procs ≤ stepRoom) (x : ExpressionFound steps procs i j last w w′ r)
     (items : List Item) (h : StoredFrom w steps procs i j items) where
   found-by : (es : List Expr) → listed i (leading items) ≡ es → ExpressionAnswer w w′ i (limitAt w steps procs j) (breakLine w procs j last) r es
       → BodyAnswer steps procs i j w′ r (firstListed last items es)
@@ -242,7 +242,7 @@ module _ (steps procs i j last : ℕ) (w : List ℕ) where
     unfolding StoredFrom nextBy bodyDue
     body-by [] h e = absurd (end-proc e)
     body-by (step s ∷ items) h e = absurd (step-proc e)
-    body-by (proc y k ∷ items) h e = expression-answers steps procs i (j + 1) last w w′ r hs hp x items (h .3)
+    body-by (proc y k ∷ items) h e = expression-answers hs hp x items (h .3)
 
     pub body-found : nextOf w steps procs i j ≡ next.Proc → BodyFound steps procs i j last w w′ r
     body-found n = record {

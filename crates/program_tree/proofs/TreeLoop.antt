@@ -140,7 +140,7 @@ walk-start steps procs count last w room few st = record {
   };
 }
 
-module _ (steps procs count last : ℕ) (w₀ w : List ℕ) (i f : ℕ) (s : Walked steps procs count last w₀ w i f) where
+module _ {steps procs count last : ℕ} {w₀ w : List ℕ} {i f : ℕ} (s : Walked steps procs count last w₀ w i f) where
   -- any answer from here on
   answered : (w′ : List ℕ) (r : Found) → ChangedWithin (endsAt + i) (endsAt + stepRoom) w w′
       → ((items : List Item) → StoredFrom w steps procs i f items → AnswerFrom w′ i r (structure last (count - f) i items))
@@ -150,7 +150,7 @@ module _ (steps procs count last : ℕ) (w₀ w : List ℕ) (i f : ℕ) (s : Wal
     changed = changed-then endsAt (endsAt + stepRoom) (s .changed) (changed-wider endsAt (endsAt + stepRoom) (omega arith) (omega arith) c);
   }
 
-  module _ (l : f < count) (w₁ : List ℕ) (r : Found) (x : BodyFound steps procs i f last w w₁ r) where
+  module _ (l : f < count) {w₁ : List ℕ} {r : Found} (x : BodyFound steps procs i f last w w₁ r) where
     fewer : count - f ≡ suc (count - (f + 1))
     fewer = omega arith
 
@@ -158,7 +158,7 @@ module _ (steps procs count last : ℕ) (w₀ w : List ℕ) (i f : ℕ) (s : Wal
     walk-refuses y p = answered w₁ (Refused y) (x .changed)
         (λ items h. rw (fewer, body-off steps procs i (f + 1) last w₁ r y items p (x .found items h) (count - (f + 1))) refl)
 
-    module _ (e : ℕ) (p : r ≡ At e) where
+    module _ {e : ℕ} (p : r ≡ At e) where
       on-at : (items : List Item) → StoredFrom w steps procs i f items → BodyOn steps procs i (f + 1) last e w₁ items
       on-at items h = body-on steps procs i (f + 1) last w₁ r e items p (x .found items h)
 
@@ -249,7 +249,7 @@ module _ (steps procs i j last : ℕ) (w′ : List ℕ) (r : Found) (items : Lis
     root-failed-by x g (refuse y) q a = absurd (no-refusal a p)
     root-failed-by x g (ok (b, behind)) q a = failed-by x b behind q g (noLineLeft behind) refl (left-of b behind a)
 
-module _ (steps procs count last : ℕ) (w₀ w : List ℕ) (i f : ℕ) (s : Walked steps procs count last w₀ w i f) (l : count ≤ f) where
+module _ {steps procs count last : ℕ} {w₀ w : List ℕ} {i f : ℕ} (s : Walked steps procs count last w₀ w i f) (l : count ≤ f) where
   none-due : count - f ≡ 0
   none-due = omega arith
 
@@ -262,19 +262,19 @@ module _ (steps procs count last : ℕ) (w₀ w : List ℕ) (i f : ℕ) (s : Wal
   pub root-due : ExpressionDue steps procs i count w
   root-due = expression-due steps procs i count w (s .left .room) (s .left .few) (s .left .items) (here (s .left .items) (s .left .stored))
 
-  module _ (w₁ : List ℕ) (r : Found) (x : ExpressionFound steps procs i count last w w₁ r) where
+  module _ {w₁ : List ℕ} {r : Found} (x : ExpressionFound steps procs i count last w w₁ r) where
     root-at : (items : List Item) → StoredFrom w steps procs i f items → BodyAnswer steps procs i count w₁ r (expression last i items)
-    root-at items h = expression-answers steps procs i count last w w₁ r (s .left .room .few) (s .left .few) x items (here items h)
+    root-at items h = expression-answers (s .left .room .few) (s .left .few) x items (here items h)
 
     rooted : (r′ : Found) → ((items : List Item) → StoredFrom w steps procs i f items → AnswerFrom w₁ i r′ (structure last 0 i items))
         → Structured steps procs count last w₀ w₁ r′
-    rooted r′ a = answered steps procs count last w₀ w i f s w₁ r′ (x .changed) (λ items h. rw none-due (a items h))
+    rooted r′ a = answered s w₁ r′ (x .changed) (λ items h. rw none-due (a items h))
 
     pub root-off : (y : Refusal) → r ≡ Refused y → Structured steps procs count last w₀ w₁ (Refused y)
     root-off y p = rooted (Refused y)
         (λ items h. root-off-by steps procs i count last w₁ r items y p (expression last i items) refl (root-at items h))
 
-    module _ (e : ℕ) (p : r ≡ At e) where
+    module _ {e : ℕ} (p : r ≡ At e) where
       ends-by : (items : List Item) → (o : Result (Expr × List Item)) → expression last i items ≡ o → BodyAnswer steps procs i count w₁ r o → e ≤ steps
       ends-by items (refuse y) q a = absurd (no-refusal a p)
       ends-by items (ok (b, behind)) q a = omega (arith, same-at (a .0) p, steps-left w₁ steps procs (i + size b) count behind (a .2))

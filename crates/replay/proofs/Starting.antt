@@ -123,7 +123,15 @@ program-linked s p p′ P steps procedures C H few procs e =
     let n = H .counted in
     let m = H .listed in
     subst (λ (x : List ℕ). ProgramStands x (P .procedures) (P .root)) ((λ i. linked p (n i) (m i)) ∙ sym e)
-    (program-stands p (P .procedures) (P .root) (held .standing) (held .firsts) (held .variables) (held .ranged) (C .long) (omega (arith, n, few)) (omega (arith, m, procs)))
+    (program-stands (record {
+      standing = held .standing;
+      firsts = held .firsts;
+      variables = held .variables;
+      ranged = held .ranged;
+      long = C .long;
+      few = omega (arith, n, few);
+      procs = omega (arith, m, procs);
+    }))
 
 -- ------------------------------------------------------------------ what a sheet's columns hold
 

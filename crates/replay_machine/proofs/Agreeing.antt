@@ -20,7 +20,7 @@ use Rattle.calculus.specs.Reduction.{nowhere}
 use Rattle.calculus.proofs.Laws.Maps.{update-other}
 use Rattle.soundness.specs.Erasure.{erase, UnaryForm, loop, strict, unaryForm, unaryExp}
 use Rattle.replay_machine.specs.Environment.{Env, PartialEnv, all, hide, valueOr, close, closed, closedUnder}
-use Rattle.replay_machine.specs.Control.{Frame, letFrame, spawnFrame, writeFirst, writeSecond, unaryFrame, againFrame, markFrame, around, fill}
+use Rattle.replay_machine.specs.Control.{letPart, spawnPart, writeFirst, writeSecond, unaryPart, againPart, Frame, stepFrame, markFrame, around, fill}
 use Rattle.replay_machine.proofs.Closing.{substitute-hidden, noValues, hide-none, close-with-none}
 use Rattle.replay_machine.specs.Scoped.{Fits, Vars, Rest, LetRest, FrameOk, Nested}
 
@@ -93,20 +93,15 @@ module _ (σ : Env) (x : ℕ) (v : Value) where
       (hidden-agree (ok .scope) (all σ) (all σ′) y (unchanged (ok .scope) (ok .outside x b)))
 
   around-agree : (B : Vars) → B x → (f : Frame) → FrameOk B f → (E : Exp) → around σ f E ≡ around σ′ f E
-  around-agree B b (letFrame k y e) ok E = ap (letIn y E) (let-rest-agrees y e b ok)
-  around-agree B b (spawnFrame k e) ok E = ap (spawn E) (rest-agrees e b ok)
-  around-agree B b (writeFirst k e) ok E = ap (write E) (rest-agrees e b ok)
-  around-agree B b (writeSecond k w) ok E = refl
-  around-agree B b (unaryFrame k o) ok E = refl
-  around-agree B b (againFrame k e) ok E = ap (λ (d : Exp). letIn nowhere E (while d)) (rest-agrees e b ok)
+  around-agree B b (stepFrame k (letPart y e)) ok E = ap (letIn y E) (let-rest-agrees y e b ok)
+  around-agree B b (stepFrame k (spawnPart e)) ok E = ap (spawn E) (rest-agrees e b ok)
+  around-agree B b (stepFrame k (writeFirst e)) ok E = ap (write E) (rest-agrees e b ok)
+  around-agree B b (stepFrame k (writeSecond w)) ok E = refl
+  around-agree B b (stepFrame k (unaryPart o)) ok E = refl
+  around-agree B b (stepFrame k (againPart e)) ok E = ap (λ (d : Exp). letIn nowhere E (while d)) (rest-agrees e b ok)
   around-agree B b (markFrame σ₁) ok E = refl
 
   pub fill-agree : (K : List Frame) (B : Vars) → B x → Nested B K → (E : Exp) → fill σ K E ≡ fill σ′ K E
   fill-agree [] B b n E = refl
-  fill-agree (letFrame k y e ∷ K) B b n E = fill-agree K _ (inl b) (n .1) _ ∙ ap (fill σ′ K) (around-agree B b (letFrame k y e) (n .0) E)
-  fill-agree (spawnFrame k e ∷ K) B b n E = fill-agree K _ (inl b) (n .1) _ ∙ ap (fill σ′ K) (around-agree B b (spawnFrame k e) (n .0) E)
-  fill-agree (writeFirst k e ∷ K) B b n E = fill-agree K _ (inl b) (n .1) _ ∙ ap (fill σ′ K) (around-agree B b (writeFirst k e) (n .0) E)
-  fill-agree (writeSecond k w ∷ K) B b n E = fill-agree K _ (inl b) (n .1) _ ∙ ap (fill σ′ K) (around-agree B b (writeSecond k w) (n .0) E)
-  fill-agree (unaryFrame k o ∷ K) B b n E = fill-agree K _ (inl b) (n .1) _ ∙ ap (fill σ′ K) (around-agree B b (unaryFrame k o) (n .0) E)
-  fill-agree (againFrame k e ∷ K) B b n E = fill-agree K _ (inl b) (n .1) _ ∙ ap (fill σ′ K) (around-agree B b (againFrame k e) (n .0) E)
+  fill-agree (stepFrame k f ∷ K) B b n E = fill-agree K _ (inl b) (n .1) _ ∙ ap (fill σ′ K) (around-agree B b (stepFrame k f) (n .0) E)
   fill-agree (markFrame σ₁ ∷ K) B b n E = refl

@@ -7,7 +7,7 @@ use Rattle.calculus.specs.Expression.{Value, Exp, value, letIn, while, spawn, w
 use Rattle.calculus.specs.Reduction.{nowhere, wordOf}
 use Rattle.soundness.specs.Erasure.{LeafForm, variable, constant, reduces, leafForm, leafExp, UnaryForm, loop, strict, unaryForm, unaryExp, erase}
 use Rattle.replay_machine.specs.Environment.{Env, all, close, closed, closedUnder}
-use Rattle.replay_machine.specs.Control.{Frame, letFrame, spawnFrame, writeFirst, writeSecond, unaryFrame, againFrame, markFrame, behind, around, fill, Word, letWord, ifWord, whileWord, spawnWord, writeWord, unaryWord, nullaryWord, unrolledWord, againWord, wordExp, redex, Control, done, at, decode, nextRedex, seekLeaf, seekUnary, seek, return, enter, runPart}
+use Rattle.replay_machine.specs.Control.{letPart, spawnPart, writeFirst, writeSecond, unaryPart, againPart, Frame, stepFrame, markFrame, behind, around, fill, Word, letWord, ifWord, whileWord, spawnWord, writeWord, unaryWord, nullaryWord, unrolledWord, againWord, wordExp, redex, Control, done, at, decode, nextRedex, seekLeaf, seekUnary, seek, return, enter, runPart}
 
 -- ---- Finding the next word keeps the expression
 
@@ -26,26 +26,26 @@ leaf-keeps (reduces o) σ k K c h = refl
 unary-keeps : (f : UnaryForm) (σ : Env) (k : Position) (e : Expr) (K : List Frame) → Found σ e →
     decode (seekUnary σ k f e K (seek σ e)) ≡ fill σ K (close (all σ) (unaryExp f (erase e)))
 unary-keeps loop σ k e K found = refl
-unary-keeps (strict o) σ k e K found = found (unaryFrame k o ∷ K) (λ v. at σ (unaryWord k o v) K) (λ v. refl)
+unary-keeps (strict o) σ k e K found = found (stepFrame k (unaryPart o) ∷ K) (λ v. at σ (unaryWord k o v) K) (λ v. refl)
 
 seek-keeps : (e : Expr) (σ : Env) → Found σ e
 unfolding erase
 seek-keeps (leaf w k v) σ K c h = leaf-keeps (leafForm w v) σ k K c h
 seek-keeps (unary w k v e) σ K c h = unary-keeps (unaryForm w v) σ k e K (seek-keeps e σ)
-seek-keeps (binary Let k x e₁ e₂) σ K c h = seek-keeps e₁ σ (letFrame k x e₂ ∷ K) (λ v. at σ (letWord k x v e₂) K) (λ v. refl)
+seek-keeps (binary Let k x e₁ e₂) σ K c h = seek-keeps e₁ σ (stepFrame k (letPart x e₂) ∷ K) (λ v. at σ (letWord k x v e₂) K) (λ v. refl)
 seek-keeps (binary If k v e₁ e₂) σ K c h = refl
-seek-keeps (binary Spawn k v e₁ e₂) σ K c h = seek-keeps e₁ σ (spawnFrame k e₂ ∷ K) (λ w. at σ (spawnWord k w e₂) K) (λ w. refl)
+seek-keeps (binary Spawn k v e₁ e₂) σ K c h = seek-keeps e₁ σ (stepFrame k (spawnPart e₂) ∷ K) (λ w. at σ (spawnWord k w e₂) K) (λ w. refl)
 seek-keeps (binary Write k v e₁ e₂) σ K c h =
-    seek-keeps e₁ σ (writeFirst k e₂ ∷ K) _ (λ w. seek-keeps e₂ σ (writeSecond k w ∷ K) (λ u. at σ (writeWord k w u) K) (λ u. refl))
+    seek-keeps e₁ σ (stepFrame k (writeFirst e₂) ∷ K) _ (λ w. seek-keeps e₂ σ (stepFrame k (writeSecond w) ∷ K) (λ u. at σ (writeWord k w u) K) (λ u. refl))
 
 pub return-keeps : (σ : Env) (v : Value) (K : List Frame) → decode (return σ v K) ≡ fill σ K (value v)
 return-keeps σ v [] = refl
-return-keeps σ v (letFrame k x e ∷ K) = refl
-return-keeps σ v (spawnFrame k e ∷ K) = refl
-return-keeps σ v (writeFirst k e ∷ K) = seek-keeps e σ (writeSecond k v ∷ K) (λ u. at σ (writeWord k v u) K) (λ u. refl)
-return-keeps σ v (writeSecond k w ∷ K) = refl
-return-keeps σ v (unaryFrame k o ∷ K) = refl
-return-keeps σ v (againFrame k e ∷ K) = refl
+return-keeps σ v (stepFrame k (letPart x e) ∷ K) = refl
+return-keeps σ v (stepFrame k (spawnPart e) ∷ K) = refl
+return-keeps σ v (stepFrame k (writeFirst e) ∷ K) = seek-keeps e σ (stepFrame k (writeSecond v) ∷ K) (λ u. at σ (writeWord k v u) K) (λ u. refl)
+return-keeps σ v (stepFrame k (writeSecond w) ∷ K) = refl
+return-keeps σ v (stepFrame k (unaryPart o) ∷ K) = refl
+return-keeps σ v (stepFrame k (againPart e) ∷ K) = refl
 return-keeps σ v (markFrame σ′ ∷ K) = return-keeps σ′ v K
 
 pub enter-keeps : (σ : Env) (e : Expr) (K : List Frame) → decode (enter σ e K) ≡ fill σ K (closed σ e)
@@ -53,7 +53,7 @@ enter-keeps σ e K = seek-keeps e σ K (λ v. return σ v K) (λ v. return-keeps
 
 pub run-part-keeps : (σ : Env) (k : Position) (e : Expr) (K : List Frame) →
     decode (runPart σ k e K) ≡ fill σ K (letIn nowhere (closed σ e) (while (closed σ e)))
-run-part-keeps σ k e K = seek-keeps e σ (againFrame k e ∷ K) (λ v. at σ (againWord k v e) K) (λ v. refl)
+run-part-keeps σ k e K = seek-keeps e σ (stepFrame k (againPart e) ∷ K) (λ v. at σ (againWord k v e) K) (λ v. refl)
 
 -- ---- The calculus sees the same word
 
@@ -70,12 +70,12 @@ word-is-next σ (againWord k v e) = refl
 
 -- A frame does not change the next word of the part that it waits for.
 pub next-around : {r : Redex} (σ : Env) (f : Frame) (E : Exp) → nextWord E ≡ atWord r → nextWord (around σ f E) ≡ atWord r
-next-around σ (letFrame k x e) E h = ap (λ (q : Next). once q λ v. atWord (letRedex x v (closedUnder σ x e))) h
-next-around σ (spawnFrame k e) E h = ap (λ (q : Next). once q λ v. atWord (spawnRedex v (closed σ e))) h
-next-around σ (writeFirst k e) E h = ap (λ (q : Next). once q λ v. once (nextWord (closed σ e)) λ w. atWord (writeRedex v w)) h
-next-around σ (writeSecond k v) E h = ap (λ (q : Next). once q λ w. atWord (writeRedex v w)) h
-next-around σ (unaryFrame k o) E h = ap (λ (q : Next). once q λ v. atWord (unaryRedex o v)) h
-next-around σ (againFrame k e) E h = ap (λ (q : Next). once q λ v. atWord (letRedex nowhere v (while (closed σ e)))) h
+next-around σ (stepFrame k (letPart x e)) E h = ap (λ (q : Next). once q λ v. atWord (letRedex x v (closedUnder σ x e))) h
+next-around σ (stepFrame k (spawnPart e)) E h = ap (λ (q : Next). once q λ v. atWord (spawnRedex v (closed σ e))) h
+next-around σ (stepFrame k (writeFirst e)) E h = ap (λ (q : Next). once q λ v. once (nextWord (closed σ e)) λ w. atWord (writeRedex v w)) h
+next-around σ (stepFrame k (writeSecond v)) E h = ap (λ (q : Next). once q λ w. atWord (writeRedex v w)) h
+next-around σ (stepFrame k (unaryPart o)) E h = ap (λ (q : Next). once q λ v. atWord (unaryRedex o v)) h
+next-around σ (stepFrame k (againPart e)) E h = ap (λ (q : Next). once q λ v. atWord (letRedex nowhere v (while (closed σ e)))) h
 next-around σ (markFrame σ′) E h = h
 
 next-filled : {r : Redex} (σ : Env) (K : List Frame) (E : Exp) → nextWord E ≡ atWord r → nextWord (fill σ K E) ≡ atWord r
@@ -104,13 +104,13 @@ plug-word σ (unrolledWord k e) r = refl
 plug-word σ (againWord k v e) r = refl
 
 plug-around : {q : Redex} (σ : Env) (f : Frame) (E r : Exp) → nextWord E ≡ atWord q → plug (around σ f E) r ≡ around σ f (plug E r)
-plug-around σ (letFrame k x e) E r h = ap (λ (q : Next). ifValue q r (letIn x (plug E r) (closedUnder σ x e))) h
-plug-around σ (spawnFrame k e) E r h = ap (λ (q : Next). ifValue q r (spawn (plug E r) (closed σ e))) h
-plug-around σ (writeFirst k e) E r h =
+plug-around σ (stepFrame k (letPart x e)) E r h = ap (λ (q : Next). ifValue q r (letIn x (plug E r) (closedUnder σ x e))) h
+plug-around σ (stepFrame k (spawnPart e)) E r h = ap (λ (q : Next). ifValue q r (spawn (plug E r) (closed σ e))) h
+plug-around σ (stepFrame k (writeFirst e)) E r h =
     ap (λ (q : Next). ifValue q (ifValue (nextWord (closed σ e)) r (write E (plug (closed σ e) r))) (write (plug E r) (closed σ e))) h
-plug-around σ (writeSecond k v) E r h = ap (λ (q : Next). ifValue q r (write (value v) (plug E r))) h
-plug-around σ (unaryFrame k o) E r h = ap (λ (q : Next). ifValue q r (onePart o (plug E r))) h
-plug-around σ (againFrame k e) E r h = ap (λ (q : Next). ifValue q r (letIn nowhere (plug E r) (while (closed σ e)))) h
+plug-around σ (stepFrame k (writeSecond v)) E r h = ap (λ (q : Next). ifValue q r (write (value v) (plug E r))) h
+plug-around σ (stepFrame k (unaryPart o)) E r h = ap (λ (q : Next). ifValue q r (onePart o (plug E r))) h
+plug-around σ (stepFrame k (againPart e)) E r h = ap (λ (q : Next). ifValue q r (letIn nowhere (plug E r) (while (closed σ e)))) h
 plug-around σ (markFrame σ′) E r h = refl
 
 plug-filled : {q : Redex} (σ : Env) (K : List Frame) (E r : Exp) → nextWord E ≡ atWord q → plug (fill σ K E) r ≡ fill σ K (plug E r)

@@ -3,41 +3,42 @@ use Prim.Native.Nat.{suc}
 use mathlib.Core.Path.{_≡_, refl, _∙_, ap}
 use mathlib.Core.Bool.{Bool, true, false, not}
 use mathlib.Core.List.{List, [], _∷_}
+use mathlib.Core.Option.{Option, some}
 use lib.ListN.{length}
 use Rattle.spec.specs.Choice.{if_then_else_}
 use Rattle.spec.specs.Expression.{Position, Expr, leaf, unary, binary}
 use Rattle.spec.specs.declared.BinaryWord.the-variants.{Let, If, Spawn, Write}
 use Rattle.calculus.specs.Expression.{Value, int, newtid, Exp, value, Redex, Next, atWord, nextWord}
-use Rattle.calculus.specs.State.{first, second}
+use Rattle.calculus.specs.State.{Part, first, second}
+use Rattle.calculus.specs.Reduction.{_>>=_}
 use Rattle.soundness.specs.Erasure.{LeafForm, variable, constant, reduces, leafForm, UnaryForm, loop, strict, unaryForm}
 use Rattle.replay_theory.specs.Paths.{Path, pathOnce, nextPath, onlyPart, partOf, partAt}
 use Rattle.replay_theory.specs.Run.{hasFinished, isOpen, stillOpen}
 use Rattle.replay_machine.specs.Environment.{Env, closed}
-use Rattle.replay_machine.specs.Control.{Frame, letFrame, spawnFrame, writeFirst, writeSecond, unaryFrame, againFrame, markFrame, around, fill, Word, letWord, ifWord, whileWord, spawnWord, writeWord, unaryWord, nullaryWord, unrolledWord, againWord, wordExp, Control, done, at, decode, seekLeaf, seekUnary, seek, return, enter, runPart, marks, openCalls}
+use Rattle.replay_machine.specs.Control.{FrameForm, letPart, spawnPart, writeFirst, writeSecond, unaryPart, againPart, Frame, stepFrame, markFrame, around, fill, Word, letWord, ifWord, whileWord, spawnWord, writeWord, unaryWord, nullaryWord, unrolledWord, againWord, wordExp, Control, done, at, decode, seekLeaf, seekUnary, seek, return, enter, runPart, marks, openCalls}
 use Rattle.replay_machine.proofs.Decoding.{return-keeps, next-around, word-is-next}
 
 -- ---- Paths of frames
 
+-- The part that a step waits for.
+abbrev awaited : FrameForm → Part
+awaited (letPart x e) = first
+awaited (spawnPart e) = first
+awaited (writeFirst e) = first
+awaited (writeSecond v) = second
+awaited (unaryPart o) = first
+awaited (againPart e) = first
+
 -- The path of what stands within the frames, and there at the path p.
 abbrev pub pathFrom : List Frame → Path → Path
 pathFrom [] p = p
-pathFrom (letFrame k x e ∷ K) p = pathFrom K (first ∷ p)
-pathFrom (spawnFrame k e ∷ K) p = pathFrom K (first ∷ p)
-pathFrom (writeFirst k e ∷ K) p = pathFrom K (first ∷ p)
-pathFrom (writeSecond k v ∷ K) p = pathFrom K (second ∷ p)
-pathFrom (unaryFrame k o ∷ K) p = pathFrom K (first ∷ p)
-pathFrom (againFrame k e ∷ K) p = pathFrom K (first ∷ p)
+pathFrom (stepFrame k f ∷ K) p = pathFrom K (awaited f ∷ p)
 pathFrom (markFrame σ ∷ K) p = pathFrom K p
 
 -- The paths of the marks, the innermost first.
 abbrev pub paths : List Frame → List Path
 paths [] = []
-paths (letFrame k x e ∷ K) = paths K
-paths (spawnFrame k e ∷ K) = paths K
-paths (writeFirst k e ∷ K) = paths K
-paths (writeSecond k v ∷ K) = paths K
-paths (unaryFrame k o ∷ K) = paths K
-paths (againFrame k e ∷ K) = paths K
+paths (stepFrame k f ∷ K) = paths K
 paths (markFrame σ ∷ K) = pathFrom K [] ∷ paths K
 
 abbrev pub callPaths : Control → List Path
@@ -51,12 +52,7 @@ wordPath (at σ w K) = pathFrom K []
 paths-counted : (K : List Frame) → length (paths K) ≡ marks K
 unfolding marks
 paths-counted [] = refl
-paths-counted (letFrame k x e ∷ K) = paths-counted K
-paths-counted (spawnFrame k e ∷ K) = paths-counted K
-paths-counted (writeFirst k e ∷ K) = paths-counted K
-paths-counted (writeSecond k v ∷ K) = paths-counted K
-paths-counted (unaryFrame k o ∷ K) = paths-counted K
-paths-counted (againFrame k e ∷ K) = paths-counted K
+paths-counted (stepFrame k f ∷ K) = paths-counted K
 paths-counted (markFrame σ ∷ K) = ap suc (paths-counted K)
 
 pub calls-counted : (b : Control) → length (callPaths b) ≡ openCalls b
@@ -66,38 +62,37 @@ calls-counted (at σ w K) = paths-counted K
 
 -- ---- What stands at a path
 
+part-around : (σ : Env) (k : Position) (f : FrameForm) (E : Exp) → partOf (around σ (stepFrame k f) E) (awaited f) ≡ some E
+unfolding partOf onlyPart
+part-around σ k (letPart x e) E = refl
+part-around σ k (spawnPart e) E = refl
+part-around σ k (writeFirst e) E = refl
+part-around σ k (writeSecond v) E = refl
+part-around σ k (unaryPart o) E = refl
+part-around σ k (againPart e) E = refl
+
 part-found : (σ : Env) (K : List Frame) (E : Exp) (p : Path) → partAt (pathFrom K p) (fill σ K E) ≡ partAt p E
-unfolding partAt partOf onlyPart
+unfolding partAt
 part-found σ [] E p = refl
-part-found σ (letFrame k x e ∷ K) E p = part-found σ K (around σ (letFrame k x e) E) (first ∷ p)
-part-found σ (spawnFrame k e ∷ K) E p = part-found σ K (around σ (spawnFrame k e) E) (first ∷ p)
-part-found σ (writeFirst k e ∷ K) E p = part-found σ K (around σ (writeFirst k e) E) (first ∷ p)
-part-found σ (writeSecond k v ∷ K) E p = part-found σ K (around σ (writeSecond k v) E) (second ∷ p)
-part-found σ (unaryFrame k o ∷ K) E p = part-found σ K (around σ (unaryFrame k o) E) (first ∷ p)
-part-found σ (againFrame k e ∷ K) E p = part-found σ K (around σ (againFrame k e) E) (first ∷ p)
+part-found σ (stepFrame k f ∷ K) E p =
+    part-found σ K (around σ (stepFrame k f) E) (awaited f ∷ p) ∙ ap (λ (o : Option Exp). o >>= partAt p) (part-around σ k f E)
 part-found σ (markFrame σ′ ∷ K) E p = part-found σ′ K E p
 
-path-found : {r : Redex} (σ : Env) (K : List Frame) (E : Exp) → nextWord E ≡ atWord r → nextPath (fill σ K E) ≡ pathFrom K (nextPath E)
+path-around : {r : Redex} (σ : Env) (k : Position) (f : FrameForm) (E : Exp) → nextWord E ≡ atWord r →
+    nextPath (around σ (stepFrame k f) E) ≡ awaited f ∷ nextPath E
 unfolding nextPath pathOnce
+path-around σ k (letPart x e) E h = ap (λ (q : Next). pathOnce q [] (first ∷ nextPath E)) h
+path-around σ k (spawnPart e) E h = ap (λ (q : Next). pathOnce q [] (first ∷ nextPath E)) h
+path-around σ k (writeFirst e) E h =
+    ap (λ (q : Next). pathOnce q (pathOnce (nextWord (closed σ e)) [] (second ∷ nextPath (closed σ e))) (first ∷ nextPath E)) h
+path-around σ k (writeSecond v) E h = ap (λ (q : Next). pathOnce q [] (second ∷ nextPath E)) h
+path-around σ k (unaryPart o) E h = ap (λ (q : Next). pathOnce q [] (first ∷ nextPath E)) h
+path-around σ k (againPart e) E h = ap (λ (q : Next). pathOnce q [] (first ∷ nextPath E)) h
+
+path-found : {r : Redex} (σ : Env) (K : List Frame) (E : Exp) → nextWord E ≡ atWord r → nextPath (fill σ K E) ≡ pathFrom K (nextPath E)
 path-found σ [] E h = refl
-path-found σ (letFrame k x e ∷ K) E h =
-    path-found σ K (around σ (letFrame k x e) E) (next-around σ (letFrame k x e) E h)
-    ∙ ap (λ (q : Next). pathFrom K (pathOnce q [] (first ∷ nextPath E))) h
-path-found σ (spawnFrame k e ∷ K) E h =
-    path-found σ K (around σ (spawnFrame k e) E) (next-around σ (spawnFrame k e) E h)
-    ∙ ap (λ (q : Next). pathFrom K (pathOnce q [] (first ∷ nextPath E))) h
-path-found σ (writeFirst k e ∷ K) E h =
-    path-found σ K (around σ (writeFirst k e) E) (next-around σ (writeFirst k e) E h)
-    ∙ ap (λ (q : Next). pathFrom K (pathOnce q (pathOnce (nextWord (closed σ e)) [] (second ∷ nextPath (closed σ e))) (first ∷ nextPath E))) h
-path-found σ (writeSecond k v ∷ K) E h =
-    path-found σ K (around σ (writeSecond k v) E) (next-around σ (writeSecond k v) E h)
-    ∙ ap (λ (q : Next). pathFrom K (pathOnce q [] (second ∷ nextPath E))) h
-path-found σ (unaryFrame k o ∷ K) E h =
-    path-found σ K (around σ (unaryFrame k o) E) (next-around σ (unaryFrame k o) E h)
-    ∙ ap (λ (q : Next). pathFrom K (pathOnce q [] (first ∷ nextPath E))) h
-path-found σ (againFrame k e ∷ K) E h =
-    path-found σ K (around σ (againFrame k e) E) (next-around σ (againFrame k e) E h)
-    ∙ ap (λ (q : Next). pathFrom K (pathOnce q [] (first ∷ nextPath E))) h
+path-found σ (stepFrame k f ∷ K) E h =
+    path-found σ K (around σ (stepFrame k f) E) (next-around σ (stepFrame k f) E h) ∙ ap (pathFrom K) (path-around σ k f E h)
 path-found σ (markFrame σ′ ∷ K) E h = path-found σ′ K E h
 
 word-is-here : (σ : Env) (w : Word) → nextPath (wordExp σ w) ≡ []
@@ -131,12 +126,7 @@ open-first e q ps b h = ap (λ (c : Bool). if c then (q ∷ stillOpen e ps) else
 still-open : {r : Redex} (σ : Env) (K : List Frame) (E : Exp) → nextWord E ≡ atWord r → stillOpen (fill σ K E) (paths K) ≡ paths K
 unfolding stillOpen isOpen hasFinished partAt
 still-open σ [] E h = refl
-still-open σ (letFrame k x e ∷ K) E h = still-open σ K (around σ (letFrame k x e) E) (next-around σ (letFrame k x e) E h)
-still-open σ (spawnFrame k e ∷ K) E h = still-open σ K (around σ (spawnFrame k e) E) (next-around σ (spawnFrame k e) E h)
-still-open σ (writeFirst k e ∷ K) E h = still-open σ K (around σ (writeFirst k e) E) (next-around σ (writeFirst k e) E h)
-still-open σ (writeSecond k v ∷ K) E h = still-open σ K (around σ (writeSecond k v) E) (next-around σ (writeSecond k v) E h)
-still-open σ (unaryFrame k o ∷ K) E h = still-open σ K (around σ (unaryFrame k o) E) (next-around σ (unaryFrame k o) E h)
-still-open σ (againFrame k e ∷ K) E h = still-open σ K (around σ (againFrame k e) E) (next-around σ (againFrame k e) E h)
+still-open σ (stepFrame k f ∷ K) E h = still-open σ K (around σ (stepFrame k f) E) (next-around σ (stepFrame k f) E h)
 still-open σ (markFrame σ′ ∷ K) E h =
     open-first (fill σ′ K E) (pathFrom K []) (paths K) true
     (ap isOpen (part-found σ′ K E []) ∙ ap (λ (q : Next). not (hasFinished q)) h)
@@ -161,27 +151,27 @@ leaf-tells (reduces o) σ k K c h = at-tells σ (nullaryWord k o) K
 
 unary-tells : (f : UnaryForm) (σ : Env) (k : Position) (e : Expr) (K : List Frame) → Sought σ e → Tells (seekUnary σ k f e K (seek σ e)) (paths K)
 unary-tells loop σ k e K sought = at-tells σ (whileWord k e) K
-unary-tells (strict o) σ k e K sought = sought (unaryFrame k o ∷ K) (λ v. at σ (unaryWord k o v) K) (λ v. at-tells σ (unaryWord k o v) K)
+unary-tells (strict o) σ k e K sought = sought (stepFrame k (unaryPart o) ∷ K) (λ v. at σ (unaryWord k o v) K) (λ v. at-tells σ (unaryWord k o v) K)
 
 seek-tells : (e : Expr) (σ : Env) → Sought σ e
 seek-tells (leaf w k v) σ K c h = leaf-tells (leafForm w v) σ k K c h
 seek-tells (unary w k v e) σ K c h = unary-tells (unaryForm w v) σ k e K (seek-tells e σ)
-seek-tells (binary Let k x e₁ e₂) σ K c h = seek-tells e₁ σ (letFrame k x e₂ ∷ K) _ (λ v. at-tells σ (letWord k x v e₂) K)
+seek-tells (binary Let k x e₁ e₂) σ K c h = seek-tells e₁ σ (stepFrame k (letPart x e₂) ∷ K) _ (λ v. at-tells σ (letWord k x v e₂) K)
 seek-tells (binary If k v e₁ e₂) σ K c h = at-tells σ (ifWord k e₁ e₂) K
-seek-tells (binary Spawn k v e₁ e₂) σ K c h = seek-tells e₁ σ (spawnFrame k e₂ ∷ K) _ (λ w. at-tells σ (spawnWord k w e₂) K)
+seek-tells (binary Spawn k v e₁ e₂) σ K c h = seek-tells e₁ σ (stepFrame k (spawnPart e₂) ∷ K) _ (λ w. at-tells σ (spawnWord k w e₂) K)
 seek-tells (binary Write k v e₁ e₂) σ K c h =
-    seek-tells e₁ σ (writeFirst k e₂ ∷ K) _ (λ w. seek-tells e₂ σ (writeSecond k w ∷ K) _ (λ u. at-tells σ (writeWord k w u) K))
+    seek-tells e₁ σ (stepFrame k (writeFirst e₂) ∷ K) _ (λ w. seek-tells e₂ σ (stepFrame k (writeSecond w) ∷ K) _ (λ u. at-tells σ (writeWord k w u) K))
 
 -- A value closes the calls whose marks it meets, and no others.
 pub return-tells : (σ : Env) (v : Value) (K : List Frame) → Tells (return σ v K) (paths K)
 unfolding stillOpen isOpen hasFinished partAt
 return-tells σ v [] = refl
-return-tells σ v (letFrame k x e ∷ K) = at-tells σ (letWord k x v e) K
-return-tells σ v (spawnFrame k e ∷ K) = at-tells σ (spawnWord k v e) K
-return-tells σ v (writeFirst k e ∷ K) = seek-tells e σ (writeSecond k v ∷ K) _ (λ u. at-tells σ (writeWord k v u) K)
-return-tells σ v (writeSecond k w ∷ K) = at-tells σ (writeWord k w v) K
-return-tells σ v (unaryFrame k o ∷ K) = at-tells σ (unaryWord k o v) K
-return-tells σ v (againFrame k e ∷ K) = at-tells σ (againWord k v e) K
+return-tells σ v (stepFrame k (letPart x e) ∷ K) = at-tells σ (letWord k x v e) K
+return-tells σ v (stepFrame k (spawnPart e) ∷ K) = at-tells σ (spawnWord k v e) K
+return-tells σ v (stepFrame k (writeFirst e) ∷ K) = seek-tells e σ (stepFrame k (writeSecond v) ∷ K) _ (λ u. at-tells σ (writeWord k v u) K)
+return-tells σ v (stepFrame k (writeSecond w) ∷ K) = at-tells σ (writeWord k w v) K
+return-tells σ v (stepFrame k (unaryPart o) ∷ K) = at-tells σ (unaryWord k o v) K
+return-tells σ v (stepFrame k (againPart e) ∷ K) = at-tells σ (againWord k v e) K
 return-tells σ v (markFrame σ′ ∷ K) =
     open-first (decode (return σ′ v K)) (pathFrom K []) (paths K) false
     (ap (λ (E : Exp). isOpen (partAt (pathFrom K []) E)) (return-keeps σ′ v K) ∙ ap isOpen (part-found σ′ K (value v) []))
@@ -191,7 +181,7 @@ pub enter-tells : (σ : Env) (e : Expr) (K : List Frame) → Tells (enter σ e K
 enter-tells σ e K = seek-tells e σ K (λ v. return σ v K) (λ v. return-tells σ v K)
 
 pub run-part-tells : (σ : Env) (k : Position) (e : Expr) (K : List Frame) → Tells (runPart σ k e K) (paths K)
-run-part-tells σ k e K = seek-tells e σ (againFrame k e ∷ K) _ (λ v. at-tells σ (againWord k v e) K)
+run-part-tells σ k e K = seek-tells e σ (stepFrame k (againPart e) ∷ K) _ (λ v. at-tells σ (againWord k v e) K)
 
 -- ---- When a call opens
 
@@ -219,18 +209,18 @@ leaf-marks (reduces o) σ k K c h = refl
 unary-marks : (f : UnaryForm) (σ : Env) (k : Position) (e : Expr) (K : List Frame) → Marked σ e → openCalls (seekUnary σ k f e K (seek σ e)) ≡ marks K
 unfolding openCalls marks
 unary-marks loop σ k e K marked = refl
-unary-marks (strict o) σ k e K marked = marked (unaryFrame k o ∷ K) (λ u. at σ (unaryWord k o u) K) (λ u. refl)
+unary-marks (strict o) σ k e K marked = marked (stepFrame k (unaryPart o) ∷ K) (λ u. at σ (unaryWord k o u) K) (λ u. refl)
 
 seek-marks : (e : Expr) (σ : Env) → Marked σ e
 unfolding openCalls marks
 seek-marks (leaf w k v) σ K c h = leaf-marks (leafForm w v) σ k K c h
 seek-marks (unary w k v e) σ K c h = unary-marks (unaryForm w v) σ k e K (seek-marks e σ)
-seek-marks (binary Let k x e₁ e₂) σ K c h = seek-marks e₁ σ (letFrame k x e₂ ∷ K) (λ v. at σ (letWord k x v e₂) K) (λ v. refl)
+seek-marks (binary Let k x e₁ e₂) σ K c h = seek-marks e₁ σ (stepFrame k (letPart x e₂) ∷ K) (λ v. at σ (letWord k x v e₂) K) (λ v. refl)
 seek-marks (binary If k v e₁ e₂) σ K c h = refl
-seek-marks (binary Spawn k v e₁ e₂) σ K c h = seek-marks e₁ σ (spawnFrame k e₂ ∷ K) (λ w. at σ (spawnWord k w e₂) K) (λ w. refl)
+seek-marks (binary Spawn k v e₁ e₂) σ K c h = seek-marks e₁ σ (stepFrame k (spawnPart e₂) ∷ K) (λ w. at σ (spawnWord k w e₂) K) (λ w. refl)
 seek-marks (binary Write k v e₁ e₂) σ K c h =
-    seek-marks e₁ σ (writeFirst k e₂ ∷ K) (λ w. seek σ e₂ (writeSecond k w ∷ K) (λ u. at σ (writeWord k w u) K))
-    (λ w. seek-marks e₂ σ (writeSecond k w ∷ K) (λ u. at σ (writeWord k w u) K) (λ u. refl))
+    seek-marks e₁ σ (stepFrame k (writeFirst e₂) ∷ K) (λ w. seek σ e₂ (stepFrame k (writeSecond w) ∷ K) (λ u. at σ (writeWord k w u) K))
+    (λ w. seek-marks e₂ σ (stepFrame k (writeSecond w) ∷ K) (λ u. at σ (writeWord k w u) K) (λ u. refl))
 
 -- What follows a value is not asked.
 leaf-runs : (f : LeafForm) → LeafRuns f → (σ : Env) (k : Position) (K : List Frame) (c c′ : Value → Control) → seekLeaf σ k f K c ≡ seekLeaf σ k f K c′

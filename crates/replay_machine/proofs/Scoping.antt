@@ -10,7 +10,7 @@ use Rattle.spec.specs.declared.BinaryWord.the-variants.{Let, If, Spawn, Write}
 use Rattle.calculus.specs.Expression.{Value}
 use Rattle.soundness.specs.Erasure.{LeafForm, variable, constant, reduces, leafForm, UnaryForm, loop, strict, unaryForm}
 use Rattle.replay_machine.specs.Environment.{Env}
-use Rattle.replay_machine.specs.Control.{Frame, letFrame, spawnFrame, writeFirst, writeSecond, unaryFrame, againFrame, markFrame, letWord, spawnWord, writeWord, unaryWord, againWord, Control, at, seekLeaf, seekUnary, seek, return, enter, runPart}
+use Rattle.replay_machine.specs.Control.{letPart, spawnPart, writeFirst, writeSecond, unaryPart, againPart, Frame, stepFrame, markFrame, letWord, spawnWord, writeWord, unaryWord, againWord, Control, at, seekLeaf, seekUnary, seek, return, enter, runPart}
 use Rattle.replay_machine.specs.Scoped.{Fits, Vars, Bound, Rest, LetRest, FrameOk, FrameBinds, BoundBehind, Nested, No, ControlOk}
 use Rattle.replay_machine.proofs.Variables.{among-here, among-behind, among-left, among-right, among-either, one-part-binds, part-fits, both-fit, let-fits}
 
@@ -27,25 +27,17 @@ let-rest-fewer : {B C : Vars} {x : ℕ} {e : Expr} → C within B → LetRest B 
 let-rest-fewer h ok = record { scope = ok .scope; fits = ok .fits; apart = ok .apart; outside = λ y c. ok .outside y (h y c) }
 
 frame-fewer : {B C : Vars} → C within B → (f : Frame) → FrameOk B f → FrameOk C f
-frame-fewer h (letFrame k x e) ok = let-rest-fewer h ok
-frame-fewer h (spawnFrame k e) ok = rest-fewer h ok
-frame-fewer h (writeFirst k e) ok = rest-fewer h ok
-frame-fewer h (writeSecond k v) ok = tt
-frame-fewer h (unaryFrame k o) ok = tt
-frame-fewer h (againFrame k e) ok = rest-fewer h ok
+frame-fewer h (stepFrame k (letPart x e)) ok = let-rest-fewer h ok
+frame-fewer h (stepFrame k (spawnPart e)) ok = rest-fewer h ok
+frame-fewer h (stepFrame k (writeFirst e)) ok = rest-fewer h ok
+frame-fewer h (stepFrame k (writeSecond v)) ok = tt
+frame-fewer h (stepFrame k (unaryPart o)) ok = tt
+frame-fewer h (stepFrame k (againPart e)) ok = rest-fewer h ok
 frame-fewer h (markFrame σ) ok = tt
 
-either-fewer : {B C : Vars} (f : Frame) → C within B → (y : ℕ) → C y ⊎ FrameBinds f y → B y ⊎ FrameBinds f y
-either-fewer f h y (inl c) = inl (h y c)
-either-fewer f h y (inr d) = inr d
-
 behind-fewer : {B C : Vars} → C within B → (f : Frame) → BoundBehind C f within BoundBehind B f
-behind-fewer h (letFrame k x e) y b = either-fewer (letFrame k x e) h y b
-behind-fewer h (spawnFrame k e) y b = either-fewer (spawnFrame k e) h y b
-behind-fewer h (writeFirst k e) y b = either-fewer (writeFirst k e) h y b
-behind-fewer h (writeSecond k v) y b = either-fewer (writeSecond k v) h y b
-behind-fewer h (unaryFrame k o) y b = either-fewer (unaryFrame k o) h y b
-behind-fewer h (againFrame k e) y b = either-fewer (againFrame k e) h y b
+behind-fewer h (stepFrame k f) y (inl c) = inl (h y c)
+behind-fewer h (stepFrame k f) y (inr d) = inr d
 behind-fewer h (markFrame σ) y b = b
 
 pub nested-fewer : (K : List Frame) (B C : Vars) → C within B → Nested B K → Nested C K
@@ -57,18 +49,8 @@ nested-none K B n = nested-fewer K B No (λ y z. absurd z) n
 
 -- A frame that binds nothing itself.
 behind-same : (B : Vars) (f : Frame) → FrameBinds f within No → BoundBehind B f within B
-behind-same B (letFrame k x e) nothing y (inl b) = b
-behind-same B (letFrame k x e) nothing y (inr z) = absurd (nothing y z)
-behind-same B (spawnFrame k e) nothing y (inl b) = b
-behind-same B (spawnFrame k e) nothing y (inr z) = absurd (nothing y z)
-behind-same B (writeFirst k e) nothing y (inl b) = b
-behind-same B (writeFirst k e) nothing y (inr z) = absurd (nothing y z)
-behind-same B (writeSecond k v) nothing y (inl b) = b
-behind-same B (writeSecond k v) nothing y (inr z) = absurd (nothing y z)
-behind-same B (unaryFrame k o) nothing y (inl b) = b
-behind-same B (unaryFrame k o) nothing y (inr z) = absurd (nothing y z)
-behind-same B (againFrame k e) nothing y (inl b) = b
-behind-same B (againFrame k e) nothing y (inr z) = absurd (nothing y z)
+behind-same B (stepFrame k f) nothing y (inl b) = b
+behind-same B (stepFrame k f) nothing y (inr z) = absurd (nothing y z)
 behind-same B (markFrame σ) nothing y z = absurd z
 
 nested-behind : (K : List Frame) (B : Vars) (f : Frame) → FrameBinds f within No → FrameOk B f → Nested B K → Nested B (f ∷ K)
@@ -98,14 +80,14 @@ unary-ok : (w : UnaryForm) (k : Position) (e : Expr) (σ : Env) (I : List ℕ) (
     ControlOk (seekUnary σ k w e K (seek σ e))
 unary-ok loop k e σ I K sought f n = (fits-next f, n)
 unary-ok (strict o) k e σ I K sought f n =
-    sought I (unaryFrame k o ∷ K) (λ u. at σ (unaryWord k o u) K) f (nested-behind K (Bound e) (unaryFrame k o) (λ y z. z) tt n)
+    sought I (stepFrame k (unaryPart o) ∷ K) (λ u. at σ (unaryWord k o u) K) f (nested-behind K (Bound e) (stepFrame k (unaryPart o)) (λ y z. z) tt n)
     (λ u. (tt, nested-none K _ n))
 
 -- Both parts of a `write`, whose values are wanted one after the other.
 second-ok : (k : Position) (w : Value) (e : Expr) (σ : Env) (I : List ℕ) (K : List Frame) → Sought e σ → Fits I e → Nested (Bound e) K →
-    ControlOk (seek σ e (writeSecond k w ∷ K) (λ u. at σ (writeWord k w u) K))
+    ControlOk (seek σ e (stepFrame k (writeSecond w) ∷ K) (λ u. at σ (writeWord k w u) K))
 second-ok k w e σ I K sought f n =
-    sought I (writeSecond k w ∷ K) (λ u. at σ (writeWord k w u) K) f (nested-behind K (Bound e) (writeSecond k w) (λ y z. z) tt n)
+    sought I (stepFrame k (writeSecond w) ∷ K) (λ u. at σ (writeWord k w u) K) f (nested-behind K (Bound e) (stepFrame k (writeSecond w)) (λ y z. z) tt n)
     (λ u. (tt, nested-none K _ n))
 
 seek-ok : (e : Expr) (σ : Env) → Sought e σ
@@ -114,7 +96,7 @@ seek-ok (leaf w k v) σ I K c f n g = leaf-ok (leafForm w v) σ k (Bound (leaf w
 seek-ok (unary w k v e) σ I K c f n g = unary-ok (unaryForm w v) k e σ I K (seek-ok e σ) (part-fits w e f) (nested-fewer K _ _ (λ y h. ap (among y) (one-part-binds w k v e) ∙ h) n)
 seek-ok (binary Let k x e₁ e₂) σ I K c f n g =
     let P = let-fits x e₁ e₂ f in
-    seek-ok e₁ σ I (letFrame k x e₂ ∷ K) (λ v. at σ (letWord k x v e₂) K) (P .value-fits)
+    seek-ok e₁ σ I (stepFrame k (letPart x e₂) ∷ K) (λ v. at σ (letWord k x v e₂) K) (P .value-fits)
     (record { scope = I; fits = P .rest-fits; apart = P .apart; outside = P .value-fits .new }, nested-fewer K _ _ parts n)
     (λ v. (record { scope = I; fits = P .rest-fits; apart = P .apart; outside = λ y z. absurd z }, nested-fewer K _ _ rest n))
   where
@@ -130,24 +112,24 @@ seek-ok (binary If k v e₁ e₂) σ I K c f n g =
     ((I, P .left, P .right), nested-fewer K _ _ (λ y. among-either y (binders e₁) (binders e₂)) n)
 seek-ok (binary Spawn k v e₁ e₂) σ I K c f n g =
     let P = both-fit (f .count) I e₁ e₂ (f .used .1) (f .used .2) (f .new) (f .once) in
-    seek-ok e₁ σ I (spawnFrame k e₂ ∷ K) (λ w. at σ (spawnWord k w e₂) K) (P .left)
-    (nested-behind K (Bound e₁) (spawnFrame k e₂) (λ y z. z) (record { scope = I; fits = P .right; outside = P .left .new })
+    seek-ok e₁ σ I (stepFrame k (spawnPart e₂) ∷ K) (λ w. at σ (spawnWord k w e₂) K) (P .left)
+    (nested-behind K (Bound e₁) (stepFrame k (spawnPart e₂)) (λ y z. z) (record { scope = I; fits = P .right; outside = P .left .new })
     (nested-fewer K _ _ (λ y. among-left y (binders e₁) (binders e₂)) n))
     (λ w. (fits-next (P .right), nested-none K _ n))
 seek-ok (binary Write k v e₁ e₂) σ I K c f n g =
     let P = both-fit (f .count) I e₁ e₂ (f .used .1) (f .used .2) (f .new) (f .once) in
-    seek-ok e₁ σ I (writeFirst k e₂ ∷ K) _ (P .left)
+    seek-ok e₁ σ I (stepFrame k (writeFirst e₂) ∷ K) _ (P .left)
     (record { scope = I; fits = P .right; outside = P .left .new }, nested-fewer K _ _ (λ y. among-either y (binders e₁) (binders e₂)) n)
     (λ w. second-ok k w e₂ σ I K (seek-ok e₂ σ) (P .right) (nested-fewer K _ _ (λ y. among-right y (binders e₁) (binders e₂)) n))
 
 pub return-ok : (σ : Env) (v : Value) (K : List Frame) (B : Vars) → Nested B K → ControlOk (return σ v K)
 return-ok σ v [] B n = tt
-return-ok σ v (letFrame k x e ∷ K) B n = (let-rest-fewer (λ y z. absurd z) (n .0), nested-fewer K _ _ (λ y b. inr b) (n .1))
-return-ok σ v (spawnFrame k e ∷ K) B n = (rest-next (n .0), nested-none K _ (n .1))
-return-ok σ v (writeFirst k e ∷ K) B n = second-ok k v e σ (n .0 .scope) K (seek-ok e σ) (n .0 .fits) (nested-fewer K _ _ (λ y b. inr b) (n .1))
-return-ok σ v (writeSecond k w ∷ K) B n = (tt, nested-none K _ (n .1))
-return-ok σ v (unaryFrame k o ∷ K) B n = (tt, nested-none K _ (n .1))
-return-ok σ v (againFrame k e ∷ K) B n = (rest-next (n .0), nested-fewer K _ _ (λ y b. inr b) (n .1))
+return-ok σ v (stepFrame k (letPart x e) ∷ K) B n = (let-rest-fewer (λ y z. absurd z) (n .0), nested-fewer K _ _ (λ y b. inr b) (n .1))
+return-ok σ v (stepFrame k (spawnPart e) ∷ K) B n = (rest-next (n .0), nested-none K _ (n .1))
+return-ok σ v (stepFrame k (writeFirst e) ∷ K) B n = second-ok k v e σ (n .0 .scope) K (seek-ok e σ) (n .0 .fits) (nested-fewer K _ _ (λ y b. inr b) (n .1))
+return-ok σ v (stepFrame k (writeSecond w) ∷ K) B n = (tt, nested-none K _ (n .1))
+return-ok σ v (stepFrame k (unaryPart o) ∷ K) B n = (tt, nested-none K _ (n .1))
+return-ok σ v (stepFrame k (againPart e) ∷ K) B n = (rest-next (n .0), nested-fewer K _ _ (λ y b. inr b) (n .1))
 return-ok σ v (markFrame σ′ ∷ K) B n = return-ok σ′ v K No (n .1)
 
 pub enter-ok : (σ : Env) (e : Expr) (I : List ℕ) (K : List Frame) → Fits I e → Nested (Bound e) K → ControlOk (enter σ e K)
@@ -155,7 +137,7 @@ enter-ok σ e I K f n = seek-ok e σ I K (λ v. return σ v K) f n (λ v. return
 
 pub run-part-ok : (σ : Env) (k : Position) (e : Expr) (I : List ℕ) (K : List Frame) → Fits I e → Nested (Bound e) K → ControlOk (runPart σ k e K)
 run-part-ok σ k e I K f n =
-    seek-ok e σ I (againFrame k e ∷ K) (λ v. at σ (againWord k v e) K) f
+    seek-ok e σ I (stepFrame k (againPart e) ∷ K) (λ v. at σ (againWord k v e) K) f
     (record { scope = I; fits = f; outside = f .new }, nested-fewer K _ _ twice n) (λ v. (fits-next f, n))
   where
     twice : (λ y. Bound e y ⊎ Bound e y) within Bound e

@@ -12,36 +12,34 @@ use Rattle.replay_machine.specs.Environment.{Env, closed, closedUnder}
 
 -- ---- Frames
 
--- A word one of whose parts is being evaluated, with what it still needs. `againFrame` is of a `while` whose part runs: the `let` of the
--- variable used nowhere, around the same `while`. `markFrame` is of an open call, whose body runs in an environment of its own: it holds
--- the caller's.
+-- Which part of which word is being evaluated, with what the word still needs. `againPart` is of a `while` whose part runs: the `let` of
+-- the variable used nowhere, around the same `while`.
+pub data FrameForm : Type 0 where
+  letPart : (x : ℕ) → Expr → FrameForm
+  spawnPart : Expr → FrameForm
+  writeFirst : Expr → FrameForm
+  writeSecond : Value → FrameForm
+  unaryPart : Unary → FrameForm
+  againPart : Expr → FrameForm
+
+-- A step that waits for one of its parts; or an open call, whose body runs in an environment of its own: its mark holds the caller's.
 pub data Frame : Type 0 where
-  letFrame : Position → (x : ℕ) → Expr → Frame
-  spawnFrame : Position → Expr → Frame
-  writeFirst : Position → Expr → Frame
-  writeSecond : Position → Value → Frame
-  unaryFrame : Position → Unary → Frame
-  againFrame : Position → Expr → Frame
+  stepFrame : Position → FrameForm → Frame
   markFrame : Env → Frame
 
 -- The expression around a part.
 abbrev pub around : Env → Frame → Exp → Exp
-around σ (letFrame k x e₂) E = letIn x E (closedUnder σ x e₂)
-around σ (spawnFrame k e₂) E = spawn E (closed σ e₂)
-around σ (writeFirst k e₂) E = write E (closed σ e₂)
-around σ (writeSecond k v) E = write (value v) E
-around σ (unaryFrame k o) E = onePart o E
-around σ (againFrame k e) E = letIn nowhere E (while (closed σ e))
+around σ (stepFrame k (letPart x e₂)) E = letIn x E (closedUnder σ x e₂)
+around σ (stepFrame k (spawnPart e₂)) E = spawn E (closed σ e₂)
+around σ (stepFrame k (writeFirst e₂)) E = write E (closed σ e₂)
+around σ (stepFrame k (writeSecond v)) E = write (value v) E
+around σ (stepFrame k (unaryPart o)) E = onePart o E
+around σ (stepFrame k (againPart e)) E = letIn nowhere E (while (closed σ e))
 around σ (markFrame σ′) E = E
 
 -- The environment of the frames behind a frame: an open call ends with its caller's.
 abbrev pub behind : Env → Frame → Env
-behind σ (letFrame k x e) = σ
-behind σ (spawnFrame k e) = σ
-behind σ (writeFirst k e) = σ
-behind σ (writeSecond k v) = σ
-behind σ (unaryFrame k o) = σ
-behind σ (againFrame k e) = σ
+behind σ (stepFrame k f) = σ
 behind σ (markFrame σ′) = σ′
 
 -- The frames around an expression, the innermost first.
@@ -107,7 +105,7 @@ nextRedex (at σ w K) = some (redex σ w)
 
 -- A word with one part that must be a value.
 abbrev pub seekPart : Env → Position → Unary → List Frame → (List Frame → (Value → Control) → Control) → Control
-seekPart σ k o K s = s (unaryFrame k o ∷ K) (λ v. at σ (unaryWord k o v) K)
+seekPart σ k o K s = s (stepFrame k (unaryPart o) ∷ K) (λ v. at σ (unaryWord k o v) K)
 
 -- A word without parts, and a word with one, whose part is sought by `part`.
 abbrev pub seekLeaf : Env → Position → LeafForm → List Frame → (Value → Control) → Control
@@ -123,22 +121,22 @@ seekUnary σ k (strict o) e K part = seekPart σ k o K part
 abbrev pub seek : Env → Expr → List Frame → (Value → Control) → Control
 seek σ (leaf w k v) K c = seekLeaf σ k (leafForm w v) K c
 seek σ (unary w k v e) K c = seekUnary σ k (unaryForm w v) e K (seek σ e)
-seek σ (binary Let k x e₁ e₂) K c = seek σ e₁ (letFrame k x e₂ ∷ K) (λ v. at σ (letWord k x v e₂) K)
+seek σ (binary Let k x e₁ e₂) K c = seek σ e₁ (stepFrame k (letPart x e₂) ∷ K) (λ v. at σ (letWord k x v e₂) K)
 seek σ (binary If k v e₁ e₂) K c = at σ (ifWord k e₁ e₂) K
-seek σ (binary Spawn k v e₁ e₂) K c = seek σ e₁ (spawnFrame k e₂ ∷ K) (λ w. at σ (spawnWord k w e₂) K)
+seek σ (binary Spawn k v e₁ e₂) K c = seek σ e₁ (stepFrame k (spawnPart e₂) ∷ K) (λ w. at σ (spawnWord k w e₂) K)
 seek σ (binary Write k v e₁ e₂) K c =
-    seek σ e₁ (writeFirst k e₂ ∷ K) (λ w. seek σ e₂ (writeSecond k w ∷ K) (λ u. at σ (writeWord k w u) K))
+    seek σ e₁ (stepFrame k (writeFirst e₂) ∷ K) (λ w. seek σ e₂ (stepFrame k (writeSecond w) ∷ K) (λ u. at σ (writeWord k w u) K))
 
 -- A part has become a value: the word around it is next, or, of a `write`, its other part. The end of an
 -- open call goes on in the caller's environment.
 abbrev pub return : Env → Value → List Frame → Control
 return σ v [] = done v
-return σ v (letFrame k x e ∷ K) = at σ (letWord k x v e) K
-return σ v (spawnFrame k e ∷ K) = at σ (spawnWord k v e) K
-return σ v (writeFirst k e ∷ K) = seek σ e (writeSecond k v ∷ K) (λ u. at σ (writeWord k v u) K)
-return σ v (writeSecond k w ∷ K) = at σ (writeWord k w v) K
-return σ v (unaryFrame k o ∷ K) = at σ (unaryWord k o v) K
-return σ v (againFrame k e ∷ K) = at σ (againWord k v e) K
+return σ v (stepFrame k (letPart x e) ∷ K) = at σ (letWord k x v e) K
+return σ v (stepFrame k (spawnPart e) ∷ K) = at σ (spawnWord k v e) K
+return σ v (stepFrame k (writeFirst e) ∷ K) = seek σ e (stepFrame k (writeSecond v) ∷ K) (λ u. at σ (writeWord k v u) K)
+return σ v (stepFrame k (writeSecond w) ∷ K) = at σ (writeWord k w v) K
+return σ v (stepFrame k (unaryPart o) ∷ K) = at σ (unaryWord k o v) K
+return σ v (stepFrame k (againPart e) ∷ K) = at σ (againWord k v e) K
 return σ v (markFrame σ′ ∷ K) = return σ′ v K
 
 -- An expression takes the place of a word.
@@ -147,19 +145,14 @@ enter σ e K = seek σ e K (λ v. return σ v K)
 
 -- The part of a `while` runs once more.
 abbrev pub runPart : Env → Position → Expr → List Frame → Control
-runPart σ k e K = seek σ e (againFrame k e ∷ K) (λ v. at σ (againWord k v e) K)
+runPart σ k e K = seek σ e (stepFrame k (againPart e) ∷ K) (λ v. at σ (againWord k v e) K)
 
 -- ---- Open calls
 
 -- How many calls are open in these frames.
 unfoldable pub marks : List Frame → ℕ
 marks [] = 0
-marks (letFrame k x e ∷ K) = marks K
-marks (spawnFrame k e ∷ K) = marks K
-marks (writeFirst k e ∷ K) = marks K
-marks (writeSecond k v ∷ K) = marks K
-marks (unaryFrame k o ∷ K) = marks K
-marks (againFrame k e ∷ K) = marks K
+marks (stepFrame k f ∷ K) = marks K
 marks (markFrame σ ∷ K) = suc (marks K)
 
 unfoldable pub openCalls : Control → ℕ

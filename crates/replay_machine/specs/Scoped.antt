@@ -6,7 +6,7 @@ use mathlib.Core.Bool.{true, false}
 use mathlib.Core.List.{List, [], _∷_}
 use Rattle.spec.specs.Expression.{Expr, among}
 use Rattle.spec.specs.WellFormed.{binders, Distinct, UsedInside}
-use Rattle.replay_machine.specs.Control.{Frame, letFrame, spawnFrame, writeFirst, writeSecond, unaryFrame, againFrame, markFrame, Word, letWord, ifWord, whileWord, spawnWord, writeWord, unaryWord, nullaryWord, unrolledWord, againWord, Control, done, at}
+use Rattle.replay_machine.specs.Control.{letPart, spawnPart, writeFirst, writeSecond, unaryPart, againPart, Frame, stepFrame, markFrame, Word, letWord, ifWord, whileWord, spawnWord, writeWord, unaryWord, nullaryWord, unrolledWord, againWord, Control, done, at}
 
 -- An expression in the scope of the variables I: it uses only those and its own, and binds each once and none of those. `count` is of
 -- the sheet's procedures.
@@ -40,22 +40,22 @@ pub record LetRest (B : Vars) (x : ℕ) (e : Expr) : Type 0 where
 
 -- What a frame still has to run uses none of the variables B, which what stands inside it may bind.
 abbrev pub FrameOk : Vars → Frame → Type 0
-FrameOk B (letFrame k x e) = LetRest B x e
-FrameOk B (spawnFrame k e) = Rest B e
-FrameOk B (writeFirst k e) = Rest B e
-FrameOk B (writeSecond k v) = Unit {0}
-FrameOk B (unaryFrame k o) = Unit {0}
-FrameOk B (againFrame k e) = Rest B e
+FrameOk B (stepFrame k (letPart x e)) = LetRest B x e
+FrameOk B (stepFrame k (spawnPart e)) = Rest B e
+FrameOk B (stepFrame k (writeFirst e)) = Rest B e
+FrameOk B (stepFrame k (writeSecond v)) = Unit {0}
+FrameOk B (stepFrame k (unaryPart o)) = Unit {0}
+FrameOk B (stepFrame k (againPart e)) = Rest B e
 FrameOk B (markFrame σ) = Unit {0}
 
 -- The variables that a frame may bind when it is its turn. A spawned body binds in another thread.
 abbrev pub FrameBinds : Frame → Vars
-FrameBinds (letFrame k x e) y = (y ≡ x) ⊎ Bound e y
-FrameBinds (spawnFrame k e) y = ⊥
-FrameBinds (writeFirst k e) y = Bound e y
-FrameBinds (writeSecond k v) y = ⊥
-FrameBinds (unaryFrame k o) y = ⊥
-FrameBinds (againFrame k e) y = Bound e y
+FrameBinds (stepFrame k (letPart x e)) y = (y ≡ x) ⊎ Bound e y
+FrameBinds (stepFrame k (spawnPart e)) y = ⊥
+FrameBinds (stepFrame k (writeFirst e)) y = Bound e y
+FrameBinds (stepFrame k (writeSecond v)) y = ⊥
+FrameBinds (stepFrame k (unaryPart o)) y = ⊥
+FrameBinds (stepFrame k (againPart e)) y = Bound e y
 FrameBinds (markFrame σ) y = ⊥
 
 abbrev pub No : Vars
@@ -63,12 +63,7 @@ No y = ⊥
 
 -- What may be bound before it is the turn of the frames behind a frame, in their environment.
 abbrev pub BoundBehind : Vars → Frame → Vars
-BoundBehind B (letFrame k x e) y = B y ⊎ FrameBinds (letFrame k x e) y
-BoundBehind B (spawnFrame k e) y = B y ⊎ FrameBinds (spawnFrame k e) y
-BoundBehind B (writeFirst k e) y = B y ⊎ FrameBinds (writeFirst k e) y
-BoundBehind B (writeSecond k v) y = B y ⊎ FrameBinds (writeSecond k v) y
-BoundBehind B (unaryFrame k o) y = B y ⊎ FrameBinds (unaryFrame k o) y
-BoundBehind B (againFrame k e) y = B y ⊎ FrameBinds (againFrame k e) y
+BoundBehind B (stepFrame k f) y = B y ⊎ FrameBinds (stepFrame k f) y
 BoundBehind B (markFrame σ) y = ⊥
 
 abbrev pub Nested : Vars → List Frame → Type 0

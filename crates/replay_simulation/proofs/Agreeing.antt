@@ -228,9 +228,13 @@ control-point-here s t f long m = λ z. controlPoint (modes z) (places z) (given
     rows : getD (set s₃ (controlPointRowsAt + t) (f .row)) (controlPointRowsAt + t) 0 ≡ f .row
     rows = getD-set-same s₃ (controlPointRowsAt + t) (f .row) 0 (omega (arith, long₃, m))
 
--- the four stores of a focus: what holds of a store of each holds of all
+-- k is one of the four numbers of thread t's control point
+abbrev OfControlPoint : (t k : ℕ) → Type 0
+OfControlPoint t k = (k ≡ controlPointModesAt + t) ⊎ ((k ≡ controlPointPlacesAt + t) ⊎ ((k ≡ controlPointValuesAt + t) ⊎ (k ≡ controlPointRowsAt + t)))
+
+-- the four stores of a control point: what holds of a store of each holds of all
 module _ (t : ℕ) (f : ControlPoint) (P : List ℕ → List ℕ → Type 0) (then : (s s′ s″ : List ℕ) → P s s′ → P s′ s″ → P s s″)
-    (one : (k x : ℕ) (s : List ℕ) → (k ≡ controlPointModesAt + t) ⊎ ((k ≡ controlPointPlacesAt + t) ⊎ ((k ≡ controlPointValuesAt + t) ⊎ (k ≡ controlPointRowsAt + t))) → P s (set s k x)) where
+    (one : (k x : ℕ) (s : List ℕ) → OfControlPoint t k → P s (set s k x)) where
   control-point-stores : (s : List ℕ) → P s (controlPointPut s t f)
   unfolding controlPointPut
   control-point-stores s =
@@ -248,7 +252,7 @@ control-point-length s t f = control-point-stores t f (λ s s′. length s′ �
 pub control-point-other : (i t : ℕ) (s : List ℕ) (f : ControlPoint) → i < 16 → t < 16 → i ≢ t → Agree i s (controlPointPut s t f)
 control-point-other i t s f l m n = control-point-stores t f (Agree i) (λ s s′ s″ a b. agree-then a b) one s
   where
-    one : (k x : ℕ) (s : List ℕ) → (k ≡ controlPointModesAt + t) ⊎ ((k ≡ controlPointPlacesAt + t) ⊎ ((k ≡ controlPointValuesAt + t) ⊎ (k ≡ controlPointRowsAt + t))) → Agree i s (set s k x)
+    one : (k x : ℕ) (s : List ℕ) → OfControlPoint t k → Agree i s (set s k x)
     one k x s (inl q) = agree-set i k x s (outside-behind i k l (omega (arith, q))) (λ z. n (omega (arith, z, q))) (λ z. omega (arith, z, q, l, m)) (λ z. omega (arith, z, q, l, m)) (λ z. omega (arith, z, q, l, m))
     one k x s (inr (inl q)) = agree-set i k x s (outside-behind i k l (omega (arith, q))) (λ z. omega (arith, z, q, l, m)) (λ z. n (omega (arith, z, q))) (λ z. omega (arith, z, q, l, m)) (λ z. omega (arith, z, q, l, m))
     one k x s (inr (inr (inl q))) = agree-set i k x s (outside-behind i k l (omega (arith, q))) (λ z. omega (arith, z, q, l, m)) (λ z. omega (arith, z, q, l, m)) (λ z. n (omega (arith, z, q))) (λ z. omega (arith, z, q, l, m))
@@ -257,7 +261,7 @@ control-point-other i t s f l m n = control-point-stores t f (Agree i) (λ s s�
 pub control-point-shared : (t : ℕ) (s : List ℕ) (f : ControlPoint) → t < 16 → SharedSame s (controlPointPut s t f)
 control-point-shared t s f m = control-point-stores t f SharedSame (λ s s′ s″ a b j h. b j h ∙ a j h) one s
   where
-    one : (k x : ℕ) (s : List ℕ) → (k ≡ controlPointModesAt + t) ⊎ ((k ≡ controlPointPlacesAt + t) ⊎ ((k ≡ controlPointValuesAt + t) ⊎ (k ≡ controlPointRowsAt + t))) → SharedSame s (set s k x)
+    one : (k x : ℕ) (s : List ℕ) → OfControlPoint t k → SharedSame s (set s k x)
     one k x s (inl q) j h = getD-set-other s k j x 0 (λ e. omega (arith, e, q, h, m))
     one k x s (inr (inl q)) j h = getD-set-other s k j x 0 (λ e. omega (arith, e, q, h, m))
     one k x s (inr (inr (inl q))) j h = getD-set-other s k j x 0 (λ e. omega (arith, e, q, h, m))
@@ -267,7 +271,7 @@ control-point-shared t s f m = control-point-stores t f SharedSame (λ s s′ s�
 pub control-point-rows : (i t : ℕ) (s : List ℕ) (f : ControlPoint) → i < 16 → t < 16 → RowsAgree i s (controlPointPut s t f)
 control-point-rows i t s f l m = control-point-stores t f (RowsAgree i) (λ s s′ s″ a b. rows-then a b) one s
   where
-    one : (k x : ℕ) (s : List ℕ) → (k ≡ controlPointModesAt + t) ⊎ ((k ≡ controlPointPlacesAt + t) ⊎ ((k ≡ controlPointValuesAt + t) ⊎ (k ≡ controlPointRowsAt + t))) → RowsAgree i s (set s k x)
+    one : (k x : ℕ) (s : List ℕ) → OfControlPoint t k → RowsAgree i s (set s k x)
     one k x s (inl q) = rows-set i k x s (outside-behind i k l (omega (arith, q)))
     one k x s (inr (inl q)) = rows-set i k x s (outside-behind i k l (omega (arith, q)))
     one k x s (inr (inr (inl q))) = rows-set i k x s (outside-behind i k l (omega (arith, q)))

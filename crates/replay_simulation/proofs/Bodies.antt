@@ -67,29 +67,56 @@ owned-kept (b ∷ ps) k c h (o, os) = (c .kept (continuationsAt + k) (inr h) ∙
 
 -- ------------------------------------------------------------------ all are linked
 
+record AllUnlinked (p : List ℕ) (k : ℕ) (ps : List Procedure) (root : Expr) : Type 0 where
+  standing : AllStanding p k ps root
+  owned : Owned p k ps
+  ranged : AllRanged (getD p proceduresAt 0) ps root
+  long : length p ≡ programSize
+  fits : k + allSize ps root ≤ 256
+
 record AllLinked (p p′ : List ℕ) (k : ℕ) (ps : List Procedure) (root : Expr) : Type 0 where
   stand : AllStand p′ k ps root
   changed : ChangedWithin (continuationsAt + k) (continuationsAt + k + allSize ps root) p p′
 
 -- one body, and all behind it
-module _ (b : Procedure) (ps : List Procedure) (root : Expr) (k : ℕ) (p : List ℕ) (S : Standing p k (b .body)) (o : continuation p k ≡ leave) (r : Ranged (getD p proceduresAt 0) (b .body))
-    (long : length p ≡ programSize) (h : k + (size (b .body) + allSize ps root) ≤ 256) where
-  body-links : Links p (linkedFrom p k (size (b .body))) leave k (b .body)
-  body-links = links (b .body) leave k p S long (omega (arith, h)) o
+module _ {b : Procedure} {ps : List Procedure} {root : Expr} {k : ℕ} {p : List ℕ} (U : AllUnlinked p k (b ∷ ps) root) where
+  h : k + (size (b .body) + allSize ps root) ≤ 256
+  unfolding allSize
+  h = U .fits
 
-  first-change : ChangedWithin (continuationsAt + k) (continuationsAt + k + size (b .body)) p (linkedFrom p k (size (b .body)))
-  first-change = changed-wider (continuationsAt + k) (continuationsAt + k + size (b .body)) (omega arith) (omega arith) (body-links .changed)
+  abbrev lo : ℕ
+  lo = continuationsAt + k
+
+  abbrev behind : ℕ
+  behind = k + size (b .body)
+
+  abbrev hi : ℕ
+  hi = continuationsAt + k + (size (b .body) + allSize ps root)
 
   abbrev q₁ : List ℕ
   q₁ = linkedFrom p k (size (b .body))
 
   abbrev q₂ : List ℕ
-  q₂ = linkedFrom q₁ (k + size (b .body)) (allSize ps root)
+  q₂ = linkedFrom q₁ behind (allSize ps root)
 
-  module _ (rest : AllLinked q₁ q₂ (k + size (b .body)) ps root) where
-    whole : ChangedWithin (continuationsAt + k) (continuationsAt + k + (size (b .body) + allSize ps root)) p q₂
-    whole = changed-then (continuationsAt + k) (continuationsAt + k + (size (b .body) + allSize ps root)) (changed-wider (continuationsAt + k) (continuationsAt + k + (size (b .body) + allSize ps root)) (omega arith) (omega arith) first-change)
-        (changed-wider (continuationsAt + k) (continuationsAt + k + (size (b .body) + allSize ps root)) (omega arith) (omega arith) (rest .changed))
+  body-links : Links p q₁ leave k (b .body)
+  body-links = links (b .body) leave k p (record { standing = U .standing .0; long = U .long; fits = omega (arith, h); own = U .owned .0 })
+
+  first-change : ChangedWithin lo (continuationsAt + k + size (b .body)) p q₁
+  first-change = changed-wider lo (continuationsAt + k + size (b .body)) (omega arith) (omega arith) (body-links .changed)
+
+  rest-unlinked : AllUnlinked q₁ behind ps root
+  rest-unlinked = record {
+    standing = all-kept ps root behind (changed-wider continuationsAt proceduresAt (omega arith) (omega (arith, h)) first-change) (omega (arith, h)) (U .standing .1);
+    owned = owned-kept ps behind first-change (omega arith) (U .owned .1);
+    ranged = subst (λ (n : ℕ). AllRanged n ps root) (sym (first-change .kept proceduresAt (inr (omega (arith, h))))) (U .ranged .1);
+    long = first-change .long ∙ U .long;
+    fits = omega (arith, h);
+  }
+
+  module _ (rest : AllLinked q₁ q₂ behind ps root) where
+    whole : ChangedWithin lo hi p q₂
+    whole = changed-then lo hi (changed-wider lo hi (omega arith) (omega arith) first-change) (changed-wider lo hi (omega arith) (omega arith) (rest .changed))
 
     body-linked : AllLinked p (linkedFrom p k (size (b .body) + allSize ps root)) k (b ∷ ps) root
     unfolding allSize
@@ -97,32 +124,28 @@ module _ (b : Procedure) (ps : List Procedure) (root : Expr) (k : ℕ) (p : List
         subst (λ (q : List ℕ). AllLinked p q k (b ∷ ps) root) (sym (linked-split p k (size (b .body)) (allSize ps root)))
         (record {
           stand = (
-            standing-stands (b .body) leave k (standing-kept (b .body) k (changed-wider continuationsAt proceduresAt (omega arith) (omega (arith, h)) whole) (omega (arith, h)) S)
-                (subst (λ (n : ℕ). Ranged n (b .body)) (sym (whole .kept proceduresAt (inr (omega (arith, h))))) r) (omega (arith, h))
+            standing-stands (b .body) leave k
+                (standing-kept (b .body) k (changed-wider continuationsAt proceduresAt (omega arith) (omega (arith, h)) whole) (omega (arith, h)) (U .standing .0))
+                (subst (λ (n : ℕ). Ranged n (b .body)) (sym (whole .kept proceduresAt (inr (omega (arith, h))))) (U .ranged .0)) (omega (arith, h))
                 (region-kept (rest .changed) (inl (let n = continuations-length (b .body) leave k in omega (arith, n))) (body-links .region)),
             rest .stand,
           );
           changed = whole;
         })
 
-all-linked : (ps : List Procedure) (root : Expr) (k : ℕ) (p : List ℕ) → AllStanding p k ps root → Owned p k ps → AllRanged (getD p proceduresAt 0) ps root → length p ≡ programSize →
-    k + allSize ps root ≤ 256 → AllLinked p (linkedFrom p k (allSize ps root)) k ps root
+all-linked : (ps : List Procedure) (root : Expr) (k : ℕ) (p : List ℕ) → AllUnlinked p k ps root → AllLinked p (linkedFrom p k (allSize ps root)) k ps root
 unfolding allSize
-all-linked [] root k p S O r long h =
-    let L = links root finish k p S long h O in
+all-linked [] root k p U =
+    let L = links root finish k p (record { standing = U .standing; long = U .long; fits = U .fits; own = U .owned }) in
     let c = changed-wider (continuationsAt + k) (continuationsAt + k + size root) (omega arith) (omega arith) (L .changed) in
-    let m = c .kept proceduresAt (inr (omega (arith, h))) in
+    let m = c .kept proceduresAt (inr (omega (arith, U .fits))) in
     record {
-      stand = standing-stands root finish k (standing-kept root k (changed-wider continuationsAt proceduresAt (omega arith) (omega (arith, h)) (L .changed)) h S) (subst (λ (n : ℕ). Ranged n root) (sym m) r) h (L .region);
+      stand = standing-stands root finish k
+          (standing-kept root k (changed-wider continuationsAt proceduresAt (omega arith) (omega (arith, U .fits)) (L .changed)) (U .fits) (U .standing))
+          (subst (λ (n : ℕ). Ranged n root) (sym m) (U .ranged)) (U .fits) (L .region);
       changed = c;
     }
-all-linked (b ∷ ps) root k p (S, Ss) (o, os) (r, rs) long h =
-    body-linked b ps root k p S o r long h
-    (all-linked ps root (k + size (b .body)) (linkedFrom p k (size (b .body)))
-    (all-kept ps root (k + size (b .body)) (changed-wider continuationsAt proceduresAt (omega arith) (omega (arith, h)) (first-change b ps root k p S o r long h)) (omega (arith, h)) Ss)
-    (owned-kept ps (k + size (b .body)) (first-change b ps root k p S o r long h) (omega arith) os)
-    (subst (λ (n : ℕ). AllRanged n ps root) (sym (first-change b ps root k p S o r long h .kept proceduresAt (inr (omega (arith, h))))) rs)
-    (first-change b ps root k p S o r long h .long ∙ long) (omega (arith, h)))
+all-linked (b ∷ ps) root k p U = body-linked U (all-linked ps root (k + size (b .body)) (linkedFrom p k (size (b .body))) (rest-unlinked U))
 
 -- ------------------------------------------------------------------ their own continuations
 
@@ -146,14 +169,16 @@ record BodiesOwned (p p′ : List ℕ) (k : ℕ) (ps : List Procedure) : Type 0 
 
 -- one body, and those behind it
 body-owned : (b : Procedure) (ps : List Procedure) (f k : ℕ) (p : List ℕ) → length p ≡ programSize → k + (size (b .body) + bodiesSize ps) ≤ 256 →
-    BodiesOwned (set p (continuationsAt + k) leave) (bodiesJoined (set p (continuationsAt + k) leave) (f + 1) (length ps)) (k + size (b .body)) ps → BodiesOwned p (bodiesJoined (set p (continuationsAt + k) leave) (f + 1) (length ps)) k (b ∷ ps)
+    (let p₁ = set p (continuationsAt + k) leave in
+    BodiesOwned p₁ (bodiesJoined p₁ (f + 1) (length ps)) (k + size (b .body)) ps → BodiesOwned p (bodiesJoined p₁ (f + 1) (length ps)) k (b ∷ ps))
 unfolding bodiesSize continuation
 body-owned b ps f k p long h rest =
     let n = some-steps (b .body) in
+    let lo = continuationsAt + k in
+    let hi = continuationsAt + k + (size (b .body) + bodiesSize ps) in
     record {
-      owned = (rest .changed .kept (continuationsAt + k) (inl (omega (arith, n))) ∙ getD-set-same p (continuationsAt + k) leave 0 (omega (arith, long, h)), rest .owned);
-      changed = changed-then (continuationsAt + k) (continuationsAt + k + (size (b .body) + bodiesSize ps)) (changed-store (continuationsAt + k) (continuationsAt + k + (size (b .body) + bodiesSize ps)) p (continuationsAt + k) leave (omega arith) (omega (arith, n)))
-          (changed-wider (continuationsAt + k) (continuationsAt + k + (size (b .body) + bodiesSize ps)) (omega arith) (omega arith) (rest .changed));
+      owned = (rest .changed .kept lo (inl (omega (arith, n))) ∙ getD-set-same p lo leave 0 (omega (arith, long, h)), rest .owned);
+      changed = changed-then lo hi (changed-store lo hi p lo leave (omega arith) (omega (arith, n))) (changed-wider lo hi (omega arith) (omega arith) (rest .changed));
     }
 
 bodies-owned : (ps : List Procedure) (f k : ℕ) (p : List ℕ) → FirstsAt p f k ps → length p ≡ programSize → k + bodiesSize ps ≤ 256 → f + length ps ≤ 16 → BodiesOwned p (bodiesJoined p f (length ps)) k ps
@@ -216,8 +241,17 @@ pub record ProgramStands (p : List ℕ) (ps : List Procedure) (root : Expr) : Ty
   pub bodies : BodiesStand p ps
   pub root-stands : Stands p finish (rootOf p) root
 
-module _ (p : List ℕ) (ps : List Procedure) (root : Expr) (S : AllStanding p 0 ps root) (F : FirstsAt p 0 0 ps) (Vs : VariablesAt p 0 ps) (r : AllRanged (length ps) ps root)
-    (long : length p ≡ programSize) (few : allSize ps root ≤ 256) (procs : length ps ≤ 16) where
+-- a program that stands in its columns, with the first steps and the variables of its procedures
+pub record ProgramStored (p : List ℕ) (ps : List Procedure) (root : Expr) : Type 0 where
+  pub standing : AllStanding p 0 ps root
+  pub firsts : FirstsAt p 0 0 ps
+  pub variables : VariablesAt p 0 ps
+  pub ranged : AllRanged (length ps) ps root
+  pub long : length p ≡ programSize
+  pub few : allSize ps root ≤ 256
+  pub procs : length ps ≤ 16
+
+module _ {p : List ℕ} {ps : List Procedure} {root : Expr} (P : ProgramStored p ps root) where
   abbrev m : ℕ
   m = length ps
 
@@ -232,21 +266,25 @@ module _ (p : List ℕ) (ps : List Procedure) (root : Expr) (S : AllStanding p 0
   p₂ = bodiesJoined p₁ 0 m
 
   bodies-few : bodiesSize ps + 1 ≤ 256
-  bodies-few = let e = size-of-all ps root in let n = some-steps root in omega (arith, e, n, few)
+  bodies-few = let e = size-of-all ps root in let n = some-steps root in omega (arith, e, n, P .few)
 
   bodies-joined : BodiesOwned p₁ p₂ 0 ps
   unfolding p₂
-  bodies-joined = bodies-owned ps 0 0 p₁ (firsts-kept ps 0 0 count-store (omega (arith, procs)) F) (count-store .long ∙ long) (let h = bodies-few in omega (arith, h)) (omega (arith, procs))
+  bodies-joined =
+      let h = bodies-few in
+      bodies-owned ps 0 0 p₁ (firsts-kept ps 0 0 count-store (omega (arith, P .procs)) (P .firsts)) (count-store .long ∙ P .long) (omega (arith, h)) (omega (arith, P .procs))
 
   to-bodies : ChangedWithin continuationsAt programSize p p₂
-  to-bodies = changed-then continuationsAt programSize count-store (changed-wider continuationsAt programSize (omega arith) (let h = bodies-few in omega (arith, h)) (bodies-joined .changed))
+  to-bodies =
+      let h = bodies-few in
+      changed-then continuationsAt programSize count-store (changed-wider continuationsAt programSize (omega arith) (omega (arith, h)) (bodies-joined .changed))
 
   count₂ : getD p₂ proceduresAt 0 ≡ m
   unfolding p₁
-  count₂ = bodies-joined .changed .kept proceduresAt (inr (let h = bodies-few in omega (arith, h))) ∙ getD-set-same p proceduresAt m 0 (omega (arith, long))
+  count₂ = bodies-joined .changed .kept proceduresAt (inr (let h = bodies-few in omega (arith, h))) ∙ getD-set-same p proceduresAt m 0 (omega (arith, P .long))
 
   firsts₂ : FirstsAt p₂ 0 0 ps
-  firsts₂ = firsts-kept ps 0 0 to-bodies (omega (arith, procs)) F
+  firsts₂ = firsts-kept ps 0 0 to-bodies (omega (arith, P .procs)) (P .firsts)
 
   root₂ : rootOf p₂ ≡ bodiesSize ps
   unfolding rootOf
@@ -257,37 +295,49 @@ module _ (p : List ℕ) (ps : List Procedure) (root : Expr) (S : AllStanding p 0
 
   root-store : ChangedWithin continuationsAt proceduresAt p₂ p₃
   unfolding p₃
-  root-store = let e = root₂ in let h = bodies-few in changed-store continuationsAt proceduresAt p₂ (continuationsAt + rootOf p₂) finish (omega arith) (omega (arith, e, h))
+  root-store =
+      let e = root₂ in
+      let h = bodies-few in
+      changed-store continuationsAt proceduresAt p₂ (continuationsAt + rootOf p₂) finish (omega arith) (omega (arith, e, h))
 
   to-root : ChangedWithin continuationsAt programSize p p₃
   to-root = changed-then continuationsAt programSize to-bodies (changed-wider continuationsAt programSize (omega arith) (omega arith) root-store)
 
   owned₃ : Owned p₃ 0 ps
   unfolding p₃
-  owned₃ = let h = bodies-few in owned-all p₂ ps 0 (rootOf p₂) (let e = root₂ in omega (arith, e)) (to-bodies .long ∙ long) (let e = root₂ in omega (arith, e, h)) (bodies-joined .owned)
+  owned₃ =
+      let h = bodies-few in
+      let e = root₂ in
+      owned-all p₂ ps 0 (rootOf p₂) (omega (arith, e)) (to-bodies .long ∙ P .long) (omega (arith, e, h)) (bodies-joined .owned)
 
   standing₃ : AllStanding p₃ 0 ps root
-  standing₃ = all-kept ps root 0 to-root (omega (arith, few)) S
+  standing₃ = all-kept ps root 0 to-root (omega (arith, P .few)) (P .standing)
 
   count₃ : getD p₃ proceduresAt 0 ≡ m
   count₃ = root-store .kept proceduresAt (inr (omega arith)) ∙ count₂
 
   linked-all : AllLinked p₃ (linkedFrom p₃ 0 (allSize ps root)) 0 ps root
-  linked-all = all-linked ps root 0 p₃ standing₃ owned₃ (subst (λ (n : ℕ). AllRanged n ps root) (sym count₃) r) (to-root .long ∙ long) (omega (arith, few))
+  linked-all = all-linked ps root 0 p₃ (record {
+    standing = standing₃;
+    owned = owned₃;
+    ranged = subst (λ (n : ℕ). AllRanged n ps root) (sym count₃) (P .ranged);
+    long = to-root .long ∙ P .long;
+    fits = omega (arith, P .few);
+  })
 
   unfoldable p₄ : List ℕ
   p₄ = linkedFrom p₃ 0 (allSize ps root)
 
   to-end : ChangedWithin continuationsAt programSize p p₄
   unfolding p₄
-  to-end = changed-then continuationsAt programSize to-root (changed-wider continuationsAt programSize (omega arith) (omega (arith, few)) (linked-all .changed))
+  to-end = changed-then continuationsAt programSize to-root (changed-wider continuationsAt programSize (omega arith) (omega (arith, P .few)) (linked-all .changed))
 
   count₄ : getD p₄ proceduresAt 0 ≡ m
   unfolding p₄
-  count₄ = linked-all .changed .kept proceduresAt (inr (omega (arith, few))) ∙ count₃
+  count₄ = linked-all .changed .kept proceduresAt (inr (omega (arith, P .few))) ∙ count₃
 
   firsts₄ : FirstsAt p₄ 0 0 ps
-  firsts₄ = firsts-kept ps 0 0 to-end (omega (arith, procs)) F
+  firsts₄ = firsts-kept ps 0 0 to-end (omega (arith, P .procs)) (P .firsts)
 
   pub program-stands : ProgramStands (linked p (allSize ps root) (length ps)) ps root
   unfolding linked rootJoined joined p₁ p₂ p₃ p₄ rootOf
@@ -296,7 +346,9 @@ module _ (p : List ℕ) (ps : List Procedure) (root : Expr) (S : AllStanding p 0
       counted = count₄;
       each = λ f b h.
           subst (λ (i : ℕ). BodyStands p₄ i b) (let z : 0 + f ≡ f = omega arith in z)
-          (each-body p₄ ps root 0 0 f b (linked-all .stand) firsts₄ (variables-kept ps 0 to-end (omega (arith, procs)) Vs) h);
+          (each-body p₄ ps root 0 0 f b (linked-all .stand) firsts₄ (variables-kept ps 0 to-end (omega (arith, P .procs)) (P .variables)) h);
     };
-    root-stands = subst (λ (j : ℕ). Stands p₄ finish j root) (let z : 0 + bodiesSize ps ≡ bodiesSize ps = omega arith in z ∙ sym (ap (firstOf p₄) count₄ ∙ root-at p₄ ps firsts₄)) (root-stand p₄ ps root 0 (linked-all .stand));
+    root-stands =
+        let z : 0 + bodiesSize ps ≡ bodiesSize ps = omega arith in
+        subst (λ (j : ℕ). Stands p₄ finish j root) (z ∙ sym (ap (firstOf p₄) count₄ ∙ root-at p₄ ps firsts₄)) (root-stand p₄ ps root 0 (linked-all .stand));
   }

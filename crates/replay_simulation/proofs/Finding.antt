@@ -21,11 +21,12 @@ use Rattle.workspace.specs.Layout.{ruleOf, codeOf, printed, shapeOf}
 use Rattle.replay_control.specs.Layout.{secondPart, finish, leave, keptValuesAt, openCallsAt, spaceSize}
 use Rattle.replay_control.specs.declared.ControlPoint.{ControlPoint}
 use Rattle.replay_control.specs.Shapes.{isWrite}
-use Rattle.replay_control.specs.Control.{variable, kept, calledFrom, continuation, second, entering, returning, stoppedAt, readyAt, doneWith, enteredBy}
+use Rattle.replay_control.specs.Control.{variable, kept, calledFrom, continuation, second, behind, entering, returning, stoppedAt, readyAt, doneWith, enteredBy, found}
 use Rattle.replay_control.proofs.Advances.{found-stop}
 use Rattle.replay_machine.specs.Environment.{Env}
-use Rattle.replay_machine.specs.Control.{Frame, letFrame, spawnFrame, writeFirst, writeSecond, unaryFrame, againFrame, markFrame, letWord, ifWord, whileWord, spawnWord, writeWord, unaryWord, nullaryWord, againWord, Control, done, at, seekPart, seek, return, enter, runPart, marks}
-use Rattle.replay_simulation.proofs.Held.{codeValue, partWord, PartNumber, Row, RowOf, Stands, Values, FrameAt, stepOf, rowBehind, Frames, ControlAt}
+use Rattle.replay_machine.specs.Control as machine
+use Rattle.replay_machine.specs.Control.{FrameForm, letPart, spawnPart, writeFirst, writeSecond, unaryPart, againPart, Frame, stepFrame, markFrame, letWord, ifWord, whileWord, spawnWord, writeWord, unaryWord, nullaryWord, againWord, Control, done, at, seekPart, seek, return, enter, runPart, marks}
+use Rattle.replay_simulation.proofs.Held.{codeValue, partWord, PartNumber, Row, RowOf, Stands, Values, PartAt, Frames, WordAt, placeOf, ControlAt}
 use Rattle.replay_simulation.proofs.Advancing.{row-of, by-position, behind-is, go, enters, to-first, to-second, to-other, to-end, to-caller, SameBut, RowIn, same-but-one}
 
 -- ------------------------------------------------------------------ frames
@@ -34,12 +35,7 @@ module _ (p : List ℕ) (t : ℕ) where
   -- a higher bound
   pub frames-up : (s : List ℕ) (row b b′ c : ℕ) (K : List Frame) → b ≤ b′ → Frames p s t row b c K → Frames p s t row b′ c K
   frames-up s row b b′ c [] h F = F
-  frames-up s row b b′ c (letFrame q x e ∷ K) h ((l, is, r, S), F) = ((omega (arith, l, h), is, r, S), F)
-  frames-up s row b b′ c (spawnFrame q e ∷ K) h ((l, is, n, r, S), F) = ((omega (arith, l, h), is, n, r, S), F)
-  frames-up s row b b′ c (writeFirst q e ∷ K) h ((l, is, n, r, S), F) = ((omega (arith, l, h), is, n, r, S), F)
-  frames-up s row b b′ c (writeSecond q v ∷ K) h ((l, is, n, r, x), F) = ((omega (arith, l, h), is, n, r, x), F)
-  frames-up s row b b′ c (unaryFrame q o ∷ K) h ((l, is, n, r, N), F) = ((omega (arith, l, h), is, n, r, N), F)
-  frames-up s row b b′ c (againFrame q e ∷ K) h ((l, is, n, r, S), F) = ((omega (arith, l, h), is, n, r, S), F)
+  frames-up s row b b′ c (stepFrame q f ∷ K) h ((l, P), F) = ((omega (arith, l, h), P), F)
   frames-up s row b b′ c (markFrame σ ∷ K) h F = F
 
   -- in a space where the same is kept for the steps below b of a row and for the rows before it, which have the same variables and calls
@@ -62,15 +58,21 @@ module _ (p : List ℕ) (t : ℕ) where
     called = λ i a n. h .called i a (omega (arith, n));
   }
 
+  -- only the first value of a `write` is kept
+  part-same : (s s′ : List ℕ) (row c : ℕ) (q : Position) (f : FrameForm) → kept s′ row (q .index) ≡ kept s row (q .index) → PartAt p s row c q f → PartAt p s′ row c q f
+  part-same s s′ row c q (letPart x e) h P = P
+  part-same s s′ row c q (spawnPart e) h P = P
+  part-same s s′ row c q (writeFirst e) h P = P
+  part-same s s′ row c q (writeSecond v) h (is, n, r, x) = (is, n, r, h ∙ x)
+  part-same s s′ row c q (unaryPart o) h P = P
+  part-same s s′ row c q (againPart e) h P = P
+
   pub frames-same : (s s′ : List ℕ) (row b c : ℕ) (K : List Frame) → RowsSame row b s s′ → Frames p s t row b c K → Frames p s′ t row b c K
   frames-same s s′ row b c [] h F = F
-  frames-same s s′ row b c (letFrame q x e ∷ K) h (f, F) = (f, frames-same s s′ row (q .index) (continuation p (q .index)) K (rows-fewer s s′ row b (q .index) (omega (arith, f .0)) h) F)
-  frames-same s s′ row b c (spawnFrame q e ∷ K) h (f, F) = (f, frames-same s s′ row (q .index) (continuation p (q .index)) K (rows-fewer s s′ row b (q .index) (omega (arith, f .0)) h) F)
-  frames-same s s′ row b c (writeFirst q e ∷ K) h (f, F) = (f, frames-same s s′ row (q .index) (continuation p (q .index)) K (rows-fewer s s′ row b (q .index) (omega (arith, f .0)) h) F)
-  frames-same s s′ row b c (writeSecond q v ∷ K) h ((l, e, n, r, x), F) =
-      ((l, e, n, r, h .here (q .index) l ∙ x), frames-same s s′ row (q .index) (continuation p (q .index)) K (rows-fewer s s′ row b (q .index) (omega (arith, l)) h) F)
-  frames-same s s′ row b c (unaryFrame q o ∷ K) h (f, F) = (f, frames-same s s′ row (q .index) (continuation p (q .index)) K (rows-fewer s s′ row b (q .index) (omega (arith, f .0)) h) F)
-  frames-same s s′ row b c (againFrame q e ∷ K) h (f, F) = (f, frames-same s s′ row (q .index) (continuation p (q .index)) K (rows-fewer s s′ row b (q .index) (omega (arith, f .0)) h) F)
+  frames-same s s′ row b c (stepFrame q f ∷ K) h ((l, P), F) = (
+    (l, part-same s s′ row c q f (h .here (q .index) l) P),
+    frames-same s s′ row (q .index) (continuation p (q .index)) K (rows-fewer s s′ row b (q .index) (omega (arith, l)) h) F,
+  )
   frames-same s s′ row b c (markFrame σ ∷ K) h ((l, is, low, values), F) =
       let e = h .called row l (omega arith) in (
         (l, is, omega (arith, e, low), λ x m. h .variables (row - 1) x (omega (arith, l)) (omega (arith, l)) m ∙ values x m),
@@ -96,12 +98,7 @@ module _ (p : List ℕ) (t : ℕ) where
   pub frames-row : (s : List ℕ) (K : List Frame) (row b c : ℕ) → Frames p s t row b c K → row ≡ 66 * t + marks K
   unfolding marks
   frames-row s [] row b c F = omega (arith, F .0)
-  frames-row s (letFrame q x e ∷ K) row b c F = frames-row s K row (q .index) (continuation p (q .index)) (F .1)
-  frames-row s (spawnFrame q e ∷ K) row b c F = frames-row s K row (q .index) (continuation p (q .index)) (F .1)
-  frames-row s (writeFirst q e ∷ K) row b c F = frames-row s K row (q .index) (continuation p (q .index)) (F .1)
-  frames-row s (writeSecond q v ∷ K) row b c F = frames-row s K row (q .index) (continuation p (q .index)) (F .1)
-  frames-row s (unaryFrame q o ∷ K) row b c F = frames-row s K row (q .index) (continuation p (q .index)) (F .1)
-  frames-row s (againFrame q e ∷ K) row b c F = frames-row s K row (q .index) (continuation p (q .index)) (F .1)
+  frames-row s (stepFrame q f ∷ K) row b c F = frames-row s K row (q .index) (continuation p (q .index)) (F .1)
   frames-row s (markFrame σ ∷ K) row b c ((l, is, low, values), F) =
       let h = frames-row s K (row - 1) (calledFrom s row) (continuation p (calledFrom s row)) F in omega (arith, l, h)
 
@@ -110,240 +107,242 @@ module _ (p : List ℕ) (t : ℕ) where
 
 -- ------------------------------------------------------------------ finding
 
-module _ (p : List ℕ) (t : ℕ) (small : t < 16) (σ : Env) (row : ℕ) (s₀ : List ℕ) where
-  -- the space while the loop runs in that row, within frames whose steps are below b
-  pub record Ready (s : List ℕ) (b c : ℕ) (K : List Frame) : Type 0 where
-    pub same : SameBut t s₀ s
-    pub long : length s ≡ spaceSize
-    pub inside : RowIn t row
-    pub values : Values p s row σ
-    pub frames : Frames p s t row b c K
+-- the turns that a value may take: one an open call that ends with it, and those at the frame behind
+abbrev pub cost : List Frame → ℕ
+cost [] = 1
+cost (stepFrame q (letPart x e) ∷ K) = 1
+cost (stepFrame q (spawnPart e) ∷ K) = 1
+cost (stepFrame q (writeFirst e) ∷ K) = 3 * size e + 2
+cost (stepFrame q (writeSecond v) ∷ K) = 1
+cost (stepFrame q (unaryPart o) ∷ K) = 1
+cost (stepFrame q (againPart e) ∷ K) = 1
+cost (markFrame σ ∷ K) = suc (cost K)
 
+module _ (p : List ℕ) (t : ℕ) (s₀ : List ℕ) where
+  -- the thread stands there, and only what it keeps for its writes has changed
   abbrev pub Finds : Control → ControlPoint × List ℕ → Type 0
   Finds d r = ControlAt p (r .1) t (r .0) d × SameBut t s₀ (r .1)
 
-  takes-advance : (d : Control) (m : ℕ) (s : List ℕ) (f : ControlPoint) (r : ControlPoint × List ℕ) → 1 ≤ m → go p row (suc (m - 1)) s f ≡ r → Finds d r → Finds d (go p row m s f)
-  takes-advance d m s f r h e F = subst (λ (z : ℕ). Finds d (go p row z s f)) back (subst (Finds d) (sym e) F)
+  -- one turn, and what it finds from there
+  takes-turn : (d : Control) (m : ℕ) (s : List ℕ) (f : ControlPoint) {r : ControlPoint × List ℕ} → 1 ≤ m → found (suc (m - 1)) p s f ≡ r → Finds d r →
+      Finds d (found m p s f)
+  takes-turn d m s f h e F = subst (λ (z : ℕ). Finds d (found z p s f)) back (subst (Finds d) (sym e) F)
     where
       back : suc (m - 1) ≡ m
       back = omega (arith, h)
 
-  -- what follows once what has continuation c is a value, with n turns left
-  abbrev pub Follows : (c : ℕ) → List Frame → (n : ℕ) → (Value → Control) → Type 0
-  Follows c K n κ = (v : Value) (b m : ℕ) (s : List ℕ) → n ≤ m → Ready s b c K → Finds (κ v) (go p row m s (returning row c (codeValue v)))
+  module _ (σ : Env) (row : ℕ) where
+    -- the space while the loop runs in that row, within frames whose steps are below b
+    pub record Ready (s : List ℕ) (b c : ℕ) (K : List Frame) : Type 0 where
+      pub low : t < 16
+      pub same : SameBut t s₀ s
+      pub long : length s ≡ spaceSize
+      pub inside : RowIn t row
+      pub values : Values p s row σ
+      pub frames : Frames p s t row b c K
 
-  abbrev Sought : (c k : ℕ) → Expr → Type 0
-  Sought c k e = (K : List Frame) (κ : Value → Control) (n m : ℕ) (s : List ℕ) → n + 3 * size e ≤ m → Ready s k c K → Follows c K n κ →
-      Finds (seek σ e K κ) (go p row m s (entering row k))
+    -- the same within other frames
+    framed : {s : List ℕ} {b b′ c c′ : ℕ} {K K′ : List Frame} → Ready s b c K → Frames p s t row b′ c′ K′ → Ready s b′ c′ K′
+    framed R F = record { low = R .low; same = R .same; long = R .long; inside = R .inside; values = R .values; frames = F }
 
-  -- ---------------------------------------------------------------- landing at a word
+    -- what follows once what has continuation c is a value, with n turns left
+    abbrev pub Follows : (c : ℕ) → List Frame → (n : ℕ) → (Value → Control) → Type 0
+    Follows c K n κ = (v : Value) (b m : ℕ) (s : List ℕ) → n ≤ m → Ready s b c K → Finds (κ v) (go p row m s (returning row c (codeValue v)))
 
-  not-write : (o : calculus.Unary) → isWrite (shapeOf (ruleOf (codeOf (Unary (partWord o))))) ≡ false
-  unfolding isWrite ruleOf printed
-  not-write join = refl
-  not-write ref = refl
-  not-write read = refl
-  not-write lock = refl
-  not-write unlock = refl
-  not-write post = refl
-  not-write wait = refl
-  not-write (hold rdlock) = refl
-  not-write (hold rdunlock) = refl
-  not-write (hold wrlock) = refl
-  not-write (hold wrunlock) = refl
-  not-write (call f) = refl
+    abbrev Sought : (c k : ℕ) → Expr → Type 0
+    Sought c k e = (K : List Frame) (κ : Value → Control) (n m : ℕ) (s : List ℕ) → n + 3 * size e ≤ m → Ready s k c K → Follows c K n κ →
+        Finds (seek σ e K κ) (go p row m s (entering row k))
 
-  lands : (d : Control) {q : Position} {w : Word} {v : ℕ} (c x m : ℕ) (s : List ℕ) → c ≡ q .index → RowOf p q w v → isWrite (shapeOf (ruleOf (codeOf w))) ≡ false → 1 ≤ m →
-      Finds d (readyAt row (q .index) x, s) → Finds d (go p row m s (returning row c x))
-  lands d {q = q} c x m s e r h le F =
-      subst (λ (j : ℕ). Finds d (go p row m s (returning row j x))) (sym e)
-      (takes-advance d m s (returning row (q .index) x) (readyAt row (q .index) x, s) le (to-first p row (m - 1) (q .index) x s r h) F)
+    -- ---------------------------------------------------------------- landing at a word
 
-  let-lands : (q : Position) (x : ℕ) (e : Expr) (c : ℕ) (K : List Frame) → Follows c (letFrame q x e ∷ K) 1 (λ v. at σ (letWord q x v e) K)
-  unfolding isWrite ruleOf printed
-  let-lands q x e c K v b m s le R =
-      let ((l, is, r, S), F) = R .frames in
-      lands (at σ (letWord q x v e) K) c (codeValue v) m s is r refl le ((R .values, (refl, r, S), F), R .same)
+    not-write : (o : calculus.Unary) → isWrite (shapeOf (ruleOf (codeOf (Unary (partWord o))))) ≡ false
+    unfolding isWrite ruleOf printed
+    not-write join = refl
+    not-write ref = refl
+    not-write read = refl
+    not-write lock = refl
+    not-write unlock = refl
+    not-write post = refl
+    not-write wait = refl
+    not-write (hold rdlock) = refl
+    not-write (hold rdunlock) = refl
+    not-write (hold wrlock) = refl
+    not-write (hold wrunlock) = refl
+    not-write (call f) = refl
 
-  spawn-lands : (q : Position) (e : Expr) (c : ℕ) (K : List Frame) → Follows c (spawnFrame q e ∷ K) 1 (λ v. at σ (spawnWord q v e) K)
-  unfolding isWrite ruleOf printed
-  spawn-lands q e c K v b m s le R =
-      let ((l, is, n, r, S), F) = R .frames in
-      lands (at σ (spawnWord q v e) K) c (codeValue v) m s is r refl le ((R .values, (refl, n, r, S), F), R .same)
+    lands : (d : Control) {q : Position} {w : Word} {v : ℕ} (c x m : ℕ) (s : List ℕ) → c ≡ q .index → RowOf p q w v →
+        isWrite (shapeOf (ruleOf (codeOf w))) ≡ false → 1 ≤ m → Finds d (readyAt row (q .index) x, s) → Finds d (go p row m s (returning row c x))
+    lands d {q = q} c x m s e r h le F =
+        subst (λ (j : ℕ). Finds d (go p row m s (returning row j x))) (sym e)
+        (takes-turn d m s (returning row (q .index) x) le (to-first p row (m - 1) (q .index) x s r h) F)
 
-  unary-lands : (q : Position) (o : calculus.Unary) (c : ℕ) (K : List Frame) → Follows c (unaryFrame q o ∷ K) 1 (λ v. at σ (unaryWord q o v) K)
-  unary-lands q o c K v b m s le R =
-      let ((l, is, n, r, N), F) = R .frames in
-      lands (at σ (unaryWord q o v) K) c (codeValue v) m s is r (not-write o) le ((R .values, (refl, n, r, N), F), R .same)
+    let-lands : (q : Position) (x : ℕ) (e : Expr) (c : ℕ) (K : List Frame) → Follows c (stepFrame q (letPart x e) ∷ K) 1 (λ v. at σ (letWord q x v e) K)
+    unfolding isWrite ruleOf printed
+    let-lands q x e c K v b m s le R =
+        let ((l, (is, r, S)), F) = R .frames in
+        lands (at σ (letWord q x v e) K) c (codeValue v) m s is r refl le ((R .values, (refl, r, S), F), R .same)
 
-  pub again-lands : (q : Position) (e : Expr) (c : ℕ) (K : List Frame) → Follows c (againFrame q e ∷ K) 1 (λ v. at σ (againWord q v e) K)
-  unfolding isWrite ruleOf printed
-  again-lands q e c K v b m s le R =
-      let ((l, is, n, r, S), F) = R .frames in
-      lands (at σ (againWord q v e) K) c (codeValue v) m s is r refl le ((R .values, (refl, n, r, S), F), R .same)
+    spawn-lands : (q : Position) (e : Expr) (c : ℕ) (K : List Frame) → Follows c (stepFrame q (spawnPart e) ∷ K) 1 (λ v. at σ (spawnWord q v e) K)
+    unfolding isWrite ruleOf printed
+    spawn-lands q e c K v b m s le R =
+        let ((l, (is, n, r, S)), F) = R .frames in
+        lands (at σ (spawnWord q v e) K) c (codeValue v) m s is r refl le ((R .values, (refl, n, r, S), F), R .same)
 
-  write-lands : (q : Position) (w : Value) (c : ℕ) (K : List Frame) → Follows c (writeSecond q w ∷ K) 1 (λ u. at σ (writeWord q w u) K)
-  write-lands q w c K u b m s le R =
-      let ((l, is, n, r, held), F) = R .frames in
-      subst (λ (j : ℕ). Finds (at σ (writeWord q w u) K) (go p row m s (returning row j (codeValue u)))) (sym is)
-      (takes-advance (at σ (writeWord q w u) K) m s (returning row (secondPart + q .index) (codeValue u)) (readyAt row (q .index) (codeValue u), s) le
-      (to-second p row (m - 1) (q .index) (codeValue u) s (r .below)) ((R .values, (refl, n, r, held), F), R .same))
+    unary-lands : (q : Position) (o : calculus.Unary) (c : ℕ) (K : List Frame) → Follows c (stepFrame q (unaryPart o) ∷ K) 1 (λ v. at σ (unaryWord q o v) K)
+    unary-lands q o c K v b m s le R =
+        let ((l, (is, n, r, N)), F) = R .frames in
+        lands (at σ (unaryWord q o v) K) c (codeValue v) m s is r (not-write o) le ((R .values, (refl, n, r, N), F), R .same)
 
-  -- ---------------------------------------------------------------- the second part of a `write`
+    pub again-lands : (q : Position) (e : Expr) (c : ℕ) (K : List Frame) → Follows c (stepFrame q (againPart e) ∷ K) 1 (λ v. at σ (againWord q v e) K)
+    unfolding isWrite ruleOf printed
+    again-lands q e c K v b m s le R =
+        let ((l, (is, n, r, S)), F) = R .frames in
+        lands (at σ (againWord q v e) K) c (codeValue v) m s is r refl le ((R .values, (refl, n, r, S), F), R .same)
 
-  -- its first part's value is kept
-  other-ready : (q : Position) (e : Expr) (w : Value) (b c : ℕ) (K : List Frame) (s : List ℕ) → Ready s b c (writeFirst q e ∷ K) →
-      Ready (set s (keptValuesAt + 256 * row + q .index) (codeValue w)) (q .index + 1) (secondPart + q .index) (writeSecond q w ∷ K)
-  unfolding variable
-  other-ready q e w b c K s R =
-      let ((l, is, n, r, S), F) = R .frames in
-      let low = r .below in
-      record {
-        same = same-but-one t row (q .index) (codeValue w) s₀ s (R .inside) low (R .same);
-        long = length-set s (keptValuesAt + 256 * row + q .index) (codeValue w) ∙ R .long;
-        inside = R .inside;
-        values = λ x h. getD-set-other s (keptValuesAt + 256 * row + q .index) (0 + 256 * row + x) (codeValue w) 0 (λ z. omega (arith, z, h, small, R .inside .1)) ∙ R .values x h;
-        frames = (
-          (omega arith, refl, n, r, kept-here p t s row (q .index) (codeValue w) (omega (arith, R .long, small, low, R .inside .1))),
-          frames-same p t s (set s (keptValuesAt + 256 * row + q .index) (codeValue w)) row (q .index) (continuation p (q .index)) K (kept-other p t s row (q .index) (codeValue w) small (R .inside) low) F,
-        );
-      }
+    write-lands : (q : Position) (w : Value) (c : ℕ) (K : List Frame) → Follows c (stepFrame q (writeSecond w) ∷ K) 1 (λ u. at σ (writeWord q w u) K)
+    write-lands q w c K u b m s le R =
+        let ((l, (is, n, r, held)), F) = R .frames in
+        subst (λ (j : ℕ). Finds (at σ (writeWord q w u) K) (go p row m s (returning row j (codeValue u)))) (sym is)
+        (takes-turn (at σ (writeWord q w u) K) m s (returning row (secondPart + q .index) (codeValue u)) le (to-second p row (m - 1) (q .index) (codeValue u) s (r .below))
+        ((R .values, (refl, n, r, held), F), R .same))
 
-  raised : (s : List ℕ) (b b′ c : ℕ) (K : List Frame) → b ≤ b′ → Ready s b c K → Ready s b′ c K
-  raised s b b′ c K h R = record { same = R .same; long = R .long; inside = R .inside; values = R .values; frames = frames-up p t s row b b′ c K h (R .frames) }
+    -- ---------------------------------------------------------------- the second part of a `write`
 
-  other-sought : (q : Position) (e : Expr) (c : ℕ) (K : List Frame) → ((d k : ℕ) → Stands p d k e → Sought d k e) →
-      Follows c (writeFirst q e ∷ K) (3 * size e + 2) (λ w. seek σ e (writeSecond q w ∷ K) (λ u. at σ (writeWord q w u) K))
-  other-sought q e c K rec w b m s le R =
-      let ((l, is, n, r, S), F) = R .frames in
-      subst (λ (j : ℕ). Finds (seek σ e (writeSecond q w ∷ K) (λ u. at σ (writeWord q w u) K)) (go p row m s (returning row j (codeValue w)))) (sym is)
-      (takes-advance (seek σ e (writeSecond q w ∷ K) (λ u. at σ (writeWord q w u) K)) m s (returning row (q .index) (codeValue w))
-      (go p row (m - 1) (set s (keptValuesAt + 256 * row + q .index) (codeValue w)) (entering row (second p (q .index)))) (omega (arith, le))
-      (to-other p row (m - 1) (q .index) (codeValue w) s r)
-      (rec (secondPart + q .index) (second p (q .index)) S (writeSecond q w ∷ K) (λ u. at σ (writeWord q w u) K) 1 (m - 1) (set s (keptValuesAt + 256 * row + q .index) (codeValue w)) (omega (arith, le))
-      (raised (set s (keptValuesAt + 256 * row + q .index) (codeValue w)) (q .index + 1) (second p (q .index)) (secondPart + q .index) (writeSecond q w ∷ K) (omega (arith, r .far)) (other-ready q e w b c K s R))
-      (write-lands q w (secondPart + q .index) K)))
+    -- its first part's value is kept
+    other-ready : (q : Position) (e : Expr) (w : Value) (b c : ℕ) (K : List Frame) (s : List ℕ) → Ready s b c (stepFrame q (writeFirst e) ∷ K) →
+        Ready (set s (keptValuesAt + 256 * row + q .index) (codeValue w)) (second p (q .index)) (secondPart + q .index) (stepFrame q (writeSecond w) ∷ K)
+    unfolding variable
+    other-ready q e w b c K s R =
+        let ((l, (is, n, r, S)), F) = R .frames in
+        let at-kept = keptValuesAt + 256 * row + q .index in
+        record {
+          low = R .low;
+          same = same-but-one t row (q .index) (codeValue w) s₀ s (R .inside) (r .below) (R .same);
+          long = length-set s at-kept (codeValue w) ∙ R .long;
+          inside = R .inside;
+          values = λ x h. getD-set-other s at-kept (0 + 256 * row + x) (codeValue w) 0 (λ z. omega (arith, z, h, R .low, R .inside .1)) ∙ R .values x h;
+          frames = (
+            (r .far, (refl, n, r, kept-here p t s row (q .index) (codeValue w) (omega (arith, R .long, R .low, r .below, R .inside .1)))),
+            frames-same p t s (set s at-kept (codeValue w)) row (q .index) (continuation p (q .index)) K
+                (kept-other p t s row (q .index) (codeValue w) (R .low) (R .inside) (r .below)) F,
+          );
+        }
 
-  -- ---------------------------------------------------------------- the theorem
+    other-sought : (q : Position) (e : Expr) (c : ℕ) (K : List Frame) → ((d k : ℕ) → Stands p d k e → Sought d k e) →
+        Follows c (stepFrame q (writeFirst e) ∷ K) (3 * size e + 2) (λ w. seek σ e (stepFrame q (writeSecond w) ∷ K) (λ u. at σ (writeWord q w u) K))
+    other-sought q e c K rec w b m s le R =
+        let ((l, (is, n, r, S)), F) = R .frames in
+        subst (λ (j : ℕ). Finds (seek σ e (stepFrame q (writeSecond w) ∷ K) κ) (go p row m s (returning row j (codeValue w)))) (sym is)
+        (takes-turn (seek σ e (stepFrame q (writeSecond w) ∷ K) κ) m s (returning row (q .index) (codeValue w)) (omega (arith, le))
+        (to-other p row (m - 1) (q .index) (codeValue w) s r)
+        (rec (secondPart + q .index) (second p (q .index)) S (stepFrame q (writeSecond w) ∷ K) κ 1 (m - 1) _ (omega (arith, le)) (other-ready q e w b c K s R)
+        (write-lands q w (secondPart + q .index) K)))
+      where
+        κ : Value → Control
+        κ u = at σ (writeWord q w u) K
 
-  -- a step whose first part is entered, within a frame of the step
-  first-sought : (k : ℕ) {q : Position} {w : Word} {v c : ℕ} (e : Expr) (f : Frame) (κ : Value → Control) (r : Row p k q w v c) →
-      ((x : ℕ) → enteredBy (shapeOf (ruleOf (codeOf w))) row k c x ≡ entering row (k + 1)) → Sought k (k + 1) e →
-      (K : List Frame) (n m : ℕ) (s : List ℕ) → n + 3 * size e + 1 ≤ m → Ready s k c K → FrameAt p s t row (k + 1) k f → stepOf p s row f ≡ k → rowBehind p s row f ≡ row → Follows k (f ∷ K) n κ →
-      Finds (seek σ e (f ∷ K) κ) (go p row m s (entering row k))
-  first-sought k {v = v} {c = c} e f κ r waits rec K n m s fuel R F is stays next =
-      takes-advance (seek σ e (f ∷ K) κ) m s (entering row k) (go p row (m - 1) s (entering row (k + 1))) (omega (arith, fuel)) (enters p row (m - 1) k s r ∙ ap (go p row (m - 1) s) (waits (variable s row v)))
-      (rec (f ∷ K) κ n (m - 1) s (omega (arith, fuel)) ready next)
-    where
-      ready : Ready s (k + 1) k (f ∷ K)
-      ready = record {
-        same = R .same;
-        long = R .long;
-        inside = R .inside;
-        values = R .values;
-        frames = (
-          F,
-          subst (λ (i : ℕ). Frames p s t i (stepOf p s row f) (continuation p (stepOf p s row f)) K) (sym stays)
-              (subst (λ (j : ℕ). Frames p s t row j (continuation p j) K) (sym is) (subst (λ (d : ℕ). Frames p s t row k d K) (sym (r .next)) (R .frames))),
-        );
-      }
+    -- ---------------------------------------------------------------- the theorem
 
-  -- a step that is the next word as it is
-  stops : (d : Control) (k : ℕ) {q : Position} {w : Word} {v c : ℕ} → Row p k q w v c → ((x : ℕ) → enteredBy (shapeOf (ruleOf (codeOf w))) row k c x ≡ stoppedAt row k) →
-      (m : ℕ) (s : List ℕ) → 1 ≤ m → Finds d (stoppedAt row k, s) → Finds d (go p row m s (entering row k))
-  stops d k {v = v} r here m s le F =
-      takes-advance d m s (entering row k) (stoppedAt row k, s) le (enters p row (m - 1) k s r ∙ ap (go p row (m - 1) s) (here (variable s row v)) ∙ found-stop p s (stoppedAt row k) (m - 1) (omega arith)) F
+    -- a step whose first part is entered, within a frame of the step
+    first-sought : {k : ℕ} {q : Position} {w : Word} {v c : ℕ} (r : Row p k q w v c) → ((x : ℕ) → enteredBy (shapeOf (ruleOf (codeOf w))) row k c x ≡ entering row (behind k)) →
+        (e : Expr) → Sought k (k + 1) e → (K : List Frame) (f : FrameForm) (κ : Value → Control) (n m : ℕ) (s : List ℕ) → n + 3 * size e + 1 ≤ m → Ready s k c K →
+        PartAt p s row k q f → Follows k (stepFrame q f ∷ K) n κ → Finds (seek σ e (stepFrame q f ∷ K) κ) (go p row m s (entering row k))
+    first-sought {k} {q} {v = v} r waits e rec K f κ n m s fuel R P next =
+        takes-turn (seek σ e (stepFrame q f ∷ K) κ) m s (entering row k) (omega (arith, fuel))
+        (enters p row (m - 1) k s r ∙ ap (go p row (m - 1) s) (waits (variable s row v) ∙ ap (entering row) (behind-is k (r .below))))
+        (rec (stepFrame q f ∷ K) κ n (m - 1) s (omega (arith, fuel))
+        (framed R ((let i = r .index in omega arith, P), by-position r (λ c k. Frames p s t row k c K) (R .frames))) next)
 
-  -- a word with one part that must be a value
-  part-sought : (o : calculus.Unary) (k : ℕ) {q : Position} {v c : ℕ} (e : Expr) → Row p k q (Unary (partWord o)) v c → PartNumber o v →
-      ((x : ℕ) → enteredBy (shapeOf (ruleOf (codeOf (Unary (partWord o))))) row k c x ≡ entering row (k + 1)) → Sought k (k + 1) e →
-      (K : List Frame) (n m : ℕ) (s : List ℕ) → n + 3 * suc (size e) ≤ m → Ready s k c K → Finds (seekPart σ q o K (seek σ e)) (go p row m s (entering row k))
-  part-sought o k {q = q} {v = v} e r N waits rec K n m s fuel R =
-      first-sought k e (unaryFrame q o) (λ u. at σ (unaryWord q o u) K) r waits rec K 1 m s (omega (arith, fuel)) R
-      (let i = r .index in omega arith, sym (r .index), v, row-of r, N) (r .index) refl (unary-lands q o k K)
+    -- a step that is the next word as it is
+    stops : (w′ : machine.Word) {k : ℕ} {q : Position} {w : Word} {v c : ℕ} (r : Row p k q w v c) → ((x : ℕ) → enteredBy (shapeOf (ruleOf (codeOf w))) row k c x ≡ stoppedAt row k) →
+        (K : List Frame) (m : ℕ) (s : List ℕ) → 1 ≤ m → Ready s k c K → placeOf p s w′ ≡ q .index → WordAt p s row (stoppedAt row (q .index)) w′ →
+        Finds (at σ w′ K) (go p row m s (entering row k))
+    stops w′ {k} {v = v} r here K m s le R is W =
+        takes-turn (at σ w′ K) m s (entering row k) le
+        (enters p row (m - 1) k s r ∙ ap (go p row (m - 1) s) (here (variable s row v)) ∙ found-stop p s (stoppedAt row k) (m - 1) (omega arith)) (
+          (
+            R .values,
+            subst (λ (j : ℕ). WordAt p s row (stoppedAt row j) w′) (r .index) W,
+            subst (λ (j : ℕ). Frames p s t row j (continuation p j) K) (sym is) (by-position r (λ c k. Frames p s t row k c K) (R .frames)),
+          ),
+          R .same,
+        )
 
-  pub seek-simulated : (e : Expr) (c k : ℕ) → Stands p c k e → Sought c k e
-  unfolding size enteredBy ruleOf printed largestValue
-  seek-simulated (leaf Var q x) c k r K κ n m s fuel R next =
-      takes-advance (κ (σ x)) m s (entering row k) (go p row (m - 1) s (returning row c (codeValue (σ x)))) (omega (arith, fuel))
-      (enters p row (m - 1) k s r ∙ ap (λ (z : ℕ). go p row (m - 1) s (returning row c z)) (R .values x (omega (arith, r .small .0)))) (next (σ x) k (m - 1) s (omega (arith, fuel)) R)
-  seek-simulated (leaf Int q v) c k r K κ n m s fuel R next =
-      takes-advance (κ (int v)) m s (entering row k) (go p row (m - 1) s (returning row c 0)) (omega (arith, fuel)) (enters p row (m - 1) k s r) (next (int v) k (m - 1) s (omega (arith, fuel)) R)
-  seek-simulated (leaf Newtid q v) c k r K κ n m s fuel R next = stops (at σ (nullaryWord q calculus.newtid) K) k r (λ x. refl) m s (omega (arith, fuel))
-      ((R .values, (ap (stoppedAt row) (sym (r .index)), v, row-of r, tt), by-position r (λ c k. Frames p s t row k c K) (R .frames)), R .same)
-  seek-simulated (leaf Newlock q v) c k r K κ n m s fuel R next = stops (at σ (nullaryWord q calculus.newlock) K) k r (λ x. refl) m s (omega (arith, fuel))
-      ((R .values, (ap (stoppedAt row) (sym (r .index)), v, row-of r, tt), by-position r (λ c k. Frames p s t row k c K) (R .frames)), R .same)
-  seek-simulated (leaf Newsem q v) c k r K κ n m s fuel R next = stops (at σ (nullaryWord q calculus.newsem) K) k r (λ x. refl) m s (omega (arith, fuel))
-      ((R .values, (ap (stoppedAt row) (sym (r .index)), v, row-of r, tt), by-position r (λ c k. Frames p s t row k c K) (R .frames)), R .same)
-  seek-simulated (leaf Newrwlock q v) c k r K κ n m s fuel R next = stops (at σ (nullaryWord q (calculus.newrwlock v)) K) k r (λ x. refl) m s (omega (arith, fuel))
-      ((R .values, (ap (stoppedAt row) (sym (r .index)), v, row-of r, refl), by-position r (λ c k. Frames p s t row k c K) (R .frames)), R .same)
-  seek-simulated (unary While q v e) c k (r, S) K κ n m s fuel R next = stops (at σ (whileWord q e) K) k r (λ x. refl) m s (omega (arith, fuel))
-      ((R .values, (ap (stoppedAt row) (sym (r .index)), v, row-of r, by-position r (λ c k. Stands p k (k + 1) e) S), by-position r (λ c k. Frames p s t row k c K) (R .frames)), R .same)
-  seek-simulated (unary Join q v e) c k (r, S) K κ n m s fuel R next = part-sought join k e r tt (λ x. ap (entering row) (behind-is k (r .below))) (seek-simulated e k (k + 1) S) K n m s fuel R
-  seek-simulated (unary Ref q v e) c k (r, S) K κ n m s fuel R next = part-sought ref k e r tt (λ x. ap (entering row) (behind-is k (r .below))) (seek-simulated e k (k + 1) S) K n m s fuel R
-  seek-simulated (unary Read q v e) c k (r, S) K κ n m s fuel R next = part-sought read k e r tt (λ x. ap (entering row) (behind-is k (r .below))) (seek-simulated e k (k + 1) S) K n m s fuel R
-  seek-simulated (unary Lock q v e) c k (r, S) K κ n m s fuel R next = part-sought lock k e r tt (λ x. ap (entering row) (behind-is k (r .below))) (seek-simulated e k (k + 1) S) K n m s fuel R
-  seek-simulated (unary Unlock q v e) c k (r, S) K κ n m s fuel R next = part-sought unlock k e r tt (λ x. ap (entering row) (behind-is k (r .below))) (seek-simulated e k (k + 1) S) K n m s fuel R
-  seek-simulated (unary Post q v e) c k (r, S) K κ n m s fuel R next = part-sought post k e r tt (λ x. ap (entering row) (behind-is k (r .below))) (seek-simulated e k (k + 1) S) K n m s fuel R
-  seek-simulated (unary Wait q v e) c k (r, S) K κ n m s fuel R next = part-sought wait k e r tt (λ x. ap (entering row) (behind-is k (r .below))) (seek-simulated e k (k + 1) S) K n m s fuel R
-  seek-simulated (unary Rdlock q v e) c k (r, S) K κ n m s fuel R next = part-sought (hold rdlock) k e r tt (λ x. ap (entering row) (behind-is k (r .below))) (seek-simulated e k (k + 1) S) K n m s fuel R
-  seek-simulated (unary Rdunlock q v e) c k (r, S) K κ n m s fuel R next = part-sought (hold rdunlock) k e r tt (λ x. ap (entering row) (behind-is k (r .below))) (seek-simulated e k (k + 1) S) K n m s fuel R
-  seek-simulated (unary Wrlock q v e) c k (r, S) K κ n m s fuel R next = part-sought (hold wrlock) k e r tt (λ x. ap (entering row) (behind-is k (r .below))) (seek-simulated e k (k + 1) S) K n m s fuel R
-  seek-simulated (unary Wrunlock q v e) c k (r, S) K κ n m s fuel R next = part-sought (hold wrunlock) k e r tt (λ x. ap (entering row) (behind-is k (r .below))) (seek-simulated e k (k + 1) S) K n m s fuel R
-  seek-simulated (unary Call q v e) c k (r, S) K κ n m s fuel R next = part-sought (call v) k e r refl (λ x. ap (entering row) (behind-is k (r .below))) (seek-simulated e k (k + 1) S) K n m s fuel R
-  seek-simulated (binary Let q x e₁ e₂) c k (r, S₁, z, S₂) K κ n m s fuel R next =
-      first-sought k e₁ (letFrame q x e₂) (λ v. at σ (letWord q x v e₂) K) r (λ y. ap (entering row) (behind-is k (r .below))) (seek-simulated e₁ k (k + 1) S₁) K 1 m s (omega (arith, fuel)) R
-      (let i = r .index in omega arith, sym (r .index), row-of r, by-position r (λ c k. Stands p c (second p k) e₂) S₂) (r .index) refl (let-lands q x e₂ k K)
-  seek-simulated (binary If q v e₁ e₂) c k (r, S₁, z, S₂) K κ n m s fuel R next = stops (at σ (ifWord q e₁ e₂) K) k r (λ x. refl) m s (omega (arith, fuel))
-      ((R .values, (ap (stoppedAt row) (sym (r .index)), v, row-of r, by-position r (λ c k. Stands p c (k + 1) e₁) S₁, by-position r (λ c k. Stands p c (second p k) e₂) S₂), by-position r (λ c k. Frames p s t row k c K) (R .frames)), R .same)
-  seek-simulated (binary Spawn q v e₁ e₂) c k (r, S₁, z, S₂) K κ n m s fuel R next =
-      first-sought k e₁ (spawnFrame q e₂) (λ u. at σ (spawnWord q u e₂) K) r (λ y. ap (entering row) (behind-is k (r .below))) (seek-simulated e₁ k (k + 1) S₁) K 1 m s (omega (arith, fuel)) R
-      (let i = r .index in omega arith, sym (r .index), v, row-of r, by-position r (λ c k. Stands p finish (second p k) e₂) S₂) (r .index) refl (spawn-lands q e₂ k K)
-  seek-simulated (binary Write q v e₁ e₂) c k (r, S₁, z, S₂) K κ n m s fuel R next =
-      first-sought k e₁ (writeFirst q e₂) (λ w. seek σ e₂ (writeSecond q w ∷ K) (λ u. at σ (writeWord q w u) K)) r (λ y. ap (entering row) (behind-is k (r .below))) (seek-simulated e₁ k (k + 1) S₁)
-      K (3 * size e₂ + 2) m s (omega (arith, fuel)) R
-      (let i = r .index in omega arith, sym (r .index), v, row-of r, by-position r (λ c k. Stands p (secondPart + k) (second p k) e₂) S₂) (r .index) refl
-      (other-sought q e₂ k K (λ d j. seek-simulated e₂ d j))
+    -- a word with one part that must be a value
+    part-sought : (o : calculus.Unary) {k : ℕ} {q : Position} {v c : ℕ} (r : Row p k q (Unary (partWord o)) v c) → PartNumber o v →
+        ((x : ℕ) → enteredBy (shapeOf (ruleOf (codeOf (Unary (partWord o))))) row k c x ≡ entering row (behind k)) →
+        (e : Expr) → Sought k (k + 1) e → (K : List Frame) (n m : ℕ) (s : List ℕ) → n + 3 * suc (size e) ≤ m → Ready s k c K →
+        Finds (seekPart σ q o K (seek σ e)) (go p row m s (entering row k))
+    part-sought o {k} {q} {v} r N waits e rec K n m s fuel R =
+        first-sought r waits e rec K (unaryPart o) (λ u. at σ (unaryWord q o u) K) 1 m s (omega (arith, fuel)) R (sym (r .index), v, row-of r, N) (unary-lands q o k K)
 
--- ------------------------------------------------------------------ a value is handed back, an expression is entered
+    pub seek-simulated : (e : Expr) (c k : ℕ) → Stands p c k e → Sought c k e
+    unfolding size enteredBy ruleOf printed largestValue
+    seek-simulated (leaf Var q x) c k r K κ n m s fuel R next =
+        takes-turn (κ (σ x)) m s (entering row k) (omega (arith, fuel))
+        (enters p row (m - 1) k s r ∙ ap (λ (z : ℕ). go p row (m - 1) s (returning row c z)) (R .values x (omega (arith, r .small .0))))
+        (next (σ x) k (m - 1) s (omega (arith, fuel)) R)
+    seek-simulated (leaf Int q v) c k r K κ n m s fuel R next =
+        takes-turn (κ (int v)) m s (entering row k) (omega (arith, fuel)) (enters p row (m - 1) k s r) (next (int v) k (m - 1) s (omega (arith, fuel)) R)
+    seek-simulated (leaf Newtid q v) c k r K κ n m s fuel R next =
+        stops (nullaryWord q calculus.newtid) r (λ x. refl) K m s (omega (arith, fuel)) R refl (refl, v, row-of r, tt)
+    seek-simulated (leaf Newlock q v) c k r K κ n m s fuel R next =
+        stops (nullaryWord q calculus.newlock) r (λ x. refl) K m s (omega (arith, fuel)) R refl (refl, v, row-of r, tt)
+    seek-simulated (leaf Newsem q v) c k r K κ n m s fuel R next =
+        stops (nullaryWord q calculus.newsem) r (λ x. refl) K m s (omega (arith, fuel)) R refl (refl, v, row-of r, tt)
+    seek-simulated (leaf Newrwlock q v) c k r K κ n m s fuel R next =
+        stops (nullaryWord q (calculus.newrwlock v)) r (λ x. refl) K m s (omega (arith, fuel)) R refl (refl, v, row-of r, refl)
+    seek-simulated (unary While q v e) c k (r, S) K κ n m s fuel R next =
+        stops (whileWord q e) r (λ x. refl) K m s (omega (arith, fuel)) R refl (refl, v, row-of r, by-position r (λ c k. Stands p k (k + 1) e) S)
+    seek-simulated (unary Join q v e) c k (r, S) K κ n m s fuel R next = part-sought join r tt (λ x. refl) e (seek-simulated e k (k + 1) S) K n m s fuel R
+    seek-simulated (unary Ref q v e) c k (r, S) K κ n m s fuel R next = part-sought ref r tt (λ x. refl) e (seek-simulated e k (k + 1) S) K n m s fuel R
+    seek-simulated (unary Read q v e) c k (r, S) K κ n m s fuel R next = part-sought read r tt (λ x. refl) e (seek-simulated e k (k + 1) S) K n m s fuel R
+    seek-simulated (unary Lock q v e) c k (r, S) K κ n m s fuel R next = part-sought lock r tt (λ x. refl) e (seek-simulated e k (k + 1) S) K n m s fuel R
+    seek-simulated (unary Unlock q v e) c k (r, S) K κ n m s fuel R next = part-sought unlock r tt (λ x. refl) e (seek-simulated e k (k + 1) S) K n m s fuel R
+    seek-simulated (unary Post q v e) c k (r, S) K κ n m s fuel R next = part-sought post r tt (λ x. refl) e (seek-simulated e k (k + 1) S) K n m s fuel R
+    seek-simulated (unary Wait q v e) c k (r, S) K κ n m s fuel R next = part-sought wait r tt (λ x. refl) e (seek-simulated e k (k + 1) S) K n m s fuel R
+    seek-simulated (unary Rdlock q v e) c k (r, S) K κ n m s fuel R next = part-sought (hold rdlock) r tt (λ x. refl) e (seek-simulated e k (k + 1) S) K n m s fuel R
+    seek-simulated (unary Rdunlock q v e) c k (r, S) K κ n m s fuel R next = part-sought (hold rdunlock) r tt (λ x. refl) e (seek-simulated e k (k + 1) S) K n m s fuel R
+    seek-simulated (unary Wrlock q v e) c k (r, S) K κ n m s fuel R next = part-sought (hold wrlock) r tt (λ x. refl) e (seek-simulated e k (k + 1) S) K n m s fuel R
+    seek-simulated (unary Wrunlock q v e) c k (r, S) K κ n m s fuel R next = part-sought (hold wrunlock) r tt (λ x. refl) e (seek-simulated e k (k + 1) S) K n m s fuel R
+    seek-simulated (unary Call q v e) c k (r, S) K κ n m s fuel R next = part-sought (call v) r refl (λ x. refl) e (seek-simulated e k (k + 1) S) K n m s fuel R
+    seek-simulated (binary Let q x e₁ e₂) c k (r, S₁, z, S₂) K κ n m s fuel R next =
+        first-sought r (λ y. refl) e₁ (seek-simulated e₁ k (k + 1) S₁) K (letPart x e₂) (λ v. at σ (letWord q x v e₂) K) 1 m s (omega (arith, fuel)) R
+        (sym (r .index), row-of r, by-position r (λ c k. Stands p c (second p k) e₂) S₂) (let-lands q x e₂ k K)
+    seek-simulated (binary If q v e₁ e₂) c k (r, S₁, z, S₂) K κ n m s fuel R next =
+        stops (ifWord q e₁ e₂) r (λ x. refl) K m s (omega (arith, fuel)) R refl
+        (refl, v, row-of r, by-position r (λ c k. Stands p c (k + 1) e₁) S₁, by-position r (λ c k. Stands p c (second p k) e₂) S₂)
+    seek-simulated (binary Spawn q v e₁ e₂) c k (r, S₁, z, S₂) K κ n m s fuel R next =
+        first-sought r (λ y. refl) e₁ (seek-simulated e₁ k (k + 1) S₁) K (spawnPart e₂) (λ u. at σ (spawnWord q u e₂) K) 1 m s (omega (arith, fuel)) R
+        (sym (r .index), v, row-of r, by-position r (λ c k. Stands p finish (second p k) e₂) S₂) (spawn-lands q e₂ k K)
+    seek-simulated (binary Write q v e₁ e₂) c k (r, S₁, z, S₂) K κ n m s fuel R next =
+        first-sought r (λ y. refl) e₁ (seek-simulated e₁ k (k + 1) S₁) K (writeFirst e₂) (λ w. seek σ e₂ (stepFrame q (writeSecond w) ∷ K) (λ u. at σ (writeWord q w u) K))
+        (3 * size e₂ + 2) m s (omega (arith, fuel)) R (sym (r .index), v, row-of r, by-position r (λ c k. Stands p (secondPart + k) (second p k) e₂) S₂)
+        (other-sought q e₂ k K (λ d j. seek-simulated e₂ d j))
 
--- the turns that a value may take: one an open call that ends with it, and those at the frame behind
-abbrev pub cost : List Frame → ℕ
-cost [] = 1
-cost (letFrame q x e ∷ K) = 1
-cost (spawnFrame q e ∷ K) = 1
-cost (writeFirst q e ∷ K) = 3 * size e + 2
-cost (writeSecond q v ∷ K) = 1
-cost (unaryFrame q o ∷ K) = 1
-cost (againFrame q e ∷ K) = 1
-cost (markFrame σ ∷ K) = suc (cost K)
+  -- ---------------------------------------------------------------- a value is handed back
 
-module _ (p : List ℕ) (t : ℕ) (small : t < 16) where
-  pub return-simulated : (K : List Frame) (σ : Env) (row : ℕ) (s₀ : List ℕ) (c : ℕ) → Follows p t small σ row s₀ c K (cost K) (λ v. return σ v K)
-  return-simulated [] σ row s₀ c = λ v b m s le R.
-      subst (λ (j : ℕ). Finds p t small σ row s₀ (done v) (go p row m s (returning row j (codeValue v)))) (sym (R .frames .1))
-      (takes-advance p t small σ row s₀ (done v) m s (returning row finish (codeValue v)) (doneWith row (codeValue v), s) le (to-end p row (m - 1) (codeValue v) s)
+  pub return-simulated : (K : List Frame) (σ : Env) (row : ℕ) (c : ℕ) → Follows σ row c K (cost K) (λ v. return σ v K)
+  return-simulated [] σ row c = λ v b m s le R.
+      subst (λ (j : ℕ). Finds (done v) (go p row m s (returning row j (codeValue v)))) (sym (R .frames .1))
+      (takes-turn (done v) m s (returning row finish (codeValue v)) le (to-end p row (m - 1) (codeValue v) s)
       (ap (λ (i : ℕ). doneWith i (codeValue v)) (R .frames .0), R .same))
-  return-simulated (letFrame q x e ∷ K) σ row s₀ c = let-lands p t small σ row s₀ q x e c K
-  return-simulated (spawnFrame q e ∷ K) σ row s₀ c = spawn-lands p t small σ row s₀ q e c K
-  return-simulated (writeFirst q e ∷ K) σ row s₀ c = other-sought p t small σ row s₀ q e c K (λ d j. seek-simulated p t small σ row s₀ e d j)
-  return-simulated (writeSecond q w ∷ K) σ row s₀ c = write-lands p t small σ row s₀ q w c K
-  return-simulated (unaryFrame q o ∷ K) σ row s₀ c = unary-lands p t small σ row s₀ q o c K
-  return-simulated (againFrame q e ∷ K) σ row s₀ c = again-lands p t small σ row s₀ q e c K
-  return-simulated (markFrame σ′ ∷ K) σ row s₀ c = λ v b m s le R.
+  return-simulated (stepFrame q (letPart x e) ∷ K) σ row c = let-lands σ row q x e c K
+  return-simulated (stepFrame q (spawnPart e) ∷ K) σ row c = spawn-lands σ row q e c K
+  return-simulated (stepFrame q (writeFirst e) ∷ K) σ row c = other-sought σ row q e c K (λ d j. seek-simulated σ row e d j)
+  return-simulated (stepFrame q (writeSecond w) ∷ K) σ row c = write-lands σ row q w c K
+  return-simulated (stepFrame q (unaryPart o) ∷ K) σ row c = unary-lands σ row q o c K
+  return-simulated (stepFrame q (againPart e) ∷ K) σ row c = again-lands σ row q e c K
+  return-simulated (markFrame σ′ ∷ K) σ row c = λ v b m s le R.
       let ((l, is, low, values), F) = R .frames in
-      subst (λ (j : ℕ). Finds p t small σ row s₀ (return σ′ v K) (go p row m s (returning row j (codeValue v)))) (sym is)
-      (takes-advance p t small σ row s₀ (return σ′ v K) m s (returning row leave (codeValue v)) (go p row (m - 1) s (returning (row - 1) (continuation p (calledFrom s row)) (codeValue v))) (omega (arith, le))
-      (to-caller p row (m - 1) (codeValue v) s)
-      (return-simulated K σ′ (row - 1) s₀ (continuation p (calledFrom s row)) v (calledFrom s row) (m - 1) s (omega (arith, le))
-      (record { same = R .same; long = R .long; inside = (omega (arith, l), omega (arith, R .inside .1)); values = values; frames = F })))
+      subst (λ (j : ℕ). Finds (return σ′ v K) (go p row m s (returning row j (codeValue v)))) (sym is)
+      (takes-turn (return σ′ v K) m s (returning row leave (codeValue v)) (omega (arith, le)) (to-caller p row (m - 1) (codeValue v) s)
+      (return-simulated K σ′ (row - 1) (continuation p (calledFrom s row)) v (calledFrom s row) (m - 1) s (omega (arith, le))
+      (record { low = R .low; same = R .same; long = R .long; inside = (omega (arith, l), omega (arith, R .inside .1)); values = values; frames = F })))
 
-  pub enter-simulated : (σ : Env) (row : ℕ) (s₀ : List ℕ) (e : Expr) (c k : ℕ) → Stands p c k e → (K : List Frame) (m : ℕ) (s : List ℕ) → cost K + 3 * size e ≤ m →
-      Ready p t small σ row s₀ s k c K → Finds p t small σ row s₀ (enter σ e K) (go p row m s (entering row k))
-  enter-simulated σ row s₀ e c k S K m s fuel R = seek-simulated p t small σ row s₀ e c k S K (λ v. return σ v K) (cost K) m s fuel R (return-simulated K σ row s₀ c)
+-- ------------------------------------------------------------------ turns enough
 
-  -- ---------------------------------------------------------------- turns enough
-
+module _ (p : List ℕ) (t : ℕ) where
   pub stands-size : (e : Expr) (c k : ℕ) → Stands p c k e → k + size e ≤ 256
   unfolding size
   stands-size (leaf w q v) c k r = omega (arith, r .below)
@@ -355,31 +354,30 @@ module _ (p : List ℕ) (t : ℕ) (small : t < 16) where
 
   cost-small : (s : List ℕ) (K : List Frame) (row b c : ℕ) → 66 * t ≤ row → Frames p s t row b c K → cost K + 66 * t ≤ 770 + row
   cost-small s [] row b c lo F = omega (arith, lo)
-  cost-small s (letFrame q x e ∷ K) row b c lo F = omega (arith, lo)
-  cost-small s (spawnFrame q e ∷ K) row b c lo F = omega (arith, lo)
-  cost-small s (writeFirst q e ∷ K) row b c lo ((l, is, n, r, S), F) = let h = stands-size e (secondPart + q .index) (second p (q .index)) S in omega (arith, lo)
-  cost-small s (writeSecond q v ∷ K) row b c lo F = omega (arith, lo)
-  cost-small s (unaryFrame q o ∷ K) row b c lo F = omega (arith, lo)
-  cost-small s (againFrame q e ∷ K) row b c lo F = omega (arith, lo)
+  cost-small s (stepFrame q (letPart x e) ∷ K) row b c lo F = omega (arith, lo)
+  cost-small s (stepFrame q (spawnPart e) ∷ K) row b c lo F = omega (arith, lo)
+  cost-small s (stepFrame q (writeFirst e) ∷ K) row b c lo ((l, (is, n, r, S)), F) = let h = stands-size e (secondPart + q .index) (second p (q .index)) S in omega (arith, lo)
+  cost-small s (stepFrame q (writeSecond v) ∷ K) row b c lo F = omega (arith, lo)
+  cost-small s (stepFrame q (unaryPart o) ∷ K) row b c lo F = omega (arith, lo)
+  cost-small s (stepFrame q (againPart e) ∷ K) row b c lo F = omega (arith, lo)
   cost-small s (markFrame σ ∷ K) row b c lo ((l, is, low, values), F) =
       let h = cost-small s K (row - 1) (calledFrom s row) (continuation p (calledFrom s row)) (omega (arith, l)) F in omega (arith, l)
 
-  pub enters-word : (σ : Env) (row : ℕ) (s₀ : List ℕ) (e : Expr) (c k : ℕ) (K : List Frame) (s : List ℕ) → Stands p c k e → Ready p t small σ row s₀ s k c K →
-      Finds p t small σ row s₀ (enter σ e K) (go p row 2048 s (entering row k))
-  enters-word σ row s₀ e c k K s S R =
-      let h = stands-size e c k S in
-      let l = cost-small s K row k c (R .inside .0) (R .frames) in
-      enter-simulated σ row s₀ e c k S K 2048 s (omega (arith, R .inside .1)) R
+module _ {p : List ℕ} {t : ℕ} {s : List ℕ} {σ : Env} {row : ℕ} {K : List Frame} where
+  pub enters-word : {c k : ℕ} → Ready p t s σ row s k c K → (e : Expr) → Stands p c k e → Finds p t s (enter σ e K) (go p row 2048 s (entering row k))
+  enters-word {c} {k} R e S =
+      let h = stands-size p t e c k S in
+      let l = cost-small p t s K row k c (R .inside .0) (R .frames) in
+      seek-simulated p t s σ row e c k S K (λ v. return σ v K) (cost K) 2048 s (omega (arith, R .inside .1)) R (return-simulated p t s K σ row c)
 
-  pub returns-word : (σ : Env) (row : ℕ) (s₀ : List ℕ) (v : Value) (b c : ℕ) (K : List Frame) (s : List ℕ) → Ready p t small σ row s₀ s b c K →
-      Finds p t small σ row s₀ (return σ v K) (go p row 2048 s (returning row c (codeValue v)))
-  returns-word σ row s₀ v b c K s R =
-      return-simulated K σ row s₀ c v b 2048 s (let l = cost-small s K row b c (R .inside .0) (R .frames) in omega (arith, R .inside .1)) R
+  pub returns-word : {b c : ℕ} → Ready p t s σ row s b c K → (v : Value) → Finds p t s (return σ v K) (go p row 2048 s (returning row c (codeValue v)))
+  returns-word {b} {c} R v =
+      return-simulated p t s K σ row c v b 2048 s (let l = cost-small p t s K row b c (R .inside .0) (R .frames) in omega (arith, R .inside .1)) R
 
   -- the part of a `while` runs
-  pub runs-part : (σ : Env) (row : ℕ) (s₀ : List ℕ) (q : Position) {v : ℕ} (e : Expr) (K : List Frame) (s : List ℕ) → RowOf p q (Unary While) v → Stands p (q .index) (q .index + 1) e →
-      Ready p t small σ row s₀ s (q .index) (continuation p (q .index)) K → Finds p t small σ row s₀ (runPart σ q e K) (go p row 2048 s (entering row (q .index + 1)))
-  runs-part σ row s₀ q {v} e K s r S R =
-      let h = stands-size e (q .index) (q .index + 1) S in
-      seek-simulated p t small σ row s₀ e (q .index) (q .index + 1) S (againFrame q e ∷ K) (λ u. at σ (againWord q u e) K) 1 2048 s (omega arith)
-      (record { same = R .same; long = R .long; inside = R .inside; values = R .values; frames = ((omega arith, refl, v, r, S), R .frames) }) (again-lands p t small σ row s₀ q e (q .index) K)
+  pub runs-part : {q : Position} {v : ℕ} → Ready p t s σ row s (q .index) (continuation p (q .index)) K → (e : Expr) → RowOf p q (Unary While) v →
+      Stands p (q .index) (q .index + 1) e → Finds p t s (runPart σ q e K) (go p row 2048 s (entering row (q .index + 1)))
+  runs-part {q} {v} R e r S =
+      let h = stands-size p t e (q .index) (q .index + 1) S in
+      seek-simulated p t s σ row e (q .index) (q .index + 1) S (stepFrame q (againPart e) ∷ K) (λ u. at σ (againWord q u e) K) 1 2048 s (omega arith)
+      (framed p t s σ row R ((omega arith, (refl, v, r, S)), R .frames)) (again-lands p t s σ row q e (q .index) K)

@@ -24,7 +24,7 @@ use Rattle.replay_control.specs.declared.ControlPoint.{ControlPoint}
 use Rattle.replay_control.specs.Control.{variable, kept, calledFrom, continuation, second, firstOf, stoppedAt, readyAt, unrolledAt, doneWith}
 use Rattle.replay_machine.specs.Environment.{Env}
 use Rattle.replay_machine.specs.Control as machine
-use Rattle.replay_machine.specs.Control.{Frame, letFrame, spawnFrame, writeFirst, writeSecond, unaryFrame, againFrame, markFrame, Control, done, at}
+use Rattle.replay_machine.specs.Control.{FrameForm, letPart, spawnPart, writeFirst, writeSecond, unaryPart, againPart, Frame, stepFrame, markFrame, Control, done, at}
 
 -- ------------------------------------------------------------------ numbers
 
@@ -145,35 +145,29 @@ module _ (p : List ℕ) where
     abbrev pub Values : (r : ℕ) → Env → Type 0
     Values r σ = (x : ℕ) → x < 256 → variable s r x ≡ codeValue (σ x)
 
+    -- in row r: the step at q waits for a part that has continuation c
+    abbrev pub PartAt : (r c : ℕ) → Position → FrameForm → Type 0
+    PartAt r c q (letPart x e) = (c ≡ q .index) × RowOf q (Binary Let) x × Stands (continuation p (q .index)) (second p (q .index)) e
+    PartAt r c q (spawnPart e) = (c ≡ q .index) × (v : ℕ) × RowOf q (Binary Spawn) v × Stands finish (second p (q .index)) e
+    PartAt r c q (writeFirst e) = (c ≡ q .index) × (v : ℕ) × RowOf q (Binary Write) v × Stands (secondPart + q .index) (second p (q .index)) e
+    PartAt r c q (writeSecond v) = (c ≡ secondPart + q .index) × (n : ℕ) × RowOf q (Binary Write) n × (kept s r (q .index) ≡ codeValue v)
+    PartAt r c q (unaryPart o) = (c ≡ q .index) × (v : ℕ) × RowOf q (Unary (partWord o)) v × PartNumber o v
+    PartAt r c q (againPart e) = (c ≡ q .index) × (v : ℕ) × RowOf q (Unary unaryWord.While) v × Stands (q .index) (q .index + 1) e
+
     -- a frame of thread t whose part has continuation c; its step is below b. The body of an open call has its row, and the caller's
     -- variables stand in the row before.
     abbrev pub FrameAt : (t r b c : ℕ) → Frame → Type 0
-    FrameAt t r b c (letFrame q x e) = (q .index < b) × (c ≡ q .index) × RowOf q (Binary Let) x × Stands (continuation p (q .index)) (second p (q .index)) e
-    FrameAt t r b c (spawnFrame q e) = (q .index < b) × (c ≡ q .index) × (v : ℕ) × RowOf q (Binary Spawn) v × Stands finish (second p (q .index)) e
-    FrameAt t r b c (writeFirst q e) = (q .index < b) × (c ≡ q .index) × (v : ℕ) × RowOf q (Binary Write) v × Stands (secondPart + q .index) (second p (q .index)) e
-    FrameAt t r b c (writeSecond q v) = (q .index < b) × (c ≡ secondPart + q .index) × (n : ℕ) × RowOf q (Binary Write) n × (kept s r (q .index) ≡ codeValue v)
-    FrameAt t r b c (unaryFrame q o) = (q .index < b) × (c ≡ q .index) × (v : ℕ) × RowOf q (Unary (partWord o)) v × PartNumber o v
-    FrameAt t r b c (againFrame q e) = (q .index < b) × (c ≡ q .index) × (v : ℕ) × RowOf q (Unary unaryWord.While) v × Stands (q .index) (q .index + 1) e
+    FrameAt t r b c (stepFrame q f) = (q .index < b) × PartAt r c q f
     FrameAt t r b c (markFrame σ) = (66 * t < r) × (c ≡ leave) × (calledFrom s r < 256) × Values (r - 1) σ
 
     -- the step of a frame in row r; of an open call, that of the call
     abbrev pub stepOf : (r : ℕ) → Frame → ℕ
-    stepOf r (letFrame q x e) = q .index
-    stepOf r (spawnFrame q e) = q .index
-    stepOf r (writeFirst q e) = q .index
-    stepOf r (writeSecond q v) = q .index
-    stepOf r (unaryFrame q o) = q .index
-    stepOf r (againFrame q e) = q .index
+    stepOf r (stepFrame q f) = q .index
     stepOf r (markFrame σ) = calledFrom s r
 
     -- the row of the frames behind a frame
     abbrev pub rowBehind : (r : ℕ) → Frame → ℕ
-    rowBehind r (letFrame q x e) = r
-    rowBehind r (spawnFrame q e) = r
-    rowBehind r (writeFirst q e) = r
-    rowBehind r (writeSecond q v) = r
-    rowBehind r (unaryFrame q o) = r
-    rowBehind r (againFrame q e) = r
+    rowBehind r (stepFrame q f) = r
     rowBehind r (markFrame σ) = r - 1
 
     -- the frames of thread t around what has continuation c, in row r; in a row each is outside the one before

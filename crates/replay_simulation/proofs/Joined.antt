@@ -25,6 +25,7 @@ use Rattle.calculus.specs.Expression.{name, join}
 use Rattle.calculus.specs.Reduction.{_>>=_}
 use Rattle.calculus.proofs.Laws.Maps.{none-is-not-some}
 use Rattle.calculus.proofs.Laws.Places.{set-elsewhere, sets-swap}
+use Rattle.replay_control.specs.declared.ControlPoint.{ControlPoint}
 use Rattle.replay_control.specs.Control.{continuation, returning, readyAt}
 use Rattle.replay_step.specs.Words.{given}
 use Rattle.replay_engine.specs.declared.Outcome.the-variants.{Stuck}
@@ -36,12 +37,11 @@ use Rattle.replay_machine.specs.State.{MachineThread, Machine, running}
 use Rattle.replay_machine.specs.Step.{isDone, joinable, firstOr, lowest, zeroValue, asJoined, markJoined, gives}
 use Rattle.replay_machine.specs.Replay.{Replay, statusOf, within}
 use Rattle.replay_machine.proofs.Joining.{JoinableAt, lowest-found, joiner-is-another}
-use Rattle.replay_simulation.proofs.Held.{Values, Frames}
-use Rattle.replay_simulation.proofs.Advancing.{same-all, RowIn}
 use Rattle.replay_simulation.proofs.Finding.{returns-word}
 use Rattle.replay_simulation.proofs.Holds.{recordOf, ThreadHeld, Sized, Holds}
 use Rattle.replay_simulation.proofs.Proceeding.{place-below, set-here, Paused}
 use Rattle.replay_simulation.proofs.Moving.{Answered, moves}
+use Rattle.replay_simulation.proofs.AtWord.{AtWord, withThreads, ready}
 
 -- ------------------------------------------------------------------ the lowest finished thread
 
@@ -104,7 +104,7 @@ lowest-alike n (r ∷ rs) (th ∷ ts) i A =
 
 -- ------------------------------------------------------------------ a thread is joined
 
-module _ (T : Threads) (ts : List MachineThread) (j : ℕ) (u : MachineThread) (sized : Sized T ts) (there : getElem? ts j ≡ some u) (told : getD (T .records) j noRecord ≡ recordOf u) where
+module _ {T : Threads} {ts : List MachineThread} (sized : Sized T ts) (j : ℕ) (u : MachineThread) (there : getElem? ts j ≡ some u) (told : getD (T .records) j noRecord ≡ recordOf u) where
   j-low : j < 16
   j-low = let l = place-below ts j u there in let f = sized .fits in omega arith
 
@@ -132,71 +132,80 @@ module _ (T : Threads) (ts : List MachineThread) (j : ℕ) (u : MachineThread) (
 
 -- ------------------------------------------------------------------ the machine's word
 
-module _ (p s : List ℕ) (T : Threads) (R : Replay) (t tid : ℕ) (σ : Env) (K : List Frame) (H : Holds p s T R) (low : t < 16) (row : ℕ) (inside : RowIn t row) (values : Values p s row σ)
-    (q : Position) (n : ℕ) (F : Frames p s t row (q .index) (continuation p (q .index)) K) (there : getElem? (R .machine .threads) t ≡ some (running tid (at σ (unaryWord q join (name n)) K))) where
+records-alike : {p s : List ℕ} {T : Threads} {R : Replay} → Holds p s T R → Alike (T .records) (R .machine .threads)
+records-alike H = record {
+  same = λ m th h. H .threads m th h .recorded;
+  behind = λ m l h. H .sized .behind m l (let e = H .sized .records in omega (arith, h, e));
+  fits = let e = H .sized .records in let f = H .sized .fits in omega arith;
+}
+
+module _ {p s : List ℕ} {T : Threads} {R : Replay} {t row tid : ℕ} {σ : Env} {q : Position} {n : ℕ} {K : List Frame} (A : AtWord p s T R t row tid σ (unaryWord q join (name n)) K) where
   abbrev M : Machine
   M = R .machine
 
-  records-alike : Alike (T .records) (M .threads)
-  records-alike = record {
-    same = λ m th h. H .threads m th h .recorded;
-    behind = λ m l h. H .sized .behind m l (let e = H .sized .records in omega (arith, h, e));
-    fits = let e = H .sized .records in let f = H .sized .fits in omega arith;
-  }
+  abbrev word : ControlPoint
+  word = readyAt row (q .index) (suc n)
 
   abbrev Joins : Option ℕ → Option Machine
   Joins o = o >>= λ j. getElem? (M .threads) j >>= λ u. some (markJoined j u (gives M t tid σ K (M .names) zeroValue))
 
-  joins-one : (j : ℕ) (L : JoinableAt n (M .threads) j) →
-      Answered p (checkLimits within (some (record { machine = markJoined j (L .thread) (gives M t tid σ K (M .names) zeroValue); things = R .things }))) (givesZero p t (readyAt row (q .index) (suc n)) (joined T j, s))
-  unfolding givesZero given afterAct actStep
-  joins-one j L =
-      subst (λ (ts : List MachineThread). Answered p (checkLimits within (some (record { machine = record { procedures = M .procedures; threads = ts; names = M .names; next = M .next }; things = R .things }))) (givesZero p t (readyAt row (q .index) (suc n)) (joined T j, s)))
-      (sym (sets-swap (M .threads) t j (running tid (return σ zeroValue K)) (asJoined u) apart))
-      (moves p s (joined T j) (set (M .threads) j (asJoined u)) t tid (readyAt row (q .index) (suc n)) paused (M .procedures) (H .bodies) (M .names) (M .next) (R .things) (H .names) (returning row (continuation p (q .index)) 0) (return σ zeroValue K)
-      (returns-word p t low σ row s zeroValue (q .index) (continuation p (q .index)) K s
-      (record { same = same-all t s; long = H .long; inside = inside; values = values; frames = F })))
-    where
-      u : MachineThread
-      u = L .thread
+  module _ (j : ℕ) (L : JoinableAt n (M .threads) j) where
+    abbrev u : MachineThread
+    u = L .thread
 
-      apart : t ≢ j
-      apart = joiner-is-another n (M .threads) t j (running tid (at σ (unaryWord q join (name n)) K)) there refl L
+    held : ThreadHeld p s T j u
+    held = A .holds .threads j u (L .there)
 
-      paused : Paused p s (joined T j) (set (M .threads) j (asJoined u)) t tid
-      paused = record {
-        long = H .long;
-        sized = joined-sized T (M .threads) j u (H .sized) (L .there) (H .threads j u (L .there) .recorded);
-        there = let a = place-below (M .threads) t (running tid (at σ (unaryWord q join (name n)) K)) there in let b = length-set (M .threads) j (asJoined u) in omega arith;
-        was = joined-there T (M .threads) j u (H .sized) (L .there) (H .threads j u (L .there) .recorded) t apart ∙ H .threads t (running tid (at σ (unaryWord q join (name n)) K)) there .recorded;
-        others = λ i th m h. other i th m h (ℕ-discrete i j);
-      }
-        where
-          other : (i : ℕ) (th : MachineThread) → i ≢ t → getElem? (set (M .threads) j (asJoined u)) i ≡ some th → Dec (i ≡ j) → ThreadHeld p s (joined T j) i th
-          other i th m h (yes e) =
-              let is = set-here (M .threads) j (asJoined u) th (ap (getElem? (set (M .threads) j (asJoined u))) (sym e) ∙ h) in
-              subst (λ (k : ℕ). ThreadHeld p s (joined T j) k th) (sym e)
-              (subst (ThreadHeld p s (joined T j) j) is (record {
-                recorded = joined-here T (M .threads) j u (H .sized) (L .there) (H .threads j u (L .there) .recorded);
-                control = H .threads j u (L .there) .control;
-                settled = λ z. ap isDone (L .can .finished);
-                calls = H .threads j u (L .there) .calls;
-              }))
-          other i th m h (no f) =
-              let held = H .threads i th (sym (set-elsewhere (M .threads) j i (asJoined u) (λ e. f (sym e))) ∙ h) in
-              record { recorded = joined-there T (M .threads) j u (H .sized) (L .there) (H .threads j u (L .there) .recorded) i f ∙ held .recorded; control = held .control; settled = held .settled; calls = held .calls }
+    apart : t ≢ j
+    apart = joiner-is-another n (M .threads) t j (running tid (at σ (unaryWord q join (name n)) K)) (A .there) refl L
+
+    abbrev Marked : Replay
+    Marked = record { machine = markJoined j u M; things = R .things }
+
+    -- what the numbers hold of a thread once thread j is joined
+    held-after : (i : ℕ) (th : MachineThread) → getElem? (set (M .threads) j (asJoined u)) i ≡ some th → Dec (i ≡ j) → ThreadHeld p s (joined T j) i th
+    held-after i th h (yes e) =
+        let is = set-here (M .threads) j (asJoined u) th (ap (getElem? (set (M .threads) j (asJoined u))) (sym e) ∙ h) in
+        subst (λ (k : ℕ). ThreadHeld p s (joined T j) k th) (sym e)
+        (subst (ThreadHeld p s (joined T j) j) is (record {
+          recorded = joined-here (A .holds .sized) j u (L .there) (held .recorded);
+          control = held .control;
+          settled = λ z. ap isDone (L .can .finished);
+          calls = held .calls;
+        }))
+    held-after i th h (no f) =
+        let other = A .holds .threads i th (sym (set-elsewhere (M .threads) j i (asJoined u) (λ e. f (sym e))) ∙ h) in
+        record { recorded = joined-there (A .holds .sized) j u (L .there) (held .recorded) i f ∙ other .recorded; control = other .control; settled = other .settled; calls = other .calls }
+
+    paused : Paused p s (joined T j) Marked t tid
+    paused = record {
+      long = A .holds .long;
+      bodies = A .holds .bodies;
+      names = A .holds .names;
+      sized = joined-sized (A .holds .sized) j u (L .there) (held .recorded);
+      there = let a = place-below (M .threads) t (running tid (at σ (unaryWord q join (name n)) K)) (A .there) in let b = length-set (M .threads) j (asJoined u) in omega arith;
+      was = joined-there (A .holds .sized) j u (L .there) (held .recorded) t apart ∙ A .holds .threads t (running tid (at σ (unaryWord q join (name n)) K)) (A .there) .recorded;
+      others = λ i th m h. held-after i th h (ℕ-discrete i j);
+    }
+
+    joins-one : Answered p (checkLimits within (some (record { machine = markJoined j u (gives M t tid σ K (M .names) zeroValue); things = R .things }))) (givesZero p t word (joined T j, s))
+    unfolding givesZero given afterAct actStep
+    joins-one =
+        subst (λ (ts : List MachineThread). Answered p (checkLimits within (some (withThreads R ts))) (givesZero p t word (joined T j, s)))
+        (sym (sets-swap (M .threads) t j (running tid (return σ zeroValue K)) (asJoined u) apart))
+        (moves paused word (returning row (continuation p (q .index)) 0) (return σ zeroValue K) (returns-word (ready A (q .index) (omega arith)) zeroValue))
 
   stuck : Answered p (checkLimits within none) (ending Stuck T, s)
   unfolding checkLimits
   stuck = refl
 
-  pub joining-goes : Answered p (checkLimits within (Joins (lowest n (M .threads)) >>= λ N. some (record { machine = N; things = R .things }))) (joinedStep p s T t (readyAt row (q .index) (suc n)) (suc n))
+  pub joining-goes : Answered p (checkLimits within (Joins (lowest n (M .threads)) >>= λ N. some (record { machine = N; things = R .things }))) (joinedStep p s T t word (suc n))
   unfolding joinedStep joinedBy lowestOf
   joining-goes = by-found (lowest n (M .threads)) refl
     where
-      by-found : (o : Option ℕ) → lowest n (M .threads) ≡ o → Answered p (checkLimits within (Joins o >>= λ N. some (record { machine = N; things = R .things }))) (joinedStep p s T t (readyAt row (q .index) (suc n)) (suc n))
-      by-found none e = rw (lowest-alike n (T .records) (M .threads) 0 records-alike, e) stuck
+      by-found : (o : Option ℕ) → lowest n (M .threads) ≡ o → Answered p (checkLimits within (Joins o >>= λ N. some (record { machine = N; things = R .things }))) (joinedStep p s T t word (suc n))
+      by-found none e = rw (lowest-alike n (T .records) (M .threads) 0 (records-alike (A .holds)), e) stuck
       by-found (some j) e =
           let L = lowest-found n (M .threads) j e in
           let z : 0 + j ≡ j = omega arith in
-          rw (lowest-alike n (T .records) (M .threads) 0 records-alike, e, L .there, z) (joins-one j L)
+          rw (lowest-alike n (T .records) (M .threads) 0 (records-alike (A .holds)), e, L .there, z) (joins-one j L)

@@ -4,9 +4,10 @@ pub mod Finding
 pub mod Agreeing
 pub mod Holds
 pub mod Proceeding
-pub mod Using
 pub mod Naming
+pub mod Using
 pub mod Moving
+pub mod AtWord
 pub mod Alone
 pub mod Sharing
 pub mod Making

@@ -149,9 +149,15 @@ region-cons {p} {b} {x} {xs} e l r = record { fits = omega (arith, r .fits); at 
     at zero h = ap (λ (j : ℕ). getD p j 0) (omega arith) ∙ e
     at (suc i) h = ap (λ (j : ℕ). getD p j 0) (omega arith) ∙ r .at i (omega (arith, h))
 
--- linking an expression at k, in any columns where it stands and has its own continuation
+-- an expression at k that stands in the columns and has its own continuation
+pub record Unlinked (p : List ℕ) (c k : ℕ) (e : Expr) : Type 0 where
+  pub standing : Standing p k e
+  pub long : length p ≡ programSize
+  pub fits : k + size e ≤ 256
+  pub own : continuation p k ≡ c
+
 abbrev pub Linking : (c k : ℕ) → Expr → Type 0
-Linking c k e = (p : List ℕ) → Standing p k e → length p ≡ programSize → k + size e ≤ 256 → continuation p k ≡ c → Links p (linkedFrom p k (size e)) c k e
+Linking c k e = (p : List ℕ) → Unlinked p c k e → Links p (linkedFrom p k (size e)) c k e
 
 pub some-steps : (e : Expr) → 1 ≤ size e
 unfolding size
@@ -161,27 +167,39 @@ some-steps (binary w q v e₁ e₂) = omega arith
 
 unary-links : (w : UnaryWord) (q : Position) (v : ℕ) (e : Expr) (c k : ℕ) → Linking k (k + 1) e → Linking c k (unary w q v e)
 unfolding linkedFrom continuations size continuation joined
-unary-links w q v e c k rec p S long h z =
-    subst (λ (p₁ : List ℕ). Links p (linkedFrom p₁ (k + 1) (size e)) c k (unary w q v e)) (sym (unary-linked p k w (unary-head w q v e S .code)))
+unary-links w q v e c k rec p U =
+    subst (λ (p₁ : List ℕ). Links p (linkedFrom p₁ (k + 1) (size e)) c k (unary w q v e)) (sym (unary-linked p k w (unary-head w q v e (U .standing) .code)))
     (record {
-      region = region-cons (rest .changed .kept (continuationsAt + k) (inl (omega arith)) ∙ getD-set-other p (continuationsAt + (k + 1)) (continuationsAt + k) k 0 (λ y. omega (arith, y)) ∙ z)
-          (let l = rest .changed .long in omega (arith, l, long₁, h)) (region-moved (continuationsAt + (k + 1)) (continuationsAt + k + 1) (omega arith) (rest .region));
-      changed = changed-then (continuationsAt + k + 1) (continuationsAt + k + suc (size e)) first-change (changed-wider (continuationsAt + k + 1) (continuationsAt + k + suc (size e)) (omega arith) (omega arith) (rest .changed));
+      region = region-cons (rest .changed .kept (continuationsAt + k) (inl (omega arith)) ∙ getD-set-other p a (continuationsAt + k) k 0 (λ y. omega (arith, y)) ∙ U .own)
+          (let l = rest .changed .long in omega (arith, l, long₁, U .fits)) (region-moved a (continuationsAt + k + 1) (omega arith) (rest .region));
+      changed = changed-then lo hi (changed-store lo hi p a k (omega arith) (let n = some-steps e in omega (arith, n))) (changed-wider lo hi (omega arith) (omega arith) (rest .changed));
     })
   where
-    first-change : ChangedWithin (continuationsAt + k + 1) (continuationsAt + k + suc (size e)) p (set p (continuationsAt + (k + 1)) k)
-    first-change = changed-store (continuationsAt + k + 1) (continuationsAt + k + suc (size e)) p (continuationsAt + (k + 1)) k (omega arith) (let n = some-steps e in omega (arith, n))
+    a : ℕ
+    a = continuationsAt + (k + 1)
 
-    long₁ : length (set p (continuationsAt + (k + 1)) k) ≡ programSize
-    long₁ = length-set p (continuationsAt + (k + 1)) k ∙ long
+    lo : ℕ
+    lo = continuationsAt + k + 1
 
-    rest : Links (set p (continuationsAt + (k + 1)) k) (linkedFrom (set p (continuationsAt + (k + 1)) k) (k + 1) (size e)) k (k + 1) e
-    rest = rec (set p (continuationsAt + (k + 1)) k)
-        (standing-kept e (k + 1) (changed-store continuationsAt proceduresAt p (continuationsAt + (k + 1)) k (omega arith) (let n = some-steps e in omega (arith, h, n))) (omega (arith, h)) (standing-part w q v e S))
-        long₁ (omega (arith, h)) (getD-set-same p (continuationsAt + (k + 1)) k 0 (let n = some-steps e in omega (arith, long, h, n)))
+    hi : ℕ
+    hi = continuationsAt + k + suc (size e)
 
-module _ (w : BinaryWord) (q : Position) (v : ℕ) (e₁ e₂ : Expr) (c k : ℕ) (rec₁ : Linking (afterFirst w k c) (k + 1) e₁) (rec₂ : Linking (afterSecond w k c) (k + 1 + size e₁) e₂)
-    (p : List ℕ) (S : Standing p k (binary w q v e₁ e₂)) (long : length p ≡ programSize) (h : k + suc (size e₁ + size e₂) ≤ 256) (z : getD p (continuationsAt + k) 0 ≡ c) where
+    long₁ : length (set p a k) ≡ programSize
+    long₁ = length-set p a k ∙ U .long
+
+    rest : Links (set p a k) (linkedFrom (set p a k) (k + 1) (size e)) k (k + 1) e
+    rest =
+        let n = some-steps e in
+        let l = U .fits in
+        rec (set p a k) (record {
+          standing = standing-kept e (k + 1) (changed-store continuationsAt proceduresAt p a k (omega arith) (omega arith)) (omega arith) (standing-part w q v e (U .standing));
+          long = long₁;
+          fits = omega arith;
+          own = getD-set-same p a k 0 (omega (arith, U .long));
+        })
+
+module _ {w : BinaryWord} {q : Position} {v : ℕ} {e₁ e₂ : Expr} {c k : ℕ} {p : List ℕ} (U : Unlinked p c k (binary w q v e₁ e₂))
+    (rec₁ : Linking (afterFirst w k c) (k + 1) e₁) (rec₂ : Linking (afterSecond w k c) (k + 1 + size e₁) e₂) where
   abbrev a : ℕ
   a = continuationsAt + (k + 1)
 
@@ -200,15 +218,23 @@ module _ (w : BinaryWord) (q : Position) (v : ℕ) (e₁ e₂ : Expr) (c k : ℕ
   abbrev p₃ : List ℕ
   p₃ = linkedFrom p₂ (k + 1 + size e₁) (size e₂)
 
+  h : k + suc (size e₁ + size e₂) ≤ 256
+  unfolding size
+  h = U .fits
+
+  z : getD p (continuationsAt + k) 0 ≡ c
+  unfolding continuation
+  z = U .own
+
   -- the step's own turn
   stored : linkedStep p k ≡ p₁
   unfolding continuation second joined
   stored =
-      let y : getD p (544 + 1 + k) 0 ≡ k + 1 + size e₁ = ap (λ (i : ℕ). getD p i 0) (omega arith) ∙ standing-end e₁ (standing-first w q v e₁ e₂ S) in
-      binary-linked p k w (binary-head w q v e₁ e₂ S .code) ∙ rw (z, y)
+      let y : getD p (544 + 1 + k) 0 ≡ k + 1 + size e₁ = ap (λ (i : ℕ). getD p i 0) (omega arith) ∙ standing-end e₁ (standing-first w q v e₁ e₂ (U .standing)) in
+      binary-linked p k w (binary-head w q v e₁ e₂ (U .standing) .code) ∙ rw (z, y)
 
   long₁ : length p₁ ≡ programSize
-  long₁ = length-set p₀ b (afterSecond w k c) ∙ length-set p a (afterFirst w k c) ∙ long
+  long₁ = length-set p₀ b (afterSecond w k c) ∙ length-set p a (afterFirst w k c) ∙ U .long
 
   within : (lo hi : ℕ) → lo ≤ a → b < hi → ChangedWithin lo hi p p₁
   within lo hi l m =
@@ -220,8 +246,13 @@ module _ (w : BinaryWord) (q : Position) (v : ℕ) (e₁ e₂ : Expr) (c k : ℕ
   first =
       let n = some-steps e₁ in
       let m = some-steps e₂ in
-      rec₁ p₁ (standing-kept e₁ (k + 1) (within continuationsAt proceduresAt (omega arith) (omega (arith, h, m))) (omega (arith, h)) (standing-first w q v e₁ e₂ S)) long₁ (omega (arith, h))
-      (getD-set-other p₀ b a (afterSecond w k c) 0 (λ y. omega (arith, y, n)) ∙ getD-set-same p a (afterFirst w k c) 0 (omega (arith, long, h)))
+      let l = h in
+      rec₁ p₁ (record {
+        standing = standing-kept e₁ (k + 1) (within continuationsAt proceduresAt (omega arith) (omega arith)) (omega arith) (standing-first w q v e₁ e₂ (U .standing));
+        long = long₁;
+        fits = omega arith;
+        own = getD-set-other p₀ b a (afterSecond w k c) 0 (λ y. omega (arith, y, n)) ∙ getD-set-same p a (afterFirst w k c) 0 (omega (arith, U .long));
+      })
 
   long₂ : length p₂ ≡ programSize
   long₂ = first .changed .long ∙ long₁
@@ -230,10 +261,15 @@ module _ (w : BinaryWord) (q : Position) (v : ℕ) (e₁ e₂ : Expr) (c k : ℕ
   unfolding continuation
   rest =
       let m = some-steps e₂ in
-      rec₂ p₂
-      (standing-kept e₂ (k + 1 + size e₁) (changed-then continuationsAt proceduresAt (within continuationsAt proceduresAt (omega arith) (omega (arith, h, m))) (changed-wider continuationsAt proceduresAt (omega arith) (omega (arith, h)) (first .changed))) (omega (arith, h)) (standing-second w q v e₁ e₂ S))
-      long₂ (omega (arith, h))
-      (first .changed .kept b (inr (omega arith)) ∙ getD-set-same p₀ b (afterSecond w k c) 0 (let l = length-set p a (afterFirst w k c) in omega (arith, l, long, h, m)))
+      let l = h in
+      rec₂ p₂ (record {
+        standing = standing-kept e₂ (k + 1 + size e₁)
+            (changed-then continuationsAt proceduresAt (within continuationsAt proceduresAt (omega arith) (omega arith)) (changed-wider continuationsAt proceduresAt (omega arith) (omega arith) (first .changed)))
+            (omega arith) (standing-second w q v e₁ e₂ (U .standing));
+        long = long₂;
+        fits = omega arith;
+        own = first .changed .kept b (inr (omega arith)) ∙ getD-set-same p₀ b (afterSecond w k c) 0 (let n = length-set p a (afterFirst w k c) in omega (arith, n, U .long));
+      })
 
   own : getD p₃ (continuationsAt + k) 0 ≡ c
   own =
@@ -242,6 +278,12 @@ module _ (w : BinaryWord) (q : Position) (v : ℕ) (e₁ e₂ : Expr) (c k : ℕ
       ∙ getD-set-other p₀ b (continuationsAt + k) (afterSecond w k c) 0 (λ y. omega (arith, y))
       ∙ getD-set-other p a (continuationsAt + k) (afterFirst w k c) 0 (λ y. omega (arith, y))
       ∙ z
+
+  abbrev lo : ℕ
+  lo = continuationsAt + k + 1
+
+  abbrev hi : ℕ
+  hi = continuationsAt + k + suc (size e₁ + size e₂)
 
   both-linked : Links p p₃ c k (binary w q v e₁ e₂)
   unfolding size
@@ -253,28 +295,26 @@ module _ (w : BinaryWord) (q : Position) (v : ℕ) (e₁ e₂ : Expr) (c k : ℕ
         region = subst (Region p₃ (continuationsAt + k)) (sym (continuations-binary w c k v q e₁ e₂))
             (region-cons own (omega (arith, l, long₂, h))
             (region-append (continuations (afterFirst w k c) (k + 1) e₁) (continuations (afterSecond w k c) (k + 1 + size e₁) e₂)
-            (region-moved (continuationsAt + (k + 1)) (continuationsAt + k + 1) (omega arith) (region-kept (rest .changed) (inl (omega (arith, n))) (first .region)))
-            (region-moved (continuationsAt + (k + 1 + size e₁)) (continuationsAt + k + 1 + length (continuations (afterFirst w k c) (k + 1) e₁)) (omega (arith, n)) (rest .region))));
-        changed =
-            changed-then (continuationsAt + k + 1) (continuationsAt + k + suc (size e₁ + size e₂)) (within (continuationsAt + k + 1) (continuationsAt + k + suc (size e₁ + size e₂)) (omega arith) (omega (arith, m)))
-            (changed-then (continuationsAt + k + 1) (continuationsAt + k + suc (size e₁ + size e₂))
-            (changed-wider (continuationsAt + k + 1) (continuationsAt + k + suc (size e₁ + size e₂)) (omega arith) (omega arith) (first .changed))
-            (changed-wider (continuationsAt + k + 1) (continuationsAt + k + suc (size e₁ + size e₂)) (omega arith) (omega arith) (rest .changed)));
+            (region-moved a lo (omega arith) (region-kept (rest .changed) (inl (omega (arith, n))) (first .region)))
+            (region-moved b (lo + length (continuations (afterFirst w k c) (k + 1) e₁)) (omega (arith, n)) (rest .region))));
+        changed = changed-then lo hi (within lo hi (omega arith) (omega (arith, m)))
+            (changed-then lo hi (changed-wider lo hi (omega arith) (omega arith) (first .changed)) (changed-wider lo hi (omega arith) (omega arith) (rest .changed)));
       }
 
-binary-links : (w : BinaryWord) (q : Position) (v : ℕ) (e₁ e₂ : Expr) (c k : ℕ) → Linking (afterFirst w k c) (k + 1) e₁ → Linking (afterSecond w k c) (k + 1 + size e₁) e₂ → Linking c k (binary w q v e₁ e₂)
-unfolding linkedFrom size continuation
-binary-links w q v e₁ e₂ c k rec₁ rec₂ p S long h z =
+binary-links : (w : BinaryWord) (q : Position) (v : ℕ) (e₁ e₂ : Expr) (c k : ℕ) → Linking (afterFirst w k c) (k + 1) e₁ → Linking (afterSecond w k c) (k + 1 + size e₁) e₂ →
+    Linking c k (binary w q v e₁ e₂)
+unfolding linkedFrom size
+binary-links w q v e₁ e₂ c k rec₁ rec₂ p U =
     subst (λ (p′ : List ℕ). Links p p′ c k (binary w q v e₁ e₂))
-    (sym (ap (λ (p′ : List ℕ). linkedFrom p′ (k + 1) (size e₁ + size e₂)) (stored w q v e₁ e₂ c k rec₁ rec₂ p S long h z) ∙ linked-split (p₁ w q v e₁ e₂ c k rec₁ rec₂ p S long h z) (k + 1) (size e₁) (size e₂)))
-    (both-linked w q v e₁ e₂ c k rec₁ rec₂ p S long h z)
+    (sym (ap (λ (p′ : List ℕ). linkedFrom p′ (k + 1) (size e₁ + size e₂)) (stored U rec₁ rec₂) ∙ linked-split (p₁ U rec₁ rec₂) (k + 1) (size e₁) (size e₂)))
+    (both-linked U rec₁ rec₂)
 
 leaf-links : (w : LeafWord) (q : Position) (v c k : ℕ) → Linking c k (leaf w q v)
 unfolding linkedFrom continuations size continuation
-leaf-links w q v c k p S long h e =
-    subst (λ (p′ : List ℕ). Links p p′ c k (leaf w q v)) (sym (leaf-linked p k w (leaf-head w q v S .code)))
+leaf-links w q v c k p U =
+    subst (λ (p′ : List ℕ). Links p p′ c k (leaf w q v)) (sym (leaf-linked p k w (leaf-head w q v (U .standing) .code)))
     (record {
-      region = region-cons e (omega (arith, long, h)) (record { fits = omega (arith, long, h); at = λ i l. absurd (omega (arith, l)) });
+      region = region-cons (U .own) (omega (arith, U .long, U .fits)) (record { fits = omega (arith, U .long, U .fits); at = λ i l. absurd (omega (arith, l)) });
       changed = changed-nothing (continuationsAt + k + 1) (continuationsAt + k + 1) p;
     })
 

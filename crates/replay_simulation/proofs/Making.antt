@@ -3,22 +3,22 @@ use Prim.Native.Nat.{ℕ, suc, _+_, _<_, _≤_}
 use mathlib.Core.Path.{_≡_, refl, sym, _∙_, ap, subst}
 use mathlib.Core.Logic.{_≢_}
 use mathlib.Core.Bool.{false}
-use mathlib.Core.List.{List, []}
+use mathlib.Core.List.{List}
 use mathlib.Core.Option.{some}
 use native.Mathlib.Omega.{arith}
 use native.Mathlib.Decide.{ℕ-discrete, decLt}
 use borrow.Author.Tests.{le-leb, lt-leb}
 use lib.Dec.{eqb, ltb}
-use lib.ListN.{length, getD, set, getElem?, length-set}
+use lib.ListN.{length, getD, set, length-set}
 use lib.Seq.{getD-set-same, getD-set-other}
 use Rattle.spec.specs.Choice.{if_then_else_}
 use Rattle.spec.specs.Expression.{Position}
 use Rattle.spec.specs.declared.Word.the-variants.{Leaf, Unary}
 use Rattle.spec.specs.declared.UnaryWord.the-variants.{Ref}
 use Rattle.calculus.specs.Expression as calculus
-use Rattle.calculus.specs.Expression.{name, choose, newtid, newlock, newsem, newrwlock}
+use Rattle.calculus.specs.Expression.{Value, name, choose, newtid, newlock, newsem, newrwlock}
 use Rattle.calculus.specs.State as state
-use Rattle.calculus.specs.State.{update}
+use Rattle.calculus.specs.State.{cell, update}
 use Rattle.calculus.specs.Reduction.{made}
 use Rattle.calculus.proofs.Laws.Maps.{update-other}
 use Rattle.workspace.specs.Layout.{ruleOf, printed}
@@ -39,17 +39,16 @@ use Rattle.replay_theory.specs.Replay.{checkLimits}
 use Rattle.replay_theory.proofs.Proper.{name-more}
 use Rattle.replay_machine.specs.Environment.{Env}
 use Rattle.replay_machine.specs.Control as machine
-use Rattle.replay_machine.specs.Control.{Frame, at, return}
+use Rattle.replay_machine.specs.Control.{Frame, return}
 use Rattle.replay_machine.specs.State.{Machine, running}
 use Rattle.replay_machine.specs.Step.{creates}
 use Rattle.replay_machine.specs.Replay.{Replay, within}
-use Rattle.replay_simulation.proofs.Held.{noPartWord, NoPartNumber, RowOf, Values, Frames}
-use Rattle.replay_simulation.proofs.Advancing.{same-all, RowIn}
-use Rattle.replay_simulation.proofs.Finding.{frames-same, returns-word}
-use Rattle.replay_simulation.proofs.Agreeing.{Agree, rows-same, agree-then, agree-shared}
-use Rattle.replay_simulation.proofs.Holds.{SlotIs, kindCode, kind-low, NamesHeld, Holds}
+use Rattle.replay_simulation.proofs.Held.{codeValue, noPartWord, NoPartNumber, RowOf, placeOf}
+use Rattle.replay_simulation.proofs.Agreeing.{Agree, agree-then, agree-shared}
+use Rattle.replay_simulation.proofs.Holds.{SlotIs, kindCode, kind-low, NamesHeld}
 use Rattle.replay_simulation.proofs.Naming.{slot-put-length, put-elsewhere, slot-here, slot-there, slot-agree}
-use Rattle.replay_simulation.proofs.Moving.{Answered, moves, pausing}
+use Rattle.replay_simulation.proofs.Moving.{Answered}
+use Rattle.replay_simulation.proofs.AtWord.{AtWord, becomes}
 
 -- ------------------------------------------------------------------ counts
 
@@ -99,8 +98,13 @@ slot-set s j y v h = λ z. if ltb v 322 then slot
     (getD-set-other s j (thingFirstsAt + v) y 0 (λ e. omega (arith, e, h)) z)
     (getD-set-other s j (thingSecondsAt + v) y 0 (λ e. omega (arith, e, h)) z) else slot 0 0 0
 
+-- the numbers x are those of a new thing of kind k
+pub record NewOf (k : ObjectKind) (x : Slot) (new : state.Slot) : Type 0 where
+  pub is-kind : x .kind ≡ kindCode k
+  pub is : SlotIs x new
+
 module _ {s : List ℕ} {names : ℕ → state.Slot} {next : ℕ} {things : ObjectKind → ℕ} (N : NamesHeld s names next things) (long : length s ≡ spaceSize)
-    (k : ObjectKind) (x : Slot) (new : state.Slot) (is-kind : x .kind ≡ kindCode k) (is : SlotIs x new) (room : things k < 64) where
+    {k : ObjectKind} {x : Slot} {new : state.Slot} (O : NewOf k x new) (room : things k < 64) where
   abbrev s₁ : List ℕ
   s₁ = slotPut s (suc next) x
 
@@ -153,7 +157,7 @@ module _ {s : List ℕ} {names : ℕ → state.Slot} {next : ℕ} {things : Obje
   }
     where
       by-name : (m : ℕ) → suc m < 322 → (d : Dec (m ≡ next)) → SlotIs (slotAt s₃ (suc m)) (choose d new (names m))
-      by-name m h (yes e) = subst (λ (y : Slot). SlotIs y new) (sym (slot-after (suc m) ∙ ap (λ (j : ℕ). slotAt s₁ (suc j)) e ∙ slot-here s (suc next) x next-low long)) is
+      by-name m h (yes e) = subst (λ (y : Slot). SlotIs y new) (sym (slot-after (suc m) ∙ ap (λ (j : ℕ). slotAt s₁ (suc j)) e ∙ slot-here s (suc next) x next-low long)) (O .is)
       by-name m h (no f) = subst (λ (y : Slot). SlotIs y (names m)) (sym (slot-after (suc m) ∙ slot-there s (suc next) x next-low (suc m) (λ e. f (omega (arith, e))))) (N .slots m h)
 
       by-kind : (l : ObjectKind) → (d : Dec (makes k ≡ makes l)) → getD s₃ (thingCountsAt + kindCode l) 0 ≡ choose d (suc (things l)) (things l)
@@ -177,64 +181,57 @@ module _ {s : List ℕ} {names : ℕ → state.Slot} {next : ℕ} {things : Obje
   -- the space that the code leaves
   pub thing-added : withThing s x ≡ s₃
   unfolding withThing
-  thing-added = rw (is-kind, N .counted k, N .nextStored)
+  thing-added = rw (O .is-kind, N .counted k, N .nextStored)
 
 -- ------------------------------------------------------------------ the machine's word
 
-module _ (p s : List ℕ) (T : Threads) (R : Replay) (t tid : ℕ) (σ : Env) (K : List Frame) (H : Holds p s T R) (low : t < 16) (row : ℕ) (inside : RowIn t row) (values : Values p s row σ)
-    (w : machine.Word) (f : ControlPoint) (j : ℕ) (j-low : j < 256) (F : Frames p s t row j (continuation p j) K) (there : getElem? (R .machine .threads) t ≡ some (running tid (at σ w K)))
-    (k : ObjectKind) (x : Slot) (new : state.Slot) (is-kind : x .kind ≡ kindCode k) (is : SlotIs x new) where
+module _ {p s : List ℕ} {T : Threads} {R : Replay} {t row tid : ℕ} {σ : Env} {w : machine.Word} {K : List Frame} (A : AtWord p s T R t row tid σ w K) (below : placeOf p s w < 256)
+    {k : ObjectKind} {x : Slot} {new : state.Slot} (O : NewOf k x new) (f : ControlPoint) where
   abbrev M : Machine
   M = R .machine
 
   abbrev Created : Replay
   Created = record { machine = creates M t tid σ K new; things = thingsAfter (makes k) (R .things) }
 
+  abbrev Makes : Act × List ℕ → Type 0
+  Makes a = Answered p (checkLimits within (some Created)) (afterAct p T t f a)
+
   counted-here : getD s (thingCountsAt + x .kind) 0 ≡ R .things k
-  counted-here = ap (λ (i : ℕ). getD s (thingCountsAt + i) 0) is-kind ∙ H .names .counted k
+  counted-here = ap (λ (i : ℕ). getD s (thingCountsAt + i) 0) (O .is-kind) ∙ A .holds .names .counted k
 
-  makes-room : R .things k < 64 → Answered p (checkLimits within (some Created)) (afterAct p T t f (newThing p s row j x))
+  makes-room : R .things k < 64 → Makes (newThing p s row (placeOf p s w) x)
   unfolding newThing given
-  makes-room room =
-      subst (λ (a : Act × List ℕ). Answered p (checkLimits within (some Created)) (afterAct p T t f a)) (sym made-here)
-      (moves p after T (M .threads) t tid f
-      (pausing p s T R t tid (at σ w K) H there refl after (long₃ (H .names) (H .long) k x new is-kind is room) (λ i h m. agree-made (H .names) (H .long) k x new is-kind is room i h))
-      (M .procedures) (H .bodies) (update (M .names) (M .next) new) (suc (M .next)) (thingsAfter (makes k) (R .things)) (names-made (H .names) (H .long) k x new is-kind is room)
-      (returning row (continuation p j) (suc (M .next))) (return σ (name (M .next)) K)
-      (returns-word p t low σ row after (name (M .next)) j (continuation p j) K after
-      (record {
-        same = same-all t after;
-        long = long₃ (H .names) (H .long) k x new is-kind is room;
-        inside = inside;
-        values = λ y h. a .rows .variables row y inside h ∙ values y h;
-        frames = frames-same p t s after row j (continuation p j) K (rows-same p t s after (a .rows) row j inside (omega (arith, j-low))) F;
-      })))
+  makes-room room = subst Makes (sym made-here) (becomes A after (long₃ N long O room) (agree-made N long O room) (names-made N long O room) below f (name (M .next)))
     where
+      N : NamesHeld s (M .names) (M .next) (R .things)
+      N = A .holds .names
+
+      long : length s ≡ spaceSize
+      long = A .holds .long
+
       after : List ℕ
-      after = s₃ (H .names) (H .long) k x new is-kind is room
+      after = s₃ N long O room
 
-      a : Agree t s after
-      a = agree-made (H .names) (H .long) k x new is-kind is room t low
-
-      made-here : newThing p s row j x ≡ (act.Go (returning row (continuation p j) (suc (M .next))), after)
+      made-here : newThing p s row (placeOf p s w) x ≡ (act.Go (returning row (continuation p (placeOf p s w)) (suc (M .next))), after)
       made-here =
-          rw (counted-here, H .names .nextStored, lt-leb 64 (R .things k) room, lt-leb 322 (suc (M .next)) (next-low (H .names) (H .long) k x new is-kind is room))
-          (ap (λ (z : List ℕ). (act.Go (returning row (continuation p j) (suc (M .next))), z)) (thing-added (H .names) (H .long) k x new is-kind is room))
+          rw (counted-here, N .nextStored, lt-leb 64 (R .things k) room, lt-leb 322 (suc (M .next)) (next-low N long O room))
+          (ap (λ (z : List ℕ). (act.Go (returning row (continuation p (placeOf p s w)) (suc (M .next))), z)) (thing-added N long O room))
 
-  makes-none : 64 ≤ R .things k → Answered p (checkLimits within (some Created)) (afterAct p T t f (newThing p s row j x))
+  makes-none : 64 ≤ R .things k → Makes (newThing p s row (placeOf p s w) x)
   unfolding checkLimits within newThing afterAct actStep
   makes-none full =
       rw (
-        ap (λ (n : ℕ). withinLimits n (thingsAfter (makes k) (R .things))) (length-set (M .threads) t (running tid (return σ (name (M .next)) K))) ∙ past-limits (length (M .threads)) k (R .things) (H .sized .fits) (H .names .few) full,
+        ap (λ (n : ℕ). withinLimits n (thingsAfter (makes k) (R .things))) (length-set (M .threads) t (running tid (return σ (name (M .next)) K)))
+            ∙ past-limits (length (M .threads)) k (R .things) (A .holds .sized .fits) (A .holds .names .few) full,
         counted-here,
         le-leb 64 (R .things k) full,
       )
       refl
 
-  pub making-goes : Answered p (checkLimits within (some Created)) (afterAct p T t f (newThing p s row j x))
+  pub making-goes : Makes (newThing p s row (placeOf p s w) x)
   making-goes = go (decLt (R .things k) 64)
     where
-      go : Dec (R .things k < 64) → Answered p (checkLimits within (some Created)) (afterAct p T t f (newThing p s row j x))
+      go : Dec (R .things k < 64) → Makes (newThing p s row (placeOf p s w) x)
       go (yes room) = makes-room room
       go (no f) = makes-none (omega (arith, f))
 
@@ -258,14 +255,11 @@ module _ (p s : List ℕ) (row c : ℕ) {q : Position} {v : ℕ} where
   unfolding acted actedBy wordUsed effected subject operand effectOf madeOf shapeAt isWrite ruleOf printed
   ref-acts w r = rw (r .code) (rw (r .code))
 
-pub maker-kind : (o : calculus.Nullary) → makerSlot o .kind ≡ kindCode (kindMade o)
-maker-kind newtid = refl
-maker-kind newlock = refl
-maker-kind newsem = refl
-maker-kind (newrwlock N) = refl
+pub ref-new : (v : Value) → NewOf cells (slot 2 (codeValue v) 0) (cell v)
+ref-new v = record { is-kind = refl; is = (refl, refl) }
 
-pub maker-slot : (o : calculus.Nullary) → SlotIs (makerSlot o) (made o)
-maker-slot newtid = refl
-maker-slot newlock = (refl, refl)
-maker-slot newsem = (refl, refl, omega arith)
-maker-slot (newrwlock N) = (refl, refl, refl)
+pub maker-new : (o : calculus.Nullary) → NewOf (kindMade o) (makerSlot o) (made o)
+maker-new newtid = record { is-kind = refl; is = refl }
+maker-new newlock = record { is-kind = refl; is = (refl, refl) }
+maker-new newsem = record { is-kind = refl; is = (refl, refl, omega arith) }
+maker-new (newrwlock N) = record { is-kind = refl; is = (refl, refl, refl) }

@@ -1,7 +1,6 @@
 -- What a step on numbers has to answer for a step of the machine; and that a thread which goes on to a word answers it.
 use Prim.Native.Nat.{ℕ, zero, suc, _+_, _*_, _<_, _≤_}
 use mathlib.Core.Path.{_≡_, refl, sym, _∙_, ap, subst}
-use mathlib.Core.Logic.{_≢_}
 use mathlib.Core.Bool.{Bool, true, false, _&&_}
 use mathlib.Core.List.{List, [], _∷_}
 use mathlib.Core.Option.{some}
@@ -10,13 +9,11 @@ use native.Mathlib.Decide.{decLe}
 use borrow.Author.Tests.{le-leb, lt-leb, lt-ltb, le-ltb}
 use lib.Dec.{leb}
 use lib.ListN.{length, getD, set, getElem?}
-use Rattle.calculus.specs.State as state
 use Rattle.calculus.proofs.Laws.Maps.{none-is-not-some, some-injective}
-use Rattle.replay_theory.specs.declared.Status.the-variants.{Running}
 use Rattle.threads.specs.declared.Threads.{Threads}
 use Rattle.replay_engine.specs.declared.Outcome.the-variants.{Moved, Stuck, Past}
 use Rattle.replay_engine.specs.declared.Stepped.{Stepped}
-use Rattle.replay_control.specs.Layout.{controlPointRowsAt, spaceSize}
+use Rattle.replay_control.specs.Layout.{controlPointRowsAt}
 use Rattle.replay_control.specs.declared.ControlPoint.{ControlPoint}
 use Rattle.replay_control.specs.Control.{found}
 use Rattle.replay_step.specs.declared.words.Act.the-variants as act
@@ -24,17 +21,14 @@ use Rattle.replay_engine.specs.ControlPoints.{controlPointAt, settled, wentOn}
 use Rattle.replay_engine.specs.Steps.{recorded, proceeded, outcomeOf, movedTo, actStep, afterAct}
 use Rattle.replay_theory.specs.Run.{ObjectKind, cells, locks, rwlocks, semaphores, identifiers, threadLimit, thingLimit, withinLimits, callLimit}
 use Rattle.replay_theory.specs.Replay.{Outcome, badForm, noStep, pastLimit, step, checkLimits}
-use Rattle.spec.specs.Expression.{Procedure}
 use Rattle.replay_machine.specs.Control.{Control, done, at, openCalls}
-use Rattle.replay_machine.specs.Step.{isDone}
 use Rattle.replay_machine.specs.State.{MachineThread, unless, ofLive, running}
 use Rattle.replay_machine.specs.Replay.{Replay, within, callsIn, countsWithin}
-use Rattle.replay_simulation.proofs.Held.{BodiesStand, placeOf, ControlAt}
-use Rattle.replay_simulation.proofs.Advancing.{SameBut}
-use Rattle.replay_simulation.proofs.Finding.{frames-row}
-use Rattle.replay_simulation.proofs.Agreeing.{Agree, control-same, control-point-here}
-use Rattle.replay_simulation.proofs.Holds.{NamesHeld, recordOf, Holds}
-use Rattle.replay_simulation.proofs.Proceeding.{place-below, Paused, low, proceeds}
+use Rattle.replay_simulation.proofs.Held.{placeOf, ControlAt}
+use Rattle.replay_simulation.proofs.Finding.{frames-row, Finds}
+use Rattle.replay_simulation.proofs.Agreeing.{control-point-here}
+use Rattle.replay_simulation.proofs.Holds.{Holds}
+use Rattle.replay_simulation.proofs.Proceeding.{Paused, low, goneTo, proceeds}
 
 -- ------------------------------------------------------------------ what a step on numbers answers
 
@@ -106,71 +100,39 @@ set-there [] i a h = absurd (omega (arith, h))
 set-there (x ∷ xs) zero a h = refl
 set-there (x ∷ xs) (suc i) a h = set-there xs i a (omega (arith, h))
 
-module _ (p s : List ℕ) (T : Threads) (ts : List MachineThread) (t tid : ℕ) (f : ControlPoint) (P : Paused p s T ts t tid) (Q : List Procedure) (B : BodiesStand p Q)
-    (names : ℕ → state.Slot) (next : ℕ) (things : ObjectKind → ℕ) (N : NamesHeld s names next things) (g : ControlPoint) (d : Control)
-    (F : ControlAt p (found 2048 p s g .1) t (found 2048 p s g .0) d × SameBut t s (found 2048 p s g .1)) where
-  abbrev Next : Replay
-  Next = record { machine = record { procedures = Q; threads = set ts t (running tid d); names = names; next = next }; things = things }
-
+module _ {p s : List ℕ} {T : Threads} {R : Replay} {t tid : ℕ} (P : Paused p s T R t tid) (f g : ControlPoint) (d : Control) (F : Finds p t s d (found 2048 p s g)) where
   -- what is stored of its row, once it has gone on
   row-after : getD (proceeded p s T t g .1) (controlPointRowsAt + t) 0 ≡ 66 * t + openCalls d
   unfolding proceeded recorded wentOn settled controlPointAt
   row-after =
       let found-at = found 2048 p s g .0 in
       let after = found 2048 p s g .1 in
-      ap (λ (h : ControlPoint). h .row) (control-point-here after t found-at (F .1 .long ∙ P .long) (low p s T ts t tid P)) ∙ row-tells p after t found-at d (F .0)
+      ap (λ (h : ControlPoint). h .row) (control-point-here after t found-at (F .1 .long ∙ P .long) (low P)) ∙ row-tells p after t found-at d (F .0)
 
-  go-holds : openCalls d ≤ 64 → Answered p (checkLimits within (some Next)) (afterAct p T t f (act.Go g, s))
+  abbrev Goes : Type 0
+  Goes = Answered p (checkLimits within (some (goneTo R t tid d))) (afterAct p T t f (act.Go g, s))
+
+  go-holds : openCalls d ≤ 64 → Goes
   unfolding checkLimits afterAct actStep movedTo outcomeOf
   go-holds few =
-      let H = proceeds p s T ts t tid P Q B names next things N g d few F in
+      let H = proceeds P g d few F in
       let e = row-after in
-      rw (within-held p Next H, le-ltb (66 * t + 64) (getD (proceeded p s T t g .1) (controlPointRowsAt + t) 0) (omega (arith, e, few))) (refl, H)
+      rw (within-held p (goneTo R t tid d) H, le-ltb (66 * t + 64) (getD (proceeded p s T t g .1) (controlPointRowsAt + t) 0) (omega (arith, e, few))) (refl, H)
 
-  go-fails : 64 < openCalls d → Answered p (checkLimits within (some Next)) (afterAct p T t f (act.Go g, s))
+  go-fails : 64 < openCalls d → Goes
   unfolding checkLimits afterAct actStep movedTo outcomeOf
   go-fails over =
       let e = row-after in
       rw (
-        within-fails p Next t (running tid d) (set-there ts t (running tid d) (P .there)) refl over,
+        within-fails p (goneTo R t tid d) t (running tid d) (set-there (R .machine .threads) t (running tid d) (P .there)) refl over,
         lt-ltb (66 * t + 64) (getD (proceeded p s T t g .1) (controlPointRowsAt + t) 0) (omega (arith, e, over)),
       )
       refl
 
   -- the thread has gone on to d; if it has too many open calls now, the step is past the limit
-  pub moves : Answered p (checkLimits within (some Next)) (afterAct p T t f (act.Go g, s))
+  pub moves : Goes
   moves = by-calls (decLe (openCalls d) 64)
     where
-      by-calls : Dec (openCalls d ≤ 64) → Answered p (checkLimits within (some Next)) (afterAct p T t f (act.Go g, s))
+      by-calls : Dec (openCalls d ≤ 64) → Goes
       by-calls (yes few) = go-holds few
       by-calls (no n) = go-fails (omega (arith, n))
-
--- ------------------------------------------------------------------ a thread that can step
-
--- it is on its way, in a space that differs in nothing of the others'
-pub pausing : (p s : List ℕ) (T : Threads) (R : Replay) (t tid : ℕ) (d : Control) → Holds p s T R → getElem? (R .machine .threads) t ≡ some (running tid d) → isDone d ≡ false →
-    (s₁ : List ℕ) → length s₁ ≡ spaceSize → ((i : ℕ) → i < 16 → i ≢ t → Agree i s s₁) → Paused p s₁ T (R .machine .threads) t tid
-pausing p s T R t tid d H there not-done s₁ long agree = record {
-  long = long;
-  sized = H .sized;
-  there = place-below (R .machine .threads) t (running tid d) there;
-  was = H .threads t (running tid d) there .recorded ∙ still d not-done;
-  others = λ i th n h.
-      let held = H .threads i th h in
-      let l = place-below (R .machine .threads) i th h in
-      let f = H .sized .fits in
-      let a = agree i (omega arith) n in
-      record {
-        recorded = held .recorded;
-        control = subst (λ (f : ControlPoint). ControlAt p s₁ i f (th .control)) (sym (a .focused)) (control-same p i s s₁ (a .rows) (controlPointAt s i) (th .control) (let c = held .calls in omega arith) (held .control));
-        settled = held .settled;
-        calls = held .calls;
-      };
-}
-  where
-    still : (d : Control) → isDone d ≡ false → recordOf (running tid d) ≡ record { state = Running; tid = suc tid }
-    still (done v) e = absurd (let z : _≡_ {A = ℕ} 0 1 = cc in omega arith)
-    still (at σ w K) e = refl
-
-pub thread-low : (p s : List ℕ) (T : Threads) (R : Replay) (t : ℕ) (th : MachineThread) → Holds p s T R → getElem? (R .machine .threads) t ≡ some th → t < 16
-thread-low p s T R t th H there = let l = place-below (R .machine .threads) t th there in let f = H .sized .fits in omega arith

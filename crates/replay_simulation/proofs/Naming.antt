@@ -85,6 +85,11 @@ slot-agree i s v x l =
 
 -- ------------------------------------------------------------------ all names
 
+-- the slot that a value names: a constant names nothing
+abbrev pub slotOf : (ℕ → state.Slot) → Value → state.Slot
+slotOf names (int k) = unused
+slotOf names (name n) = names n
+
 module _ {s : List ℕ} {names : ℕ → state.Slot} {next : ℕ} {things : ObjectKind → ℕ} (N : NamesHeld s names next things) where
   pub next-small : next ≤ 321
   unfolding nextName
@@ -97,12 +102,7 @@ module _ {s : List ℕ} {names : ℕ → state.Slot} {next : ℕ} {things : Obje
       let f = N .few rwlocks in
       omega arith
 
-  -- what a value names
-  abbrev pub slotOf : Value → state.Slot
-  slotOf (int k) = unused
-  slotOf (name n) = names n
-
-  pub slot-decodes : (v : Value) → SlotIs (slotAt s (codeValue v)) (slotOf v)
+  pub slot-decodes : (v : Value) → SlotIs (slotAt s (codeValue v)) (slotOf names v)
   unfolding slotAt
   slot-decodes (int k) = N .constant
   slot-decodes (name n) = go (decLt (suc n) 322)

@@ -31,10 +31,11 @@ use Rattle.replay_theory.specs.Run.{ObjectKind}
 use Rattle.replay_machine.specs.Control as machine
 use Rattle.replay_machine.specs.Control.{Control, done, at, openCalls}
 use Rattle.replay_machine.specs.State.{MachineThread, running}
-use Rattle.replay_machine.specs.Step.{isDone}
-use Rattle.spec.specs.Expression.{Procedure}
+use Rattle.replay_machine.specs.Step.{isDone, goesTo}
+use Rattle.replay_machine.specs.Replay.{Replay}
 use Rattle.replay_simulation.proofs.Held.{BodiesStand, ControlAt, WordAt}
 use Rattle.replay_simulation.proofs.Advancing.{SameBut}
+use Rattle.replay_simulation.proofs.Finding.{Finds}
 use Rattle.replay_simulation.proofs.Agreeing.{SharedSame, control-same, agree-then, agree-found, shared-found, control-point-here, control-point-length, control-point-other, control-point-shared, control-point-rows}
 use Rattle.replay_simulation.proofs.Holds.{NamesHeld, SlotIs, kindCode, recordOf, ThreadHeld, Sized, ThreadsHeld, Holds}
 
@@ -115,20 +116,26 @@ set-here (x ∷ xs) (suc i) a b h = set-here xs i a b h
 
 -- ------------------------------------------------------------------ going on
 
--- thread t, which was running with the identifier tid, is on its way; all others stand where they stood
-pub record Paused (p s : List ℕ) (T : Threads) (ts : List MachineThread) (t tid : ℕ) : Type 0 where
+-- thread t, which was running with the identifier tid, is on its way; all else is held
+pub record Paused (p s : List ℕ) (T : Threads) (R : Replay) (t tid : ℕ) : Type 0 where
   pub long : length s ≡ spaceSize
-  pub sized : Sized T ts
-  pub there : t < length ts
+  pub bodies : BodiesStand p (R .machine .procedures)
+  pub names : NamesHeld s (R .machine .names) (R .machine .next) (R .things)
+  pub sized : Sized T (R .machine .threads)
+  pub there : t < length (R .machine .threads)
   pub was : getD (T .records) t noRecord ≡ runningRecord tid
-  pub others : (i : ℕ) (th : MachineThread) → i ≢ t → getElem? ts i ≡ some th → ThreadHeld p s T i th
+  pub others : (i : ℕ) (th : MachineThread) → i ≢ t → getElem? (R .machine .threads) i ≡ some th → ThreadHeld p s T i th
 
-module _ (p s : List ℕ) (T : Threads) (ts : List MachineThread) (t tid : ℕ) (P : Paused p s T ts t tid) where
+-- it has gone on to d
+abbrev pub goneTo : Replay → (t tid : ℕ) → Control → Replay
+goneTo R t tid d = record { machine = goesTo (R .machine) t tid (R .machine .names) d; things = R .things }
+
+module _ {p s : List ℕ} {T : Threads} {R : Replay} {t tid : ℕ} (P : Paused p s T R t tid) where
+  abbrev ts : List MachineThread
+  ts = R .machine .threads
+
   pub low : t < 16
   low = let a = P .there in let b = P .sized .fits in omega arith
-
-  abbrev goneTo : Control → List MachineThread
-  goneTo d = set ts t (running tid d)
 
   module _ (g : ControlPoint) (s₂ : List ℕ) (d : Control) (few : openCalls d ≤ 64) (C : ControlAt p s₂ t g d) (S : SameBut t s s₂) where
     abbrev s′ : List ℕ
@@ -143,7 +150,7 @@ module _ (p s : List ℕ) (T : Threads) (ts : List MachineThread) (t tid : ℕ) 
     shared : SharedSame s s′
     shared j h = control-point-shared t s₂ g low j h ∙ shared-found t s s₂ low S j h
 
-    sized-after : Sized T′ (goneTo d)
+    sized-after : Sized T′ (set ts t (running tid d))
     sized-after = record {
       count = count-same T t tid low (P .sized .records) (P .was) d ∙ P .sized .count ∙ sym (length-set ts t (running tid d));
       fits = let l = length-set ts t (running tid d) in let f = P .sized .fits in omega arith;
@@ -175,31 +182,28 @@ module _ (p s : List ℕ) (T : Threads) (ts : List MachineThread) (t tid : ℕ) 
           calls = held .calls;
         }
 
-    threads-after : ThreadsHeld p s′ T′ (goneTo d)
+    threads-after : ThreadsHeld p s′ T′ (set ts t (running tid d))
     threads-after i th h = by-place (ℕ-discrete i t)
       where
         by-place : Dec (i ≡ t) → ThreadHeld p s′ T′ i th
         by-place (yes e) =
-            let here = set-here ts t (running tid d) th (ap (getElem? (goneTo d)) (sym e) ∙ h) in
+            let here = set-here ts t (running tid d) th (ap (getElem? (set ts t (running tid d))) (sym e) ∙ h) in
             subst (λ (j : ℕ). ThreadHeld p s′ T′ j th) (sym e) (subst (ThreadHeld p s′ T′ t) here thread-here)
         by-place (no n) = thread-there i th n (sym (set-elsewhere ts t i (running tid d) (λ e. n (sym e))) ∙ h)
 
-  -- the thread has gone on to d
-  pub proceeds : (Q : List Procedure) → BodiesStand p Q → (names : ℕ → calculus.Slot) (next : ℕ) (things : ObjectKind → ℕ) → NamesHeld s names next things → (f : ControlPoint) (d : Control) → openCalls d ≤ 64 →
-      ControlAt p (found 2048 p s f .1) t (found 2048 p s f .0) d × SameBut t s (found 2048 p s f .1) →
-      Holds p (proceeded p s T t f .1) (proceeded p s T t f .0) (record { machine = record { procedures = Q; threads = goneTo d; names = names; next = next }; things = things })
+    held-after : Holds p s′ T′ (goneTo R t tid d)
+    held-after = record {
+      long = control-point-length s₂ t g ∙ long₂;
+      bodies = P .bodies;
+      names = names-same s s′ shared (P .names);
+      sized = sized-after;
+      threads = threads-after;
+    }
+
+  pub proceeds : (f : ControlPoint) (d : Control) → openCalls d ≤ 64 → Finds p t s d (found 2048 p s f) →
+      Holds p (proceeded p s T t f .1) (proceeded p s T t f .0) (goneTo R t tid d)
   unfolding proceeded recorded wentOn settled
-  proceeds Q B names next things N f d few (C, S) = with-found (found 2048 p s f .0) (found 2048 p s f .1) C S
-    where
-      with-found : (g : ControlPoint) (s₂ : List ℕ) → ControlAt p s₂ t g d → SameBut t s s₂ →
-          Holds p (controlPointPut s₂ t g) (if eqb (g .mode) 5 then finished T t else T) (record { machine = record { procedures = Q; threads = goneTo d; names = names; next = next }; things = things })
-      with-found g s₂ C S =
-          subst (λ (b : Bool). Holds p (controlPointPut s₂ t g) (if b then finished T t else T) (record { machine = record { procedures = Q; threads = goneTo d; names = names; next = next }; things = things }))
-          (sym (mode-tells p s₂ t g d C))
-          (record {
-            long = control-point-length s₂ t g ∙ long₂ g s₂ d few C S;
-            bodies = B;
-            names = names-same s (controlPointPut s₂ t g) (shared g s₂ d few C S) N;
-            sized = sized-after g s₂ d few C S;
-            threads = threads-after g s₂ d few C S;
-          })
+  proceeds f d few (C, S) =
+      let g = found 2048 p s f .0 in
+      let s₂ = found 2048 p s f .1 in
+      subst (λ (b : Bool). Holds p (controlPointPut s₂ t g) (if b then finished T t else T) (goneTo R t tid d)) (sym (mode-tells p s₂ t g d C)) (held-after g s₂ d few C S)

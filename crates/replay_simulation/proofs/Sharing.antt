@@ -1,27 +1,24 @@
 -- The words that use what a value names, on numbers, are the machine's.
 use Prim.Native.Nat.{ℕ, suc, _<_}
 use mathlib.Core.Path.{_≡_, refl, sym, _∙_, ap, subst}
-use mathlib.Core.List.{List, []}
+use mathlib.Core.List.{List}
 use mathlib.Core.Option.{Option, none, some}
-use native.Mathlib.Omega.{arith}
-use lib.ListN.{getElem?}
 use Rattle.spec.specs.Expression.{Position}
 use Rattle.spec.specs.declared.Word.the-variants.{Unary, Binary}
 use Rattle.spec.specs.declared.BinaryWord.the-variants.{Write}
 use Rattle.calculus.specs.Expression as calculus
 use Rattle.calculus.specs.Expression.{Value, int, name, read, lock, unlock, post, wait, hold, rdlock, rdunlock, wrlock, wrunlock}
 use Rattle.calculus.specs.State as state
-use Rattle.calculus.specs.State.{unused, identifier, cell, aLock, opened, closed, semaphore, rwlock, readers, writer, update}
+use Rattle.calculus.specs.State.{unused, identifier, cell, aLock, opened, closed, semaphore, rwlock, readers, writer}
 use Rattle.calculus.specs.Reduction.{_>>=_, _>>_, cellValue}
 use Rattle.calculus.proofs.Laws.Maps.{some-is-not-none}
 use Rattle.workspace.specs.Layout.{ruleOf, codeOf, printed}
 use Rattle.threads.specs.declared.Threads.{Threads}
 use Rattle.replay_control.specs.declared.ControlPoint.{ControlPoint}
 use Rattle.replay_control.specs.Shapes.{shapeAt, isWrite}
-use Rattle.replay_control.specs.Control.{kept, continuation, returning, readyAt}
+use Rattle.replay_control.specs.Control.{kept, readyAt}
 use Rattle.replay_objects.specs.declared.Slot.{Slot}
 use Rattle.replay_objects.specs.declared.StepEffect.{StepEffect}
-use Rattle.replay_step.specs.declared.words.Act.{Act}
 use Rattle.replay_step.specs.declared.words.Act.the-variants.{Go}
 use Rattle.replay_objects.specs.Uses.{slot, writtenOf, effectOf}
 use Rattle.replay_step.specs.Slots.{slotAt, slotPut}
@@ -30,19 +27,16 @@ use Rattle.replay_engine.specs.Steps.{actStep, afterAct}
 use Rattle.replay_theory.specs.Replay.{checkLimits}
 use Rattle.replay_machine.specs.Environment.{Env}
 use Rattle.replay_machine.specs.Control as machine
-use Rattle.replay_machine.specs.Control.{Frame, writeWord, unaryWord, at, return}
-use Rattle.replay_machine.specs.State.{Machine, running}
-use Rattle.replay_machine.specs.Step.{zeroValue, gives, leaves, stepUnary, stepWord}
-use Rattle.replay_machine.specs.Replay.{Replay, within}
-use Rattle.replay_simulation.proofs.Held.{codeValue, partWord, RowOf, Values, Frames}
-use Rattle.replay_simulation.proofs.Advancing.{same-all, RowIn}
-use Rattle.replay_simulation.proofs.Finding.{frames-same, returns-word}
-use Rattle.replay_simulation.proofs.Agreeing.{rows-same}
-use Rattle.replay_simulation.proofs.Holds.{SlotIs, Holds}
-use Rattle.replay_simulation.proofs.Using.{Use, gave, left, Using, using-read, using-lock, using-unlock, using-post, using-wait, using-rdlock, using-rdunlock, using-wrlock, using-wrunlock, useOf, usedTo, slotOf, nameIn, step-asks, UseIs, Roomy, uses-alike}
-use Rattle.replay_simulation.proofs.Naming.{slot-put-length, slot-agree, slot-decodes, used-below, names-put}
-use Rattle.replay_simulation.proofs.Moving.{Answered, moves, pausing}
-use Rattle.replay_simulation.proofs.Alone.{goes, ready}
+use Rattle.replay_machine.specs.Control.{Frame, writeWord, unaryWord}
+use Rattle.replay_machine.specs.State.{Machine}
+use Rattle.replay_machine.specs.Step.{zeroValue, gives, leaves, stepWord}
+use Rattle.replay_machine.specs.Replay.{Replay}
+use Rattle.replay_simulation.proofs.Held.{codeValue, partWord, RowOf, placeOf}
+use Rattle.replay_simulation.proofs.Agreeing.{agree-all}
+use Rattle.replay_simulation.proofs.Holds.{SlotIs}
+use Rattle.replay_simulation.proofs.Using.{Use, gave, left, Using, using-read, using-lock, using-unlock, using-post, using-wait, using-rdlock, using-rdunlock, using-wrlock, using-wrunlock, useOf, nameIn, usedTo, step-asks, UseIs, Roomy, uses-alike}
+use Rattle.replay_simulation.proofs.Naming.{slot-put-length, slot-agree, slotOf, slot-decodes, used-below, names-put}
+use Rattle.replay_simulation.proofs.AtWord.{AtWord, Answers, Goes, by-act, becomes}
 
 -- ------------------------------------------------------------------ what the code does
 
@@ -94,83 +88,79 @@ write-used x (rwlock N writer) w h = rw (h .0)
 
 -- ------------------------------------------------------------------ the machine's word
 
-module _ (p s : List ℕ) (T : Threads) (R : Replay) (t tid : ℕ) (σ : Env) (K : List Frame) (H : Holds p s T R) (low : t < 16) (row : ℕ) (inside : RowIn t row) (values : Values p s row σ) where
+module _ {p s : List ℕ} {T : Threads} {R : Replay} {t row tid : ℕ} {σ : Env} {w : machine.Word} {K : List Frame}
+    (A : AtWord p s T R t row tid σ w K) (below : placeOf p s w < 256) where
   abbrev M : Machine
   M = R .machine
 
-  -- what a step of the machine answers, if no thing is made
-  abbrev pub Answers : ControlPoint → Option Machine → Act × List ℕ → Type 0
-  Answers f o r = Answered p (checkLimits within (o >>= λ N. some (record { machine = N; things = R .things }))) (afterAct p T t f r)
+  -- the word becomes a value
+  gives-value : (f : ControlPoint) (x : Value) →
+      Answers A f (some (gives M t tid σ K (M .names) x)) (Go (given p row (placeOf p s w) (codeValue x)), s)
+  gives-value f x = becomes A s (A .holds .long) (λ i h. agree-all i s) (A .holds .names) below f x
 
-  module _ (w : machine.Word) (f : ControlPoint) (k : ℕ) (k-low : k < 256) (F : Frames p s t row k (continuation p k) K) (there : getElem? (M .threads) t ≡ some (running tid (at σ w K))) where
-    -- the word becomes a value
-    gives-value : (x : Value) → Answers f (some (gives M t tid σ K (M .names) x)) (Go (given p row k (codeValue x)), s)
-    unfolding given
-    gives-value x =
-        goes p s T R t tid σ K H w f there (returning row (continuation p k) (codeValue x)) (return σ x K)
-        (returns-word p t low σ row s x k (continuation p k) K s (ready p s T R t tid σ K H low row inside values k k (continuation p k) (omega arith) F))
+  -- the word leaves something else where it was
+  leaves-slot : (f : ControlPoint) (n : ℕ) (sl : state.Slot) (y : Slot) → n < M .next → SlotIs y sl →
+      Answers A f (some (leaves M t tid σ K n sl)) (Go (given p row (placeOf p s w) 0), slotPut s (suc n) y)
+  leaves-slot f n sl y l is =
+      becomes A (slotPut s (suc n) y) (slot-put-length s (suc n) y ∙ A .holds .long) (λ i h. slot-agree i s (suc n) y h)
+      (names-put (A .holds .names) n sl y (A .holds .long) l is) below f zeroValue
 
-    -- the word leaves something else where it was
-    leaves-slot : (n : ℕ) (sl : state.Slot) (y : Slot) → n < M .next → SlotIs y sl → Answers f (some (leaves M t tid σ K n sl)) (Go (given p row k 0), slotPut s (suc n) y)
-    unfolding given
-    leaves-slot n sl y l is =
-        let long₁ = slot-put-length s (suc n) y ∙ H .long in
-        let a = slot-agree t s (suc n) y low in
-        moves p (slotPut s (suc n) y) T (M .threads) t tid f
-        (pausing p s T R t tid (at σ w K) H there refl (slotPut s (suc n) y) long₁ (λ i h m. slot-agree i s (suc n) y h))
-        (M .procedures) (H .bodies) (update (M .names) n sl) (M .next) (R .things) (names-put (H .names) n sl y (H .long) l is)
-        (returning row (continuation p k) 0) (return σ zeroValue K)
-        (returns-word p t low σ row (slotPut s (suc n) y) zeroValue k (continuation p k) K (slotPut s (suc n) y)
-        (record {
-          same = same-all t (slotPut s (suc n) y);
-          long = long₁;
-          inside = inside;
-          values = λ x h. a .rows .variables row x inside h ∙ values x h;
-          frames = frames-same p t s (slotPut s (suc n) y) row k (continuation p k) K (rows-same p t s (slotPut s (suc n) y) (a .rows) row k inside (omega (arith, k-low))) F;
-        }))
+  -- the word asks for the use of what a value names
+  asks : (f : ControlPoint) (v : Value) (u : Option Use) (x : StepEffect) → (slotOf (M .names) v ≡ unused → u ≡ none) → UseIs u x →
+      Answers A f (u >>= λ y. some (usedTo M t tid σ K (nameIn v) y)) (effected p s row (placeOf p s w) (codeValue v) x)
+  unfolding effected afterAct actStep checkLimits
+  asks f v none x useless is = subst (λ (z : StepEffect). Answers A f none (effected p s row (placeOf p s w) (codeValue v) z)) (sym is) refl
+  asks f v (some (gave y)) x useless is =
+      subst (λ (z : StepEffect). Answers A f (some (gives M t tid σ K (M .names) y)) (effected p s row (placeOf p s w) (codeValue v) z)) (sym is) (gives-value f y)
+  asks f (int n) (some (left sl)) x useless is = some-is-not-none (useless refl)
+  asks f (name n) (some (left sl)) x useless (y, e, held) =
+      subst (λ (z : StepEffect). Answers A f (some (leaves M t tid σ K n sl)) (effected p s row (placeOf p s w) (suc n) z)) (sym e)
+      (leaves-slot f n sl y (used-below (A .holds .names) n (λ z. some-is-not-none (useless z))) held)
 
-    -- the word asks for the use of what a value names
-    asks : (v : Value) (u : Option Use) (x : StepEffect) → (slotOf M t tid σ K v ≡ unused → u ≡ none) → UseIs u x →
-        Answers f (u >>= λ y. some (usedTo M t tid σ K (nameIn M t tid σ K v) y)) (effected p s row k (codeValue v) x)
-    unfolding effected afterAct actStep checkLimits
-    asks v none x useless is = subst (λ (z : StepEffect). Answers f none (effected p s row k (codeValue v) z)) (sym is) refl
-    asks v (some (gave y)) x useless is = subst (λ (z : StepEffect). Answers f (some (gives M t tid σ K (M .names) y)) (effected p s row k (codeValue v) z)) (sym is) (gives-value y)
-    asks (int n) (some (left sl)) x useless is = some-is-not-none (useless refl)
-    asks (name n) (some (left sl)) x useless (y, e, held) =
-        subst (λ (z : StepEffect). Answers f (some (leaves M t tid σ K n sl)) (effected p s row k (suc n) z)) (sym e)
-        (leaves-slot n sl y (used-below (H .names) n (λ z. some-is-not-none (useless z))) held)
+write-asks : (M : Machine) (t tid : ℕ) (σ : Env) (K : List Frame) (q : Position) (v w : Value) →
+    stepWord M t tid σ K state.first (writeWord q v w) ≡ (writeUse (slotOf (M .names) v) w >>= λ y. some (usedTo M t tid σ K (nameIn v) y))
+write-asks M t tid σ K q (int k) w = refl
+write-asks M t tid σ K q (name m) w = by-slot (M .names m)
+  where
+    by-slot : (sl : state.Slot) → (cellValue sl >> some (leaves M t tid σ K m (cell w))) ≡ (writeUse sl w >>= λ y. some (usedTo M t tid σ K m y))
+    by-slot unused = refl
+    by-slot identifier = refl
+    by-slot (cell x) = refl
+    by-slot (aLock l) = refl
+    by-slot (semaphore x) = refl
+    by-slot (rwlock N x) = refl
 
-  -- what a value names, by its numbers
-  told : (v : Value) → SlotIs (slotAt s (codeValue v)) (slotOf M t tid σ K v)
-  told (int k) = slot-decodes (H .names) (int k)
-  told (name m) = slot-decodes (H .names) (name m)
-
-  write-asks : (q : Position) (v w : Value) → stepWord M t tid σ K state.first (writeWord q v w) ≡ (writeUse (slotOf M t tid σ K v) w >>= λ y. some (usedTo M t tid σ K (nameIn M t tid σ K v) y))
-  write-asks q (int k) w = refl
-  write-asks q (name m) w = by-slot (M .names m)
+module _ {p s : List ℕ} {T : Threads} {R : Replay} {t row tid : ℕ} {σ : Env} {q : Position} {K : List Frame} {n : ℕ} where
+  pub part-goes : {o : calculus.Unary} {v : Value} (A : AtWord p s T R t row tid σ (unaryWord q o v) K) → Using o → RowOf p q (Unary (partWord o)) n →
+      Roomy (slotOf (R .machine .names) v) → Goes A state.first (readyAt row (q .index) (codeValue v)) 0
+  part-goes {o} {v} A u r roomy =
+      by-act A state.first word 0 (part-acts p s row 0 o u (codeValue v) r)
+      (subst (λ (m : Option Machine). Answers A word m (effected p s row (q .index) (codeValue v) x)) (sym (step-asks (R .machine) t tid σ K o u v))
+      (asks A (r .below) word v (useOf o sl) x (λ e. ap (useOf o) e ∙ unused-useless o u)
+      (uses-alike (slotAt s (codeValue v)) o u sl (slot-decodes (A .holds .names) v) roomy (codeValue v))))
     where
-      by-slot : (sl : state.Slot) → (cellValue sl >> some (leaves M t tid σ K m (cell w))) ≡ (writeUse sl w >>= λ y. some (usedTo M t tid σ K m y))
-      by-slot unused = refl
-      by-slot identifier = refl
-      by-slot (cell x) = refl
-      by-slot (aLock l) = refl
-      by-slot (semaphore x) = refl
-      by-slot (rwlock N x) = refl
+      word : ControlPoint
+      word = readyAt row (q .index) (codeValue v)
 
-  module _ (c : ℕ) (q : Position) {n : ℕ} (F : Frames p s t row (q .index) (continuation p (q .index)) K) where
-    pub part-goes : (o : calculus.Unary) → Using o → (v : Value) → RowOf p q (Unary (partWord o)) n → Roomy (slotOf M t tid σ K v) →
-        getElem? (M .threads) t ≡ some (running tid (at σ (unaryWord q o v) K)) → Answers (readyAt row (q .index) (codeValue v)) (stepUnary M t tid σ K o v) (acted p s (readyAt row (q .index) (codeValue v)) c)
-    part-goes o u v r roomy there =
-        subst (λ (a : Act × List ℕ). Answers (readyAt row (q .index) (codeValue v)) (stepUnary M t tid σ K o v) a) (sym (part-acts p s row c o u (codeValue v) r))
-        (subst (λ (m : Option Machine). Answers (readyAt row (q .index) (codeValue v)) m (effected p s row (q .index) (codeValue v) (effectOf (ruleOf (codeOf (Unary (partWord o)))) (slotAt s (codeValue v)) (codeValue v))))
-        (sym (step-asks M t tid σ K o u v))
-        (asks (unaryWord q o v) (readyAt row (q .index) (codeValue v)) (q .index) (r .below) F there v (useOf o (slotOf M t tid σ K v)) (effectOf (ruleOf (codeOf (Unary (partWord o)))) (slotAt s (codeValue v)) (codeValue v))
-        (λ e. ap (useOf o) e ∙ unused-useless o u) (uses-alike (slotAt s (codeValue v)) o u (slotOf M t tid σ K v) (told v) roomy (codeValue v))))
+      sl : state.Slot
+      sl = slotOf (R .machine .names) v
 
-    pub write-goes : (v w : Value) → RowOf p q (Binary Write) n → kept s row (q .index) ≡ codeValue v →
-        getElem? (M .threads) t ≡ some (running tid (at σ (writeWord q v w) K)) → Answers (readyAt row (q .index) (codeValue w)) (stepWord M t tid σ K state.first (writeWord q v w)) (acted p s (readyAt row (q .index) (codeValue w)) c)
-    write-goes v w r held there =
-        subst (λ (a : Act × List ℕ). Answers (readyAt row (q .index) (codeValue w)) (stepWord M t tid σ K state.first (writeWord q v w)) a) (sym (write-acts p s row c (codeValue v) (codeValue w) held r))
-        (subst (λ (m : Option Machine). Answers (readyAt row (q .index) (codeValue w)) m (effected p s row (q .index) (codeValue v) (writtenOf (slotAt s (codeValue v)) (codeValue w)))) (sym (write-asks q v w))
-        (asks (writeWord q v w) (readyAt row (q .index) (codeValue w)) (q .index) (r .below) F there v (writeUse (slotOf M t tid σ K v) w) (writtenOf (slotAt s (codeValue v)) (codeValue w))
-        (λ e. ap (λ (sl : state.Slot). writeUse sl w) e) (write-used (slotAt s (codeValue v)) (slotOf M t tid σ K v) w (told v))))
+      x : StepEffect
+      x = effectOf (ruleOf (codeOf (Unary (partWord o)))) (slotAt s (codeValue v)) (codeValue v)
+
+  pub write-goes : {v w : Value} (A : AtWord p s T R t row tid σ (writeWord q v w) K) → RowOf p q (Binary Write) n → kept s row (q .index) ≡ codeValue v →
+      Goes A state.first (readyAt row (q .index) (codeValue w)) 0
+  write-goes {v} {w} A r held =
+      by-act A state.first word 0 (write-acts p s row 0 (codeValue v) (codeValue w) held r)
+      (subst (λ (m : Option Machine). Answers A word m (effected p s row (q .index) (codeValue v) x)) (sym (write-asks (R .machine) t tid σ K q v w))
+      (asks A (r .below) word v (writeUse sl w) x (λ e. ap (λ (y : state.Slot). writeUse y w) e)
+      (write-used (slotAt s (codeValue v)) sl w (slot-decodes (A .holds .names) v))))
+    where
+      word : ControlPoint
+      word = readyAt row (q .index) (codeValue w)
+
+      sl : state.Slot
+      sl = slotOf (R .machine .names) v
+
+      x : StepEffect
+      x = writtenOf (slotAt s (codeValue v)) (codeValue w)

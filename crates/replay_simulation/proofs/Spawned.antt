@@ -36,14 +36,15 @@ use Rattle.replay_machine.specs.Control.{Frame, spawnWord, done, at, return, en
 use Rattle.replay_machine.specs.State.{MachineThread, Machine, running}
 use Rattle.replay_machine.specs.Step.{zeroValue, addThread, gives}
 use Rattle.replay_machine.specs.Replay.{Replay, within}
-use Rattle.replay_simulation.proofs.Held.{RowOf, Stands, Values, Frames, ControlAt}
+use Rattle.replay_simulation.proofs.Held.{RowOf, Stands, Values, ControlAt}
 use Rattle.replay_machine.proofs.Marks.{calls-counted, enter-tells}
 use Rattle.replay_simulation.proofs.Advancing.{same-all, RowIn}
 use Rattle.replay_simulation.proofs.Finding.{frames-row, enters-word, returns-word}
-use Rattle.replay_simulation.proofs.Agreeing.{Agree, SharedSame, agree-all, control-same, less-or-more}
+use Rattle.replay_simulation.proofs.Agreeing.{Agree, SharedSame, control-same, less-or-more}
 use Rattle.replay_simulation.proofs.Holds.{Sized, Holds}
-use Rattle.replay_simulation.proofs.Proceeding.{names-same, place-below, Paused, proceeds}
-use Rattle.replay_simulation.proofs.Moving.{Answered, moves, pausing}
+use Rattle.replay_simulation.proofs.Proceeding.{names-same, place-below, Paused, goneTo, proceeds}
+use Rattle.replay_simulation.proofs.Moving.{Answered}
+use Rattle.replay_simulation.proofs.AtWord.{AtWord, withThreads, goes, ready, at-word}
 
 -- ------------------------------------------------------------------ the copy of the variables
 
@@ -122,7 +123,7 @@ first-kept [] a b i h = none-is-not-some h
 first-kept (x ∷ xs) a b zero h = h
 first-kept (x ∷ xs) a b (suc i) h = first-kept xs a b i h
 
-module _ (T : Threads) (ts : List MachineThread) (tid : ℕ) (a : MachineThread) (sized : Sized T ts) (room : length ts < 16) where
+module _ {T : Threads} {ts : List MachineThread} (sized : Sized T ts) (room : length ts < 16) (tid : ℕ) where
   count-low : T .count < 16
   count-low = let e = sized .count in omega arith
 
@@ -134,9 +135,9 @@ module _ (T : Threads) (ts : List MachineThread) (tid : ℕ) (a : MachineThread)
   unfolding spawned
   spawned-there i n = rw (lt-ltb (T .count) 16 count-low, sized .count) (getD-set-other (T .records) (length ts) i _ noRecord n)
 
-  spawned-sized : Sized (spawned T (suc tid)) (ts ++ (a ∷ []))
+  spawned-sized : (a : MachineThread) → Sized (spawned T (suc tid)) (ts ++ (a ∷ []))
   unfolding spawned
-  spawned-sized =
+  spawned-sized a =
       let e = length-append ts (a ∷ []) in
       record {
         count = rw (lt-ltb (T .count) 16 count-low) (let c = sized .count in omega (arith, c, e));
@@ -147,9 +148,8 @@ module _ (T : Threads) (ts : List MachineThread) (tid : ℕ) (a : MachineThread)
 
 -- ------------------------------------------------------------------ the machine's word
 
-module _ (p s : List ℕ) (T : Threads) (R : Replay) (t tid : ℕ) (σ : Env) (K : List Frame) (H : Holds p s T R) (low : t < 16) (row : ℕ) (inside : RowIn t row) (values : Values p s row σ)
-    (q : Position) (n : ℕ) (e : Expr) {m : ℕ} (r : RowOf p q (Binary Spawn) m) (S : Stands p finish (second p (q .index)) e) (F : Frames p s t row (q .index) (continuation p (q .index)) K)
-    (there : getElem? (R .machine .threads) t ≡ some (running tid (at σ (spawnWord q (name n) e) K))) where
+module _ {p s : List ℕ} {T : Threads} {R : Replay} {t row tid : ℕ} {σ : Env} {q : Position} {n : ℕ} {e : Expr} {K : List Frame} (A : AtWord p s T R t row tid σ (spawnWord q (name n) e) K)
+    {m : ℕ} (r : RowOf p q (Binary Spawn) m) (S : Stands p finish (second p (q .index)) e) where
   abbrev M : Machine
   M = R .machine
 
@@ -159,8 +159,11 @@ module _ (p s : List ℕ) (T : Threads) (R : Replay) (t tid : ℕ) (σ : Env) (K
   abbrev Spawns : Replay
   Spawns = record { machine = addThread (running n (enter σ e [])) (gives M t tid σ K (M .names) zeroValue); things = R .things }
 
+  abbrev word : ControlPoint
+  word = readyAt row (q .index) (suc n)
+
   t-below : t < u
-  t-below = place-below (M .threads) t (running tid (at σ (spawnWord q (name n) e) K)) there
+  t-below = place-below (M .threads) t (running tid (at σ (spawnWord q (name n) e) K)) (A .there)
 
   module _ (room : u < 16) where
     abbrev ph : MachineThread
@@ -170,32 +173,37 @@ module _ (p s : List ℕ) (T : Threads) (R : Replay) (t tid : ℕ) (σ : Env) (K
     s₁ = copied s row (66 * u)
 
     apart : row ≢ 66 * u
-    apart z = let l = t-below in omega (arith, z, l, inside .1)
+    apart z = let l = t-below in omega (arith, z, l, A .inside .1)
 
     other : t ≢ u
     other z = let l = t-below in omega (arith, z, l)
 
     long₁ : length s₁ ≡ spaceSize
     unfolding copied
-    long₁ = copied-length row (66 * u) apart 256 s 0 ∙ H .long
+    long₁ = copied-length row (66 * u) apart 256 s 0 ∙ A .holds .long
 
     values₁ : Values p s₁ (66 * u) σ
     unfolding copied
-    values₁ x h = copied-row row (66 * u) apart 256 s 0 x (H .long) (omega (arith, room)) (omega arith) (omega arith) (omega (arith, h)) ∙ values x h
+    values₁ x h = copied-row row (66 * u) apart 256 s 0 x (A .holds .long) (omega (arith, room)) (omega arith) (omega arith) (omega (arith, h)) ∙ A .values x h
 
-    paused : Paused p s₁ (spawned T (suc n)) (M .threads ++ (ph ∷ [])) u n
+    abbrev Added : Replay
+    Added = record { machine = addThread ph M; things = R .things }
+
+    paused : Paused p s₁ (spawned T (suc n)) Added u n
     paused = record {
       long = long₁;
-      sized = spawned-sized T (M .threads) n ph (H .sized) room;
+      bodies = A .holds .bodies;
+      names = names-same s s₁ (shared-copied s row (66 * u) apart u refl room) (A .holds .names);
+      sized = spawned-sized (A .holds .sized) room n ph;
       there = let l = length-append (M .threads) (ph ∷ []) in omega (arith, l);
-      was = spawned-here T (M .threads) n ph (H .sized) room;
+      was = spawned-here (A .holds .sized) room n;
       others = λ i th d h.
           let g = last-other (M .threads) ph th i d h in
           let l = place-below (M .threads) i th g in
           let a = agree-copied s row (66 * u) apart u refl room i (omega (arith, l, room)) d in
-          let held = H .threads i th g in
+          let held = A .holds .threads i th g in
           record {
-            recorded = spawned-there T (M .threads) n ph (H .sized) room i d ∙ held .recorded;
+            recorded = spawned-there (A .holds .sized) room n i d ∙ held .recorded;
             control = subst (λ (f : ControlPoint). ControlAt p s₁ i f (th .control)) (sym (a .focused)) (control-same p i s s₁ (a .rows) (controlPointAt s i) (th .control) (let c = held .calls in omega arith) (held .control));
             settled = held .settled;
             calls = held .calls;
@@ -209,7 +217,7 @@ module _ (p s : List ℕ) (T : Threads) (R : Replay) (t tid : ℕ) (σ : Env) (K
     ts₁ = set (M .threads ++ (ph ∷ [])) u (running n (enter σ e []))
 
     abbrev R₁ : Replay
-    R₁ = record { machine = record { procedures = M .procedures; threads = ts₁; names = M .names; next = M .next }; things = R .things }
+    R₁ = goneTo Added u n (enter σ e [])
 
     -- the new thread has no open call
     none-open : openCalls (enter σ e []) ≤ 64
@@ -218,57 +226,46 @@ module _ (p s : List ℕ) (T : Threads) (R : Replay) (t tid : ℕ) (σ : Env) (K
 
     child-held : Holds p (after .1) (after .0) R₁
     child-held =
-        proceeds p s₁ (spawned T (suc n)) (M .threads ++ (ph ∷ [])) u n paused (M .procedures) (H .bodies) (M .names) (M .next) (R .things)
-        (names-same s s₁ (shared-copied s row (66 * u) apart u refl room) (H .names)) (entering (66 * u) (second p (q .index))) (enter σ e []) none-open
-        (enters-word p u room σ (66 * u) s₁ e finish (second p (q .index)) [] s₁ S
-        (record { same = same-all u s₁; long = long₁; inside = (omega arith, omega arith); values = values₁; frames = (refl, refl) }))
+        proceeds paused (entering (66 * u) (second p (q .index))) (enter σ e []) none-open
+        (enters-word {c = finish} (record { low = room; same = same-all u s₁; long = long₁; inside = (omega arith, omega arith); values = values₁; frames = (refl, refl) }) e S)
 
     -- thread t still stands at its spawn
     there₁ : getElem? ts₁ t ≡ some (running tid (at σ (spawnWord q (name n) e) K))
-    there₁ = set-elsewhere (M .threads ++ (ph ∷ [])) u t (running n (enter σ e [])) (λ z. other (sym z)) ∙ first-kept (M .threads) ph (running tid (at σ (spawnWord q (name n) e) K)) t there
+    there₁ = set-elsewhere (M .threads ++ (ph ∷ [])) u t (running n (enter σ e [])) (λ z. other (sym z)) ∙ first-kept (M .threads) ph (running tid (at σ (spawnWord q (name n) e) K)) t (A .there)
 
     threads-after : set ts₁ t (running tid (return σ zeroValue K)) ≡ set (M .threads) t (running tid (return σ zeroValue K)) ++ (running n (enter σ e []) ∷ [])
     threads-after =
         ap (λ (ts : List MachineThread). set ts t (running tid (return σ zeroValue K))) (set-append-seam (M .threads) ph [] (running n (enter σ e [])))
         ∙ set-append-left (M .threads) (running n (enter σ e []) ∷ []) t (running tid (return σ zeroValue K)) t-below
 
-    abbrev word : ControlPoint
-    word = readyAt row (q .index) (suc n)
+    still-at : AtWord p (after .1) (after .0) R₁ t row tid σ (spawnWord q (name n) e) K
+    still-at =
+        let B = at-word child-held there₁ in
+        let same-row = frames-row p t (after .1) K (controlPointAt (after .1) t .row) (q .index) (continuation p (q .index)) (B .frames) ∙ sym (frames-row p t s K row (q .index) (continuation p (q .index)) (A .frames)) in
+        subst (λ (i : ℕ). AtWord p (after .1) (after .0) R₁ t i tid σ (spawnWord q (name n) e) K) same-row B
 
     spawns-one : Answered p (checkLimits within (some Spawns)) (givesZero p t word after)
     unfolding givesZero given afterAct actStep
     spawns-one =
-        let (values₂, W₂, F₂) = child-held .threads t (running tid (at σ (spawnWord q (name n) e) K)) there₁ .control in
-        let same-row = frames-row p t (after .1) K (controlPointAt (after .1) t .row) (q .index) (continuation p (q .index)) F₂ ∙ sym (frames-row p t s K row (q .index) (continuation p (q .index)) F) in
-        subst (λ (ts : List MachineThread). Answered p (checkLimits within (some (record { machine = record { procedures = M .procedures; threads = ts; names = M .names; next = M .next }; things = R .things }))) (givesZero p t word after)) threads-after
-        (moves p (after .1) (after .0) ts₁ t tid word
-        (pausing p (after .1) (after .0) R₁ t tid (at σ (spawnWord q (name n) e) K) child-held there₁ refl (after .1) (child-held .long) (λ i h d. agree-all i (after .1)))
-        (M .procedures) (H .bodies) (M .names) (M .next) (R .things) (child-held .names) (returning row (continuation p (q .index)) 0) (return σ zeroValue K)
-        (returns-word p t low σ row (after .1) zeroValue (q .index) (continuation p (q .index)) K (after .1)
-        (record {
-          same = same-all t (after .1);
-          long = child-held .long;
-          inside = inside;
-          values = subst (λ (i : ℕ). Values p (after .1) i σ) same-row values₂;
-          frames = subst (λ (i : ℕ). Frames p (after .1) t i (q .index) (continuation p (q .index)) K) same-row F₂;
-        })))
+        subst (λ (ts : List MachineThread). Answered p (checkLimits within (some (withThreads R ts))) (givesZero p t word after)) threads-after
+        (goes still-at word (returning row (continuation p (q .index)) 0) (return σ zeroValue K) (returns-word (ready still-at (q .index) (omega arith)) zeroValue))
 
-    with-room : Answered p (checkLimits within (some Spawns)) (spawnedStep p s T t (readyAt row (q .index) (suc n)) (suc n))
+    with-room : Answered p (checkLimits within (some Spawns)) (spawnedStep p s T t word (suc n))
     unfolding spawnedStep
     with-room =
         subst (λ (c : ℕ). Answered p (checkLimits within (some Spawns)) (if leb 16 c then (ending Past T, s) else givesZero p t word (proceeded p (copied s row (66 * c)) (spawned T (suc n)) c (entering (66 * c) (second p (q .index))))))
-        (sym (H .sized .count)) (rw (lt-leb 16 u room) spawns-one)
+        (sym (A .holds .sized .count)) (rw (lt-leb 16 u room) spawns-one)
 
-  no-room : 16 ≤ u → Answered p (checkLimits within (some Spawns)) (spawnedStep p s T t (readyAt row (q .index) (suc n)) (suc n))
+  no-room : 16 ≤ u → Answered p (checkLimits within (some Spawns)) (spawnedStep p s T t word (suc n))
   unfolding spawnedStep checkLimits within withinLimits threadLimit
   no-room full =
       let a = length-append (set (M .threads) t (running tid (return σ zeroValue K))) (running n (enter σ e []) ∷ []) in
       let b = length-set (M .threads) t (running tid (return σ zeroValue K)) in
-      rw (H .sized .count, le-leb 16 u full, lt-leb (length (set (M .threads) t (running tid (return σ zeroValue K)) ++ (running n (enter σ e []) ∷ []))) 16 (omega (arith, a, b, full))) refl
+      rw (A .holds .sized .count, le-leb 16 u full, lt-leb (length (set (M .threads) t (running tid (return σ zeroValue K)) ++ (running n (enter σ e []) ∷ []))) 16 (omega (arith, a, b, full))) refl
 
-  pub spawning-goes : Answered p (checkLimits within (some Spawns)) (spawnedStep p s T t (readyAt row (q .index) (suc n)) (suc n))
+  pub spawning-goes : Answered p (checkLimits within (some Spawns)) (spawnedStep p s T t word (suc n))
   spawning-goes = go (decLt u 16)
     where
-      go : Dec (u < 16) → Answered p (checkLimits within (some Spawns)) (spawnedStep p s T t (readyAt row (q .index) (suc n)) (suc n))
+      go : Dec (u < 16) → Answered p (checkLimits within (some Spawns)) (spawnedStep p s T t word (suc n))
       go (yes l) = with-room l
       go (no f) = no-room (omega (arith, f))

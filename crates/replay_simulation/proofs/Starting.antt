@@ -11,7 +11,6 @@ use lib.ListN.{length, getD, set, replicate, getElem?, length-set}
 use lib.Seq.{getD-set-same, getD-set-other}
 use Rattle.spec.specs.Program.{Program}
 use Rattle.calculus.specs.Expression.{int, choose}
-use Rattle.calculus.specs.State as state
 use Rattle.calculus.specs.State.{unused, identifier, update}
 use Rattle.calculus.proofs.Laws.Maps.{none-is-not-some, update-other}
 use Rattle.replay_theory.specs.declared.Status.the-variants.{Running}
@@ -27,7 +26,7 @@ use Rattle.replay_theory.specs.Run.{nextName, stillOpen}
 use Rattle.replay_machine.specs.Control.{done, enter, openCalls}
 use Rattle.replay_machine.proofs.Marks.{calls-counted, enter-tells}
 use Rattle.replay_machine.specs.State.{MachineThread, running, startMachine}
-use Rattle.replay_machine.specs.Replay.{startReplay}
+use Rattle.replay_machine.specs.Replay.{Replay, startReplay}
 use Rattle.replay_simulation.proofs.Bodies.{ProgramStands}
 use Rattle.replay_simulation.proofs.Advancing.{same-all}
 use Rattle.replay_simulation.proofs.Finding.{enters-word}
@@ -96,10 +95,15 @@ module _ (p s : List ℕ) (long : length s ≡ spaceSize) where
     abbrev ph : MachineThread
     ph = running 0 (done (int 0))
 
-    paused : Paused p s₁ (started 1) (ph ∷ []) 0 0
+    abbrev R₀ : Replay
+    R₀ = record { machine = record { procedures = P .procedures; threads = ph ∷ []; names = update (λ n. unused) 0 identifier; next = 1 }; things = λ k. 0 }
+
+    paused : Paused p s₁ (started 1) R₀ 0 0
     unfolding started
     paused = record {
       long = long₁;
+      bodies = A .bodies;
+      names = names-start;
       sized = record { count = refl; fits = omega arith; records = refl; behind = λ i l h. record-behind 16 i (record { state = Running; tid = 1 }) refl };
       there = omega arith;
       was = refl;
@@ -117,6 +121,12 @@ module _ (p s : List ℕ) (long : length s ≡ spaceSize) where
     pub start-held : Holds p (startOf p s .1) (startOf p s .0) (startReplay P)
     unfolding startOf startSpace startReplay startMachine variable
     start-held =
-        proceeds p s₁ (started 1) (ph ∷ []) 0 0 paused (P .procedures) (A .bodies) (update (λ n. unused) 0 identifier) 1 (λ k. 0) names-start (entering 0 (rootOf p)) (enter (λ x. int 0) (P .root) []) none-open
-        (enters-word p 0 (omega arith) (λ x. int 0) 0 s₁ (P .root) finish (rootOf p) [] s₁ (A .root-stands)
-        (record { same = same-all 0 s₁; long = long₁; inside = (omega arith, omega arith); values = λ x h. elsewhere (0 + 256 * 0 + x) (λ z. omega (arith, z, h)) (λ z. omega (arith, z, h)) ∙ variable-clear (0 + 256 * 0 + x) (omega (arith, h)); frames = (refl, refl) }))
+        proceeds paused (entering 0 (rootOf p)) (enter (λ x. int 0) (P .root) []) none-open
+        (enters-word {c = finish} (record {
+          low = omega arith;
+          same = same-all 0 s₁;
+          long = long₁;
+          inside = (omega arith, omega arith);
+          values = λ x h. elsewhere (0 + 256 * 0 + x) (λ z. omega (arith, z, h)) (λ z. omega (arith, z, h)) ∙ variable-clear (0 + 256 * 0 + x) (omega (arith, h));
+          frames = (refl, refl);
+        }) (P .root) (A .root-stands))

@@ -1,5 +1,5 @@
 -- A step on numbers is the machine's step: thread by thread, word by word, choice by choice.
-use Prim.Native.Nat.{ℕ, zero, suc, _<_, _≤_}
+use Prim.Native.Nat.{ℕ, zero, suc, _≤_}
 use mathlib.Core.Path.{_≡_, refl, sym, ap, subst}
 use mathlib.Core.Bool.{Bool, true, false}
 use mathlib.Core.List.{List, [], _∷_}
@@ -15,10 +15,10 @@ use Rattle.spec.specs.declared.Word.the-variants.{Leaf, Unary, Binary}
 use Rattle.spec.specs.declared.UnaryWord.the-variants.{While, Join, Ref, Call}
 use Rattle.spec.specs.declared.BinaryWord.the-variants.{Let, If, Spawn, Write}
 use Rattle.calculus.specs.Expression as calculus
-use Rattle.calculus.specs.Expression.{Value, int, name, join, ref, read, lock, unlock, post, wait, hold, rdlock, rdunlock, wrlock, wrunlock, call, Redex}
+use Rattle.calculus.specs.Expression.{Value, int, name, join, ref, read, lock, unlock, post, wait, hold, rdlock, rdunlock, wrlock, wrunlock, call}
 use Rattle.calculus.specs.State as state
 use Rattle.calculus.specs.State.{Part, first, second, unused, identifier, cell, aLock, opened, closed, semaphore, rwlock, readers, writer}
-use Rattle.calculus.specs.Reduction.{_>>=_, _>>_, ifIdentifier, made}
+use Rattle.calculus.specs.Reduction.{_>>=_, ifIdentifier}
 use Rattle.calculus.proofs.Laws.Maps.{none-is-not-some, some-is-not-none}
 use Rattle.workspace.specs.Layout.{ruleOf, codeOf, printed, shapeOf}
 use Rattle.threads.specs.declared.Record.{Record}
@@ -27,39 +27,38 @@ use Rattle.threads.specs.Threads.{isRunning, runs}
 use Rattle.replay_control.specs.Layout.{finish}
 use Rattle.replay_control.specs.declared.ControlPoint.{ControlPoint}
 use Rattle.replay_control.specs.Shapes.{shapeAt, isWrite, isIf}
-use Rattle.replay_control.specs.Control.{continuation, second as secondAt, readyAt, stoppedAt, unrolledAt}
+use Rattle.replay_control.specs.Control.{second as secondAt, readyAt, stoppedAt, unrolledAt}
 use Rattle.replay_objects.specs.declared.Slot.{Slot}
 use Rattle.replay_objects.specs.declared.StepEffect.the-variants as used
 use Rattle.replay_engine.specs.declared.Outcome.the-variants.{Stuck}
-use Rattle.replay_objects.specs.Uses.{slot, spawnedOf, joinedOf, effectOf}
+use Rattle.replay_objects.specs.Uses.{spawnedOf, joinedOf, effectOf}
 use Rattle.replay_step.specs.Slots.{slotAt}
 use Rattle.replay_engine.specs.ControlPoints.{controlPointAt}
 use Rattle.replay_step.specs.Words.{subject, operand, effected, wordUsed, actedBy, acted}
 use Rattle.replay_engine.specs.Steps.{mayChoose, ending, actStep, afterAct, steppedFrom, stepped}
 use Rattle.replay_theory.specs.Trace.{TraceLine}
-use Rattle.replay_theory.specs.Run.{cells, kindMade, partOfIf, noChoice, unaryTraits, traits, partChosen, effect, oneMoreIf, thingsAfter}
+use Rattle.replay_theory.specs.Run.{partOfIf, noChoice, unaryTraits, traits, partChosen, effect, oneMoreIf, thingsAfter}
 use Rattle.replay_theory.proofs.Traits.{unary-plain}
 use Rattle.replay_theory.specs.Replay.{Outcome, checkLimits}
 use Rattle.replay_machine.specs.Environment.{Env}
 use Rattle.replay_machine.specs.Control as machine
-use Rattle.replay_machine.specs.Control.{Frame, letWord, ifWord, whileWord, spawnWord, writeWord, unaryWord, nullaryWord, unrolledWord, againWord, Control, done, at, redex, marks, openCalls}
-use Rattle.replay_machine.specs.State.{MachineThread, Machine, running}
+use Rattle.replay_machine.specs.Control.{Frame, letWord, ifWord, whileWord, spawnWord, writeWord, unaryWord, nullaryWord, unrolledWord, againWord, Control, done, at, redex}
+use Rattle.replay_machine.specs.State.{MachineThread, running}
 use Rattle.replay_machine.specs.Step.{step, stepUnary, stepWord}
 use Rattle.replay_machine.specs.Replay.{Replay, statusOf, wordOf, within, stepped as steppedOn}
-use Rattle.replay_simulation.proofs.Held.{codeValue, partWord, noPartWord, RowOf, Stands, Values, Frames, WordAt, placeOf}
+use Rattle.replay_simulation.proofs.Held.{codeValue, partWord, noPartWord, RowOf, Stands, WordAt}
 use Rattle.replay_simulation.proofs.Holds.{SlotIs, Holds}
 use Rattle.replay_simulation.proofs.Proceeding.{place-below}
-use Rattle.replay_simulation.proofs.Using.{Using, using-read, using-lock, using-unlock, using-post, using-wait, using-rdlock, using-rdunlock, using-wrlock, using-wrunlock, slotOf, Roomy}
-use Rattle.replay_simulation.proofs.Naming.{slot-decodes}
-use Rattle.replay_simulation.proofs.Moving.{Answered, thread-low}
+use Rattle.replay_simulation.proofs.Using.{Using, using-read, using-lock, using-unlock, using-post, using-wait, using-rdlock, using-rdunlock, using-wrlock, using-wrunlock, Roomy}
+use Rattle.replay_simulation.proofs.Naming.{slotOf, slot-decodes}
+use Rattle.replay_simulation.proofs.Moving.{Answered}
+use Rattle.replay_simulation.proofs.AtWord.{AtWord, Answers, Goes, at-word}
 use Rattle.replay_simulation.proofs.Alone.{let-goes, if-first, if-second, while-goes, again-goes, unrolled-first, unrolled-second}
 use Rattle.replay_simulation.proofs.Sharing.{part-goes, write-goes}
-use Rattle.replay_simulation.proofs.Making.{makerSlot, maker-acts, ref-acts, maker-kind, maker-slot, making-goes}
+use Rattle.replay_simulation.proofs.Making.{making-goes, maker-acts, ref-acts, ref-new, maker-new}
 use Rattle.replay_simulation.proofs.Joined.{joining-goes}
 use Rattle.replay_simulation.proofs.Spawned.{spawning-goes}
 use Rattle.replay_simulation.proofs.Called.{call-goes}
-use Rattle.replay_simulation.proofs.Finding.{frames-inside}
-use Rattle.replay_simulation.proofs.Advancing.{RowIn}
 
 -- ------------------------------------------------------------------ identifiers
 
@@ -98,196 +97,162 @@ refuses p f a b c = rw (ne-eqb (suc c) 0 (λ e. omega (arith, e))) (go (eqb (suc
     go true = rw (a, b)
     go false = refl
 
-module _ (p s : List ℕ) (T : Threads) (R : Replay) (t : ℕ) where
+too-large : (p : List ℕ) (f : ControlPoint) (c : ℕ) → mayChoose p f (suc (suc c)) ≡ false
+unfolding mayChoose
+too-large p f c = rw (ne-eqb (suc (suc c)) 0 (λ e. omega (arith, e)), ne-eqb (suc (suc c)) 1 (λ e. omega (arith, e)))
+
+stuck : (p s : List ℕ) (T : Threads) → Answered p (checkLimits within none) (ending Stuck T, s)
+unfolding checkLimits
+stuck p s T = refl
+
+module _ {p s : List ℕ} {T : Threads} {R : Replay} {t row tid : ℕ} {σ : Env} {w : machine.Word} {K : List Frame}
+    (A : AtWord p s T R t row tid σ w K) where
   -- what is left of a line once the word is known
-  abbrev Line : Redex → (Part → Option Machine) → Option Part → Outcome Replay
-  Line w g o = checkLimits within (o >>= λ part. g part >>= λ N. some (record { machine = N; things = thingsAfter (effect w) (R .things) }))
+  abbrev Line : Option Part → Outcome Replay
+  Line o =
+      checkLimits within (o >>= λ part. stepWord (R .machine) t tid σ K part w >>= λ N. some (record { machine = N; things = thingsAfter (effect (redex σ w)) (R .things) }))
 
-  stuck : Answered p (checkLimits within none) (ending Stuck T, s)
-  unfolding checkLimits
-  stuck = refl
+  abbrev WordLine : ControlPoint → ℕ → Type 0
+  WordLine f c = Answered p (Line (partChosen (redex σ w) c)) (steppedFrom p s T t f c)
 
-  choice-0 : (f : ControlPoint) (o : Outcome Replay) → Answered p o (afterAct p T t f (acted p s f 0)) → Answered p o (steppedFrom p s T t f 0)
+  -- the step that takes that part
+  abbrev Takes : Part → ControlPoint → ℕ → Type 0
+  Takes part f c = Answered p (Line (some part)) (afterAct p T t f (acted p s f c))
+
+  choice-0 : (f : ControlPoint) → partChosen (redex σ w) 0 ≡ some first → Takes first f 0 → WordLine f 0
   unfolding steppedFrom mayChoose
-  choice-0 f o G = G
+  choice-0 f e G = subst (λ (o : Option Part). Answered p (Line o) (steppedFrom p s T t f 0)) (sym e) G
 
-  choice-1 : (f : ControlPoint) (o : Outcome Replay) → mayChoose p f 1 ≡ true → Answered p o (afterAct p T t f (acted p s f 1)) → Answered p o (steppedFrom p s T t f 1)
+  choice-1 : (f : ControlPoint) → partChosen (redex σ w) 1 ≡ some second → mayChoose p f 1 ≡ true → Takes second f 1 → WordLine f 1
   unfolding steppedFrom
-  choice-1 f o h G = rw h G
+  choice-1 f e h G = subst (λ (o : Option Part). Answered p (Line o) (steppedFrom p s T t f 1)) (sym e) (rw h G)
 
-  choice-none : (f : ControlPoint) (c : ℕ) (w : Redex) (g : Part → Option Machine) (o : Option Part) → o ≡ none → mayChoose p f c ≡ false → Answered p (Line w g o) (steppedFrom p s T t f c)
+  choice-none : (f : ControlPoint) (c : ℕ) → partChosen (redex σ w) c ≡ none → mayChoose p f c ≡ false → WordLine f c
   unfolding steppedFrom
-  choice-none f c w g o e h = rw (h, e) stuck
-
-  too-large : (f : ControlPoint) (c : ℕ) → mayChoose p f (suc (suc c)) ≡ false
-  unfolding mayChoose
-  too-large f c = rw (ne-eqb (suc (suc c)) 0 (λ e. omega (arith, e)), ne-eqb (suc (suc c)) 1 (λ e. omega (arith, e)))
+  choice-none f c e h = rw (h, e) (stuck p s T)
 
   -- a word with nothing to choose
-  plain : (w : Redex) (g : Part → Option Machine) (f : ControlPoint) → ((c : ℕ) → partChosen w c ≡ noChoice c) → eqb (f .mode) 4 ≡ false → isIf (shapeAt p (f .at)) ≡ false →
-      Answered p (Line w g (some first)) (afterAct p T t f (acted p s f 0)) → (c : ℕ) → Answered p (Line w g (partChosen w c)) (steppedFrom p s T t f c)
+  plain : {f g : ControlPoint} → f ≡ g → ((c : ℕ) → partChosen (redex σ w) c ≡ noChoice c) → eqb (g .mode) 4 ≡ false →
+      isIf (shapeAt p (g .at)) ≡ false → Takes first g 0 → (c : ℕ) → WordLine f c
   unfolding noChoice
-  plain w g f is a b G zero = subst (λ (o : Option Part). Answered p (Line w g o) (steppedFrom p s T t f 0)) (sym (is 0)) (choice-0 f (Line w g (some first)) G)
-  plain w g f is a b G (suc c) = choice-none f (suc c) w g (partChosen w (suc c)) (is (suc c)) (refuses p f a b c)
+  plain {g = g} z is a b G c = subst (λ (h : ControlPoint). WordLine h c) (sym z) (by-choice c)
+    where
+      by-choice : (c : ℕ) → WordLine g c
+      by-choice zero = choice-0 g (is 0) G
+      by-choice (suc c) = choice-none g (suc c) (is (suc c)) (refuses p g a b c)
 
   -- an `if`
-  either : (w : Redex) (g : Part → Option Machine) (f : ControlPoint) → ((c : ℕ) → partChosen w c ≡ partOfIf c) → mayChoose p f 1 ≡ true →
-      Answered p (Line w g (some first)) (afterAct p T t f (acted p s f 0)) → Answered p (Line w g (some second)) (afterAct p T t f (acted p s f 1)) →
-      (c : ℕ) → Answered p (Line w g (partChosen w c)) (steppedFrom p s T t f c)
+  either : {f g : ControlPoint} → f ≡ g → ((c : ℕ) → partChosen (redex σ w) c ≡ partOfIf c) → mayChoose p g 1 ≡ true →
+      Takes first g 0 → Takes second g 1 → (c : ℕ) → WordLine f c
   unfolding partOfIf
-  either w g f is a G₁ G₂ zero = subst (λ (o : Option Part). Answered p (Line w g o) (steppedFrom p s T t f 0)) (sym (is 0)) (choice-0 f (Line w g (some first)) G₁)
-  either w g f is a G₁ G₂ (suc zero) = subst (λ (o : Option Part). Answered p (Line w g o) (steppedFrom p s T t f 1)) (sym (is 1)) (choice-1 f (Line w g (some second)) a G₂)
-  either w g f is a G₁ G₂ (suc (suc c)) = choice-none f (suc (suc c)) w g (partChosen w (suc (suc c))) (is (suc (suc c))) (too-large f c)
-
--- ------------------------------------------------------------------ words
-
-module _ (p s : List ℕ) (T : Threads) (R : Replay) (t tid : ℕ) (σ : Env) (K : List Frame) (H : Holds p s T R) (roomy : (n : ℕ) → Roomy (R .machine .names n)) (low : t < 16) (row : ℕ) (inside : RowIn t row) (few : marks K ≤ 64) (values : Values p s row σ) where
-  abbrev M : Machine
-  M = R .machine
-
-  abbrev There : machine.Word → Type 0
-  There w = getElem? (M .threads) t ≡ some (running tid (at σ w K))
-
-  abbrev WordLine : machine.Word → ControlPoint → ℕ → Type 0
-  WordLine w f c = Answered p (Line p s T R t (redex σ w) (λ part. stepWord M t tid σ K part w) (partChosen (redex σ w) c)) (steppedFrom p s T t f c)
+  either {g = g} z is a G₁ G₂ c = subst (λ (h : ControlPoint). WordLine h c) (sym z) (by-choice c)
+    where
+      by-choice : (c : ℕ) → WordLine g c
+      by-choice zero = choice-0 g (is 0) G₁
+      by-choice (suc zero) = choice-1 g (is 1) a G₂
+      by-choice (suc (suc c)) = choice-none g (suc (suc c)) (is (suc (suc c))) (too-large p g c)
 
   -- a join, or a spawn, of what is no identifier
-  no-identifier : (f : ControlPoint) (k v : ℕ) → Answered p (checkLimits within none) (afterAct p T t f (effected p s row k v used.Stuck))
+  no-identifier : (f : ControlPoint) (k v : ℕ) → Answers A f none (effected p s row k v used.Stuck)
   unfolding checkLimits afterAct effected actStep
   no-identifier f k v = refl
 
-  told : (v : Value) → SlotIs (slotAt s (codeValue v)) (slotOf M t tid σ K v)
-  told (int k) = slot-decodes (H .names) (int k)
-  told (name m) = slot-decodes (H .names) (name m)
+-- ------------------------------------------------------------------ words
 
-  join-goes : (q : Position) {m : ℕ} (v : Value) → RowOf p q (Unary Join) m → Frames p s t row (q .index) (continuation p (q .index)) K → There (unaryWord q join v) →
-      Answered p (checkLimits within (stepUnary M t tid σ K join v >>= λ N. some (record { machine = N; things = R .things }))) (afterAct p T t (readyAt row (q .index) (codeValue v)) (acted p s (readyAt row (q .index) (codeValue v)) 0))
+-- no `if`
+no-if : {p : List ℕ} (q : Position) (w : Word) {v : ℕ} → RowOf p q w v → isIf (shapeOf (ruleOf (codeOf w))) ≡ false → isIf (shapeAt p (q .index)) ≡ false
+unfolding shapeAt
+no-if q w r h = rw (r .code) h
+
+maker-no-if : (o : calculus.Nullary) → isIf (shapeOf (ruleOf (codeOf (Leaf (noPartWord o))))) ≡ false
+unfolding isIf ruleOf printed
+maker-no-if calculus.newtid = refl
+maker-no-if calculus.newlock = refl
+maker-no-if calculus.newsem = refl
+maker-no-if (calculus.newrwlock N) = refl
+
+at-if : {p : List ℕ} (row : ℕ) (q : Position) {v : ℕ} → RowOf p q (Binary If) v → mayChoose p (stoppedAt row (q .index)) 1 ≡ true
+unfolding mayChoose shapeAt isIf ruleOf printed
+at-if row q r = rw (r .code)
+
+at-unrolled : (p : List ℕ) (row : ℕ) (q : Position) → mayChoose p (unrolledAt row (q .index)) 1 ≡ true
+unfolding mayChoose
+at-unrolled p row q = refl
+
+roomy-value : (names : ℕ → state.Slot) → ((n : ℕ) → Roomy (names n)) → (v : Value) → Roomy (slotOf names v)
+roomy-value names roomy (int k) = tt
+roomy-value names roomy (name n) = roomy n
+
+module _ {p s : List ℕ} {T : Threads} {R : Replay} {t row tid : ℕ} {σ : Env} {K : List Frame} where
+  join-goes : {q : Position} {m : ℕ} (v : Value) (A : AtWord p s T R t row tid σ (unaryWord q join v) K) → RowOf p q (Unary Join) m →
+      Goes A first (readyAt row (q .index) (codeValue v)) 0
   unfolding afterAct effected actStep
-  join-goes q v r F there = rw (join-acts p s row 0 (codeValue v) r) (by-value v there)
+  join-goes {q} (int k) A r =
+      rw (join-acts p s row 0 0 r) (constant (identified (slotAt s 0) unused (slot-decodes (A .holds .names) (int k))))
     where
-      by-value : (v : Value) → There (unaryWord q join v) →
-          Answered p (checkLimits within (stepUnary M t tid σ K join v >>= λ N. some (record { machine = N; things = R .things }))) (afterAct p T t (readyAt row (q .index) (codeValue v)) (effected p s row (q .index) (codeValue v) (joinedOf (slotAt s (codeValue v)))))
-      by-value (int k) there = constant (identified (slotAt s 0) unused (told (int k)))
-        where
-          constant : Identified (slotAt s 0) unused → Answered p (checkLimits within none) (afterAct p T t (readyAt row (q .index) 0) (effected p s row (q .index) 0 (joinedOf (slotAt s 0))))
-          constant (is-one a b c) = none-is-not-some a
-          constant (is-none a b c) = rw b (no-identifier (readyAt row (q .index) 0) (q .index) 0)
-      by-value (name n) there = by-slot (identified (slotAt s (suc n)) (M .names n) (told (name n)))
-        where
-          by-slot : Identified (slotAt s (suc n)) (M .names n) →
-              Answered p (checkLimits within (stepUnary M t tid σ K join (name n) >>= λ N. some (record { machine = N; things = R .things }))) (afterAct p T t (readyAt row (q .index) (suc n)) (effected p s row (q .index) (suc n) (joinedOf (slotAt s (suc n)))))
-          by-slot (is-one a b c) = rw (a, b) (joining-goes p s T R t tid σ K H low row inside values q n F there)
-          by-slot (is-none a b c) = rw (a, b) (no-identifier (readyAt row (q .index) (suc n)) (q .index) (suc n))
+      constant : Identified (slotAt s 0) unused → Answers A (readyAt row (q .index) 0) none (effected p s row (q .index) 0 (joinedOf (slotAt s 0)))
+      constant (is-one a b c) = none-is-not-some a
+      constant (is-none a b c) = rw b (no-identifier A (readyAt row (q .index) 0) (q .index) 0)
+  join-goes {q} (name n) A r =
+      rw (join-acts p s row 0 (suc n) r) (by-slot (identified (slotAt s (suc n)) (R .machine .names n) (slot-decodes (A .holds .names) (name n))))
+    where
+      by-slot : Identified (slotAt s (suc n)) (R .machine .names n) →
+          Answers A (readyAt row (q .index) (suc n)) (stepUnary (R .machine) t tid σ K join (name n)) (effected p s row (q .index) (suc n) (joinedOf (slotAt s (suc n))))
+      by-slot (is-one a b c) = rw (a, b) (joining-goes A)
+      by-slot (is-none a b c) = rw (a, b) (no-identifier A (readyAt row (q .index) (suc n)) (q .index) (suc n))
 
-  spawn-goes : (q : Position) {m : ℕ} (v : Value) (e : Expr) → RowOf p q (Binary Spawn) m → Stands p finish (secondAt p (q .index)) e → Frames p s t row (q .index) (continuation p (q .index)) K → There (spawnWord q v e) →
-      Answered p (checkLimits within (stepWord M t tid σ K first (spawnWord q v e) >>= λ N. some (record { machine = N; things = R .things }))) (afterAct p T t (readyAt row (q .index) (codeValue v)) (acted p s (readyAt row (q .index) (codeValue v)) 0))
+  spawn-goes : {q : Position} {m : ℕ} (v : Value) {e : Expr} (A : AtWord p s T R t row tid σ (spawnWord q v e) K) → RowOf p q (Binary Spawn) m →
+      Stands p finish (secondAt p (q .index)) e → Goes A first (readyAt row (q .index) (codeValue v)) 0
   unfolding afterAct effected actStep
-  spawn-goes q v e r S F there = rw (spawn-acts p s row 0 (codeValue v) r) (by-value v there)
+  spawn-goes {q} (int k) A r S =
+      rw (spawn-acts p s row 0 0 r) (constant (identified (slotAt s 0) unused (slot-decodes (A .holds .names) (int k))))
     where
-      by-value : (v : Value) → There (spawnWord q v e) →
-          Answered p (checkLimits within (stepWord M t tid σ K first (spawnWord q v e) >>= λ N. some (record { machine = N; things = R .things }))) (afterAct p T t (readyAt row (q .index) (codeValue v)) (effected p s row (q .index) (codeValue v) (spawnedOf (slotAt s (codeValue v)))))
-      by-value (int k) there = constant (identified (slotAt s 0) unused (told (int k)))
-        where
-          constant : Identified (slotAt s 0) unused → Answered p (checkLimits within none) (afterAct p T t (readyAt row (q .index) 0) (effected p s row (q .index) 0 (spawnedOf (slotAt s 0))))
-          constant (is-one a b c) = none-is-not-some a
-          constant (is-none a b c) = rw c (no-identifier (readyAt row (q .index) 0) (q .index) 0)
-      by-value (name n) there = by-slot (identified (slotAt s (suc n)) (M .names n) (told (name n)))
-        where
-          by-slot : Identified (slotAt s (suc n)) (M .names n) →
-              Answered p (checkLimits within (stepWord M t tid σ K first (spawnWord q (name n) e) >>= λ N. some (record { machine = N; things = R .things }))) (afterAct p T t (readyAt row (q .index) (suc n)) (effected p s row (q .index) (suc n) (spawnedOf (slotAt s (suc n)))))
-          by-slot (is-one a b c) = rw (a, c) (spawning-goes p s T R t tid σ K H low row inside values q n e r S F there)
-          by-slot (is-none a b c) = rw (a, c) (no-identifier (readyAt row (q .index) (suc n)) (q .index) (suc n))
+      constant : Identified (slotAt s 0) unused → Answers A (readyAt row (q .index) 0) none (effected p s row (q .index) 0 (spawnedOf (slotAt s 0)))
+      constant (is-one a b c) = none-is-not-some a
+      constant (is-none a b c) = rw c (no-identifier A (readyAt row (q .index) 0) (q .index) 0)
+  spawn-goes {q} (name n) {e} A r S =
+      rw (spawn-acts p s row 0 (suc n) r) (by-slot (identified (slotAt s (suc n)) (R .machine .names n) (slot-decodes (A .holds .names) (name n))))
+    where
+      by-slot : Identified (slotAt s (suc n)) (R .machine .names n) →
+          Answers A (readyAt row (q .index) (suc n)) (stepWord (R .machine) t tid σ K first (spawnWord q (name n) e)) (effected p s row (q .index) (suc n) (spawnedOf (slotAt s (suc n))))
+      by-slot (is-one a b c) = rw (a, c) (spawning-goes A r S)
+      by-slot (is-none a b c) = rw (a, c) (no-identifier A (readyAt row (q .index) (suc n)) (q .index) (suc n))
 
-  -- no `if`
-  no-if : (q : Position) (w : Word) {v : ℕ} → RowOf p q w v → isIf (shapeOf (ruleOf (codeOf w))) ≡ false → isIf (shapeAt p (q .index)) ≡ false
-  unfolding shapeAt
-  no-if q w r h = rw (r .code) h
+  module _ (roomy : (n : ℕ) → Roomy (R .machine .names n)) where
+    -- a word with one part that uses what its part names
+    uses : {o : calculus.Unary} → Using o → isIf (shapeOf (ruleOf (codeOf (Unary (partWord o))))) ≡ false → ((v : Value) → thingsAfter (unaryTraits o v .effect) (R .things) ≡ R .things) →
+        {q : Position} {v : Value} {f : ControlPoint} → WordAt p s row f (unaryWord q o v) → (A : AtWord p s T R t row tid σ (unaryWord q o v) K) (c : ℕ) → WordLine A f c
+    unfolding traits
+    uses {o} u h same {q} {v} (z, n, r, N) A c =
+        plain A z (λ c. ap (λ (part : ℕ → Option Part). part c) (unary-plain o v .0)) refl (no-if q (Unary (partWord o)) r h)
+        (rw (same v) (part-goes A u r (roomy-value (R .machine .names) roomy v))) c
 
-  roomy-value : (v : Value) → Roomy (slotOf M t tid σ K v)
-  roomy-value (int k) = tt
-  roomy-value (name n) = roomy n
-
-  -- a word with one part that uses what its part names
-  uses : (o : calculus.Unary) → Using o → isIf (shapeOf (ruleOf (codeOf (Unary (partWord o))))) ≡ false → ((v : Value) → thingsAfter (unaryTraits o v .effect) (R .things) ≡ R .things) →
-      (q : Position) (v : Value) (f : ControlPoint) → WordAt p s row f (unaryWord q o v) → Frames p s t row (q .index) (continuation p (q .index)) K → There (unaryWord q o v) → (c : ℕ) → WordLine (unaryWord q o v) f c
-  unfolding traits
-  uses o u h same q v f (e, n, r, N) F there c =
-      subst (λ (g : ControlPoint). WordLine (unaryWord q o v) g c) (sym e)
-      (plain p s T R t (redex σ (unaryWord q o v)) (λ part. stepWord M t tid σ K part (unaryWord q o v)) (readyAt row (q .index) (codeValue v)) (λ c. ap (λ (part : ℕ → Option Part). part c) (unary-plain o v .0)) refl (no-if q (Unary (partWord o)) r h)
-      (rw (same v) (part-goes p s T R t tid σ K H low row inside values 0 q F o u v r (roomy-value v) there)) c)
-
-  at-if : (q : Position) {v : ℕ} → RowOf p q (Binary If) v → mayChoose p (stoppedAt row (q .index)) 1 ≡ true
-  unfolding mayChoose shapeAt isIf ruleOf printed
-  at-if q r = rw (r .code)
-
-  at-unrolled : (q : Position) → mayChoose p (unrolledAt row (q .index)) 1 ≡ true
-  unfolding mayChoose
-  at-unrolled q = refl
-
-  maker-no-if : (o : calculus.Nullary) → isIf (shapeOf (ruleOf (codeOf (Leaf (noPartWord o))))) ≡ false
-  unfolding isIf ruleOf printed
-  maker-no-if calculus.newtid = refl
-  maker-no-if calculus.newlock = refl
-  maker-no-if calculus.newsem = refl
-  maker-no-if (calculus.newrwlock N) = refl
-
-  word-goes : (w : machine.Word) (f : ControlPoint) → WordAt p s row f w → Frames p s t row (placeOf p s w) (continuation p (placeOf p s w)) K → There w → (c : ℕ) → WordLine w f c
-  unfolding unaryTraits traits oneMoreIf thingsAfter isIf ruleOf printed
-  word-goes (letWord q x v e) f (z, r, S) F there c =
-      subst (λ (g : ControlPoint). WordLine (letWord q x v e) g c) (sym z)
-      (plain p s T R t (redex σ (letWord q x v e)) (λ part. stepWord M t tid σ K part (letWord q x v e)) (readyAt row (q .index) (codeValue v)) (λ c. refl) refl (no-if q (Binary Let) r refl)
-      (let-goes p s T R t tid σ K H low row inside values q x v e r S F 0 there) c)
-  word-goes (ifWord q e₁ e₂) f (z, n, r, S₁, S₂) F there c =
-      subst (λ (g : ControlPoint). WordLine (ifWord q e₁ e₂) g c) (sym z)
-      (either p s T R t (redex σ (ifWord q e₁ e₂)) (λ part. stepWord M t tid σ K part (ifWord q e₁ e₂)) (stoppedAt row (q .index)) (λ c. refl) (at-if q r)
-      (if-first p s T R t tid σ K H low row inside values q e₁ e₂ r S₁ S₂ F there) (if-second p s T R t tid σ K H low row inside values q e₁ e₂ r S₁ S₂ F there) c)
-  word-goes (whileWord q e) f (z, n, r, S) F there c =
-      subst (λ (g : ControlPoint). WordLine (whileWord q e) g c) (sym z)
-      (plain p s T R t (redex σ (whileWord q e)) (λ part. stepWord M t tid σ K part (whileWord q e)) (stoppedAt row (q .index)) (λ c. refl) refl (no-if q (Unary While) r refl)
-      (while-goes p s T R t tid σ K H low row inside values q e r S F 0 there) c)
-  word-goes (spawnWord q v e) f (z, n, r, S) F there c =
-      subst (λ (g : ControlPoint). WordLine (spawnWord q v e) g c) (sym z)
-      (plain p s T R t (redex σ (spawnWord q v e)) (λ part. stepWord M t tid σ K part (spawnWord q v e)) (readyAt row (q .index) (codeValue v)) (λ c. refl) refl (no-if q (Binary Spawn) r refl)
-      (spawn-goes q v e r S F there) c)
-  word-goes (writeWord q v w) f (z, n, r, held) F there c =
-      subst (λ (g : ControlPoint). WordLine (writeWord q v w) g c) (sym z)
-      (plain p s T R t (redex σ (writeWord q v w)) (λ part. stepWord M t tid σ K part (writeWord q v w)) (readyAt row (q .index) (codeValue w)) (λ c. refl) refl (no-if q (Binary Write) r refl)
-      (write-goes p s T R t tid σ K H low row inside values 0 q F v w r held there) c)
-  word-goes (unaryWord q join v) f (z, n, r, N) F there c =
-      subst (λ (g : ControlPoint). WordLine (unaryWord q join v) g c) (sym z)
-      (plain p s T R t (redex σ (unaryWord q join v)) (λ part. stepWord M t tid σ K part (unaryWord q join v)) (readyAt row (q .index) (codeValue v)) (λ c. refl) refl (no-if q (Unary Join) r refl)
-      (join-goes q v r F there) c)
-  word-goes (unaryWord q ref v) f (z, n, r, N) F there c =
-      subst (λ (g : ControlPoint). WordLine (unaryWord q ref v) g c) (sym z)
-      (plain p s T R t (redex σ (unaryWord q ref v)) (λ part. stepWord M t tid σ K part (unaryWord q ref v)) (readyAt row (q .index) (codeValue v)) (λ c. refl) refl (no-if q (Unary Ref) r refl)
-      (rw (ref-acts p s row 0 (codeValue v) r)
-      (making-goes p s T R t tid σ K H low row inside values (unaryWord q ref v) (readyAt row (q .index) (codeValue v)) (q .index) (r .below) F there cells (slot 2 (codeValue v) 0) (cell v) refl (refl, refl))) c)
-  word-goes (unaryWord q read v) f W F there c = uses read using-read refl (λ v. refl) q v f W F there c
-  word-goes (unaryWord q lock v) f W F there c = uses lock using-lock refl (λ v. refl) q v f W F there c
-  word-goes (unaryWord q unlock v) f W F there c = uses unlock using-unlock refl (λ v. refl) q v f W F there c
-  word-goes (unaryWord q post v) f W F there c = uses post using-post refl (λ v. refl) q v f W F there c
-  word-goes (unaryWord q wait v) f W F there c = uses wait using-wait refl (λ v. refl) q v f W F there c
-  word-goes (unaryWord q (hold rdlock) v) f W F there c = uses (hold rdlock) using-rdlock refl (λ v. refl) q v f W F there c
-  word-goes (unaryWord q (hold rdunlock) v) f W F there c = uses (hold rdunlock) using-rdunlock refl (λ v. refl) q v f W F there c
-  word-goes (unaryWord q (hold wrlock) v) f W F there c = uses (hold wrlock) using-wrlock refl (λ v. refl) q v f W F there c
-  word-goes (unaryWord q (hold wrunlock) v) f W F there c = uses (hold wrunlock) using-wrunlock refl (λ v. refl) q v f W F there c
-  word-goes (unaryWord q (call g) v) f (z, n, r, N) F there c =
-      subst (λ (h : ControlPoint). WordLine (unaryWord q (call g) v) h c) (sym z)
-      (plain p s T R t (redex σ (unaryWord q (call g) v)) (λ part. stepWord M t tid σ K part (unaryWord q (call g) v)) (readyAt row (q .index) (codeValue v)) (λ c. refl) refl (no-if q (Unary Call) r refl)
-      (call-goes p s T R t tid σ K H low row inside few values q g v r N F there) c)
-  word-goes (nullaryWord q o) f (z, n, r, N) F there c =
-      subst (λ (g : ControlPoint). WordLine (nullaryWord q o) g c) (sym z)
-      (plain p s T R t (redex σ (nullaryWord q o)) (λ part. stepWord M t tid σ K part (nullaryWord q o)) (stoppedAt row (q .index)) (λ c. refl) refl (no-if q (Leaf (noPartWord o)) r (maker-no-if o))
-      (rw (maker-acts p s row 0 o N r)
-      (making-goes p s T R t tid σ K H low row inside values (nullaryWord q o) (stoppedAt row (q .index)) (q .index) (r .below) F there (kindMade o) (makerSlot o) (made o) (maker-kind o) (maker-slot o))) c)
-  word-goes (unrolledWord q e) f (z, n, r, S) F there c =
-      subst (λ (g : ControlPoint). WordLine (unrolledWord q e) g c) (sym z)
-      (either p s T R t (redex σ (unrolledWord q e)) (λ part. stepWord M t tid σ K part (unrolledWord q e)) (unrolledAt row (q .index)) (λ c. refl) (at-unrolled q)
-      (unrolled-first p s T R t tid σ K H low row inside values q e r S F there) (unrolled-second p s T R t tid σ K H low row inside values q e r S F there) c)
-  word-goes (againWord q v e) f (z, n, r, S) F there c =
-      subst (λ (g : ControlPoint). WordLine (againWord q v e) g c) (sym z)
-      (plain p s T R t (redex σ (againWord q v e)) (λ part. stepWord M t tid σ K part (againWord q v e)) (readyAt row (q .index) (codeValue v)) (λ c. refl) refl (no-if q (Unary While) r refl)
-      (again-goes p s T R t tid σ K H low row inside values q e r S F 0 v there) c)
+    word-goes : (w : machine.Word) (f : ControlPoint) → WordAt p s row f w → (A : AtWord p s T R t row tid σ w K) (c : ℕ) → WordLine A f c
+    unfolding unaryTraits traits oneMoreIf thingsAfter isIf ruleOf printed
+    word-goes (letWord q x v e) f (z, r, S) A c = plain A z (λ c. refl) refl (no-if q (Binary Let) r refl) (let-goes A r S) c
+    word-goes (ifWord q e₁ e₂) f (z, n, r, S₁, S₂) A c = either A z (λ c. refl) (at-if row q r) (if-first A r S₁) (if-second A r S₂) c
+    word-goes (whileWord q e) f (z, n, r, S) A c = plain A z (λ c. refl) refl (no-if q (Unary While) r refl) (while-goes r S A) c
+    word-goes (spawnWord q v e) f (z, n, r, S) A c = plain A z (λ c. refl) refl (no-if q (Binary Spawn) r refl) (spawn-goes v A r S) c
+    word-goes (writeWord q v w) f (z, n, r, held) A c = plain A z (λ c. refl) refl (no-if q (Binary Write) r refl) (write-goes A r held) c
+    word-goes (unaryWord q join v) f (z, n, r, N) A c = plain A z (λ c. refl) refl (no-if q (Unary Join) r refl) (join-goes v A r) c
+    word-goes (unaryWord q ref v) f (z, n, r, N) A c =
+        plain A z (λ c. refl) refl (no-if q (Unary Ref) r refl)
+        (rw (ref-acts p s row 0 (codeValue v) r) (making-goes A (r .below) (ref-new v) (readyAt row (q .index) (codeValue v)))) c
+    word-goes (unaryWord q read v) f W A c = uses using-read refl (λ v. refl) W A c
+    word-goes (unaryWord q lock v) f W A c = uses using-lock refl (λ v. refl) W A c
+    word-goes (unaryWord q unlock v) f W A c = uses using-unlock refl (λ v. refl) W A c
+    word-goes (unaryWord q post v) f W A c = uses using-post refl (λ v. refl) W A c
+    word-goes (unaryWord q wait v) f W A c = uses using-wait refl (λ v. refl) W A c
+    word-goes (unaryWord q (hold rdlock) v) f W A c = uses using-rdlock refl (λ v. refl) W A c
+    word-goes (unaryWord q (hold rdunlock) v) f W A c = uses using-rdunlock refl (λ v. refl) W A c
+    word-goes (unaryWord q (hold wrlock) v) f W A c = uses using-wrlock refl (λ v. refl) W A c
+    word-goes (unaryWord q (hold wrunlock) v) f W A c = uses using-wrunlock refl (λ v. refl) W A c
+    word-goes (unaryWord q (call g) v) f (z, n, r, N) A c = plain A z (λ c. refl) refl (no-if q (Unary Call) r refl) (call-goes A r N) c
+    word-goes (nullaryWord q o) f (z, n, r, N) A c =
+        plain A z (λ c. refl) refl (no-if q (Leaf (noPartWord o)) r (maker-no-if o))
+        (rw (maker-acts p s row 0 o N r) (making-goes A (r .below) (maker-new o) (stoppedAt row (q .index)))) c
+    word-goes (unrolledWord q e) f (z, n, r, S) A c = either A z (λ c. refl) (at-unrolled p row q) (unrolled-first r S A) (unrolled-second r S A) c
+    word-goes (againWord q v e) f (z, n, r, S) A c = plain A z (λ c. refl) refl (no-if q (Unary While) r refl) (again-goes r S A) c
 
 -- ------------------------------------------------------------------ a step
 
@@ -319,16 +284,12 @@ module _ (p s : List ℕ) (T : Threads) (R : Replay) (H : Holds p s T R) (roomy 
   -- a line of a thread that has no word
   no-word : runs T t ≡ false → steppedOn R line ≡ none → Answered p (checkLimits within (steppedOn R line)) (stepped p s T t c)
   unfolding stepped
-  no-word h e = rw (h, e) (stuck p s T R t)
+  no-word h e = rw (h, e) (stuck p s T)
 
   has-word : (tid : ℕ) (σ : Env) (w : machine.Word) (K : List Frame) → getElem? ts t ≡ some (running tid (at σ w K)) → Answered p (checkLimits within (steppedOn R line)) (stepped p s T t c)
-  unfolding stepped steppedOn wordOf step isRunning openCalls
+  unfolding stepped steppedOn wordOf step isRunning
   has-word tid σ w K there =
-      let held = H .threads t (running tid (at σ w K)) there in
-      let (values, W, F) = held .control in
-      let few : marks K ≤ 64 = held .calls in
-      let inside = frames-inside p t s K (controlPointAt s t .row) (placeOf p s w) (continuation p (placeOf p s w)) (omega (arith, few)) F in
-      rw (runs-decodes (running tid (at σ w K)) there, there) (word-goes p s T R t tid σ K H roomy (thread-low p s T R t (running tid (at σ w K)) H there) (controlPointAt s t .row) inside few values w (controlPointAt s t) W F there c)
+      rw (runs-decodes (running tid (at σ w K)) there, there) (word-goes roomy w (controlPointAt s t) (H .threads t (running tid (at σ w K)) there .control .1) (at-word H there) c)
 
   joined-wordless : (tid : ℕ) (d : Control) → getElem? ts t ≡ some (record { tid = tid; joined = true; control = d }) → steppedOn R line ≡ none
   unfolding steppedOn wordOf

@@ -24,6 +24,7 @@ use Rattle.replay_machine.specs.State.{Machine}
 use Rattle.replay_machine.specs.Step.{gives, leaves, stepUnary}
 use Rattle.replay_simulation.proofs.Held.{codeValue, partWord}
 use Rattle.replay_simulation.proofs.Holds.{SlotIs}
+use Rattle.replay_simulation.proofs.Naming.{slotOf}
 
 -- ------------------------------------------------------------------ in the machine
 
@@ -54,6 +55,10 @@ useOf post sl = count sl >>= λ c. some (left (semaphore (suc c)))
 useOf wait sl = count sl >>= λ c. oneLess c >>= λ d. some (left (semaphore d))
 useOf (calculus.call f) sl = none
 useOf (hold w) sl = rwState sl >>= λ (N, i). insideAfter N w i >>= λ after. some (left (rwlock N after))
+
+abbrev pub nameIn : Value → ℕ
+nameIn (int k) = 0
+nameIn (name n) = n
 
 module _ (M : Machine) (i tid : ℕ) (σ : Env) (K : List Frame) where
   abbrev pub usedTo : (n : ℕ) → Use → Machine
@@ -117,16 +122,7 @@ module _ (M : Machine) (i tid : ℕ) (σ : Env) (K : List Frame) where
   hold-asks w n (semaphore c) = refl
   hold-asks w n (rwlock N x) = inside-asks w n N (insideAfter N w x)
 
-  -- the slot that a value names: a constant names nothing
-  abbrev pub slotOf : Value → state.Slot
-  slotOf (int k) = unused
-  slotOf (name n) = M .names n
-
-  abbrev pub nameIn : Value → ℕ
-  nameIn (int k) = 0
-  nameIn (name n) = n
-
-  pub step-asks : (o : calculus.Unary) → Using o → (v : Value) → stepUnary M i tid σ K o v ≡ Asked o (nameIn v) (slotOf v)
+  pub step-asks : (o : calculus.Unary) → Using o → (v : Value) → stepUnary M i tid σ K o v ≡ Asked o (nameIn v) (slotOf (M .names) v)
   step-asks read using-read (int k) = refl
   step-asks read using-read (name n) = read-asks n (M .names n)
   step-asks lock using-lock (int k) = refl

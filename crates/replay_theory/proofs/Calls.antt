@@ -19,34 +19,69 @@ use Rattle.replay_theory.specs.Claim.{Runs, BodyGoesOn}
 no-word : {A : Type 0} {n : Next} {r : Redex} → wordOf n ≡ none → n ≡ atWord r → A
 no-word silent h = none-is-not-some (sym silent ∙ ap wordOf h)
 
+-- ---- A word that waits for a part
+
+-- `around E` wants its part E, which is its part c, to be a value. Then `next` comes, at the path `here`.
+record Wants (around : Exp → Exp) (c : Part) (next : Value → Next) (here : Path) : Type 0 where
+  part : (E : Exp) (p : Path) → partAt (c ∷ p) (around E) ≡ partAt p E
+  word : (E : Exp) → nextWord (around E) ≡ once (nextWord E) next
+  path-to : (E : Exp) → nextPath (around E) ≡ path.pathOnce (nextWord E) here (c ∷ nextPath E)
+
+let-wants : (x : ℕ) (e₂ : Exp) → Wants (λ E. letIn x E e₂) first (λ v. atWord (letRedex x v e₂)) []
+unfolding partAt partOf nextPath
+let-wants x e₂ = record { part = λ E p. refl; word = λ E. refl; path-to = λ E. refl }
+
+spawn-wants : (e₂ : Exp) → Wants (λ E. spawn E e₂) first (λ v. atWord (spawnRedex v e₂)) []
+unfolding partAt partOf nextPath
+spawn-wants e₂ = record { part = λ E p. refl; word = λ E. refl; path-to = λ E. refl }
+
+unary-wants : (o : Unary) → Wants (λ E. unary o E) first (λ v. atWord (unaryRedex o v)) []
+unfolding partAt partOf onlyPart nextPath
+unary-wants o = record { part = λ E p. refl; word = λ E. refl; path-to = λ E. refl }
+
+first-wants : (e₂ : Exp) → Wants (λ E. write E e₂) first (λ v. once (nextWord e₂) λ w. atWord (writeRedex v w))
+    (path.pathOnce (nextWord e₂) [] (second ∷ nextPath e₂))
+unfolding partAt partOf nextPath
+first-wants e₂ = record { part = λ E p. refl; word = λ E. refl; path-to = λ E. refl }
+
+-- The second part of a `write`, once the first is a value.
+second-wants : (e₁ : Exp) (v : Value) → nextWord e₁ ≡ isValue v → Wants (λ E. write e₁ E) second (λ w. atWord (writeRedex v w)) []
+unfolding partAt partOf nextPath path.pathOnce
+second-wants e₁ v is = record {
+  part = λ E p. refl;
+  word = λ E. ap (λ (n : Next). once n λ u. once (nextWord E) λ w. atWord (writeRedex u w)) is;
+  path-to = λ E. ap (λ (n : Next). path.pathOnce n (path.pathOnce (nextWord E) [] (second ∷ nextPath E)) (first ∷ nextPath e₁)) is;
+}
+
 -- ---- The body is there
 
 module _ (b : Exp) where
-  -- A word that wants its part e to be a value: around e stands `around`, with e at part c.
-  in-part : (e : Exp) (around : Exp → Exp) (c : Part) (rest : Value → Next) → ((E : Exp) (p : Path) → partAt (c ∷ p) (around E) ≡ partAt p E) →
-      ((r : Redex) → nextWord e ≡ atWord r → partAt (nextPath e) (plug e b) ≡ some b) → (q : Next) → nextWord e ≡ q → (r : Redex) → once q rest ≡ atWord r →
-      (here : Path) (done : Exp) → ((v : Value) → rest v ≡ atWord r → partAt here done ≡ some b) →
-      partAt (path.pathOnce q here (c ∷ nextPath e)) (ifValue q done (around (plug e b))) ≡ some b
+  abbrev BodyThere : Exp → Type 0
+  BodyThere e = (r : Redex) → nextWord e ≡ atWord r → partAt (nextPath e) (plug e b) ≡ some b
+
+  in-part : {around : Exp → Exp} {c : Part} {next : Value → Next} {here : Path} (W : Wants around c next here) (e : Exp) → BodyThere e → (r : Redex) →
+      once (nextWord e) next ≡ atWord r → (done : Exp) → ((v : Value) → nextWord e ≡ isValue v → next v ≡ atWord r → partAt here done ≡ some b) →
+      partAt (path.pathOnce (nextWord e) here (c ∷ nextPath e)) (ifValue (nextWord e) done (around (plug e b))) ≡ some b
   unfolding path.pathOnce
-  in-part e around c rest into later (isValue v) is r h here done values = values v h
-  in-part e around c rest into later (atVariable x) is r h here done values = no-word refl h
-  in-part e around c rest into later (atWord w) is r h here done values = into (plug e b) (nextPath e) ∙ later w is
+  in-part {around} {c} {next} {here} W e later r h done values = by-next (nextWord e) refl h
+    where
+      by-next : (n : Next) → nextWord e ≡ n → once n next ≡ atWord r →
+          partAt (path.pathOnce n here (c ∷ nextPath e)) (ifValue n done (around (plug e b))) ≡ some b
+      by-next (isValue v) is h = values v is h
+      by-next (atVariable x) is h = no-word refl h
+      by-next (atWord w) is h = W .part (plug e b) (nextPath e) ∙ later w is
 
   pub body-is-there : (e : Exp) (r : Redex) → nextWord e ≡ atWord r → partAt (nextPath e) (plug e b) ≡ some b
-  unfolding nextPath partAt partOf onlyPart
+  unfolding nextPath partAt
   body-is-there (value v) r h = no-word refl h
   body-is-there (var x) r h = no-word refl h
-  body-is-there (letIn x e₁ e₂) r h =
-      in-part e₁ (λ E. letIn x E e₂) first _ (λ E p. refl) (body-is-there e₁) (nextWord e₁) refl r h [] b (λ v k. refl)
+  body-is-there (letIn x e₁ e₂) r h = in-part (let-wants x e₂) e₁ (body-is-there e₁) r h b (λ v is k. refl)
   body-is-there (if e₁ e₂) r h = refl
   body-is-there (while e) r h = refl
-  body-is-there (spawn e₁ e₂) r h =
-      in-part e₁ (λ E. spawn E e₂) first _ (λ E p. refl) (body-is-there e₁) (nextWord e₁) refl r h [] b (λ v k. refl)
+  body-is-there (spawn e₁ e₂) r h = in-part (spawn-wants e₂) e₁ (body-is-there e₁) r h b (λ v is k. refl)
   body-is-there (write e₁ e₂) r h =
-      in-part e₁ (λ E. write E e₂) first _ (λ E p. refl) (body-is-there e₁) (nextWord e₁) refl r h _ _ (λ v k.
-      in-part e₂ (λ E. write e₁ E) second _ (λ E p. refl) (body-is-there e₂) (nextWord e₂) refl r k [] b (λ u l. refl))
-  body-is-there (unary o e) r h =
-      in-part e (λ E. unary o E) first _ (λ E p. refl) (body-is-there e) (nextWord e) refl r h [] b (λ v k. refl)
+      in-part (first-wants e₂) e₁ (body-is-there e₁) r h _ (λ v is k. in-part (second-wants e₁ v is) e₂ (body-is-there e₂) r k b (λ u _ l. refl))
+  body-is-there (unary o e) r h = in-part (unary-wants o) e (body-is-there e) r h b (λ v is k. refl)
   body-is-there (nullary o) r h = refl
 
 -- ---- It goes on there
@@ -84,12 +119,6 @@ path-waits (isValue v) here inside h = true-is-not-false h
 path-waits (atVariable x) here inside h = refl
 path-waits (atWord w) here inside h = refl
 
--- Around e₁ stands `around`, with e₁ at part c, and its next word is the next word of all.
-record Around (around : Exp → Exp) (c : Part) : Type 0 where
-  part : (E : Exp) (p : Path) → partAt (c ∷ p) (around E) ≡ partAt p E
-  word : (E : Exp) (n : Next) → hasFinished n ≡ false → nextWord E ≡ n → nextWord (around E) ≡ n
-  path-to : (E : Exp) (n : Next) → hasFinished n ≡ false → nextWord E ≡ n → nextPath (around E) ≡ c ∷ nextPath E
-
 module _ (b : Exp) where
   abbrev Claim : Exp → Type 0
   Claim e = (p rest : Path) (d : Exp) (r : Redex) → nextWord e ≡ atWord r → nextPath e ≡ p ++ rest → partAt p e ≡ some d → GoesOn b e p d r
@@ -98,94 +127,75 @@ module _ (b : Exp) where
   unfolding partAt
   here-goes-on e d r h is = subst (λ (x : Exp). GoesOn b e [] x r) (some-injective is) (record { inside = h; there = refl; leads = λ n busy k. (k, refl) })
 
+  -- Of a whole, its next word and the path to that: d stands at c ∷ p on the path, and r is the next word.
+  record OnPath (whole : Exp) (next : Next) (to : Path) (c : Part) (p rest : Path) (d : Exp) (r : Redex) : Type 0 where
+    word : next ≡ atWord r
+    leads : to ≡ c ∷ (p ++ rest)
+    there : partAt (c ∷ p) whole ≡ some d
+
   -- E is the whole with the reduct in it.
   abbrev Whole : (E : Exp) (c : Part) (p : Path) (d : Exp) (r : Redex) → Type 0
   Whole E c p d r = (nextWord d ≡ atWord r) × (partAt (c ∷ p) E ≡ some (plug d b))
       × ((n : Next) → hasFinished n ≡ false → nextWord (plug d b) ≡ n → (nextWord E ≡ n) × (nextPath E ≡ (c ∷ p) ++ nextPath (plug d b)))
 
-  into-part : (e₁ : Exp) (around : Exp → Exp) (c₀ : Part) → Around around c₀ → Claim e₁ → (c : Part) (p rest : Path) (d : Exp) (w r : Redex) → nextWord e₁ ≡ atWord w → atWord w ≡ atWord r → c₀ ∷ nextPath e₁ ≡ c ∷ (p ++ rest) →
-      partAt (c ∷ p) (around e₁) ≡ some d → Whole (around (plug e₁ b)) c p d r
-  into-part e₁ around c₀ A later c p rest d w r next same q is =
-      let is-c : c₀ ≡ c = heads q in
-      let G = later p rest d w next (tails q) (sym (A .part e₁ p) ∙ ap (λ (z : Part). partAt (z ∷ p) (around e₁)) is-c ∙ is) in (
-        G .inside ∙ same,
-        ap (λ (z : Part). partAt (z ∷ p) (around (plug e₁ b))) (sym is-c) ∙ A .part (plug e₁ b) p ∙ G .there,
-        λ n busy k.
-            let (next-again, path-again) = G .leads n busy k in (
-              A .word (plug e₁ b) n busy next-again,
-              A .path-to (plug e₁ b) n busy next-again ∙ (λ z. is-c z ∷ path-again z),
-            ),
-      )
+  module _ {around : Exp → Exp} {c₀ : Part} {next : Value → Next} {here : Path} (W : Wants around c₀ next here) (e₁ : Exp) (later : Claim e₁)
+      {c : Part} {p rest : Path} {d : Exp} {r : Redex} where
+    -- The part is waited for.
+    into-part : {w : Redex} → nextWord e₁ ≡ atWord w → OnPath (around e₁) (atWord w) (c₀ ∷ nextPath e₁) c p rest d r → Whole (around (plug e₁ b)) c p d r
+    unfolding path.pathOnce
+    into-part {w} is X =
+        let is-c : c₀ ≡ c = heads (X .leads) in
+        let G = later p rest d w is (tails (X .leads)) (sym (W .part e₁ p) ∙ ap (λ (z : Part). partAt (z ∷ p) (around e₁)) is-c ∙ X .there) in (
+          G .inside ∙ X .word,
+          ap (λ (z : Part). partAt (z ∷ p) (around (plug e₁ b))) (sym is-c) ∙ W .part (plug e₁ b) p ∙ G .there,
+          λ n busy k.
+              let (next-again, path-again) = G .leads n busy k in (
+                W .word (plug e₁ b) ∙ ap (λ (m : Next). once m next) next-again ∙ once-waits n next busy,
+                W .path-to (plug e₁ b)
+                    ∙ ap (λ (m : Next). path.pathOnce m here (c₀ ∷ nextPath (plug e₁ b))) next-again
+                    ∙ path-waits n here (c₀ ∷ nextPath (plug e₁ b)) busy
+                    ∙ (λ z. is-c z ∷ path-again z),
+              ),
+        )
 
-  -- A word that wants its part e₁ to be a value.
-  by-part : (e₁ : Exp) (around : Exp → Exp) (c₀ : Part) → Around around c₀ → Claim e₁ → (c : Part) (p rest : Path) (d : Exp) (r : Redex) →
-      (then : Value → Next) (here : Path) (done : Exp) (n : Next) → nextWord e₁ ≡ n → once n then ≡ atWord r →
-      path.pathOnce n here (c₀ ∷ nextPath e₁) ≡ c ∷ (p ++ rest) → partAt (c ∷ p) (around e₁) ≡ some d →
-      ((v : Value) → nextWord e₁ ≡ isValue v → then v ≡ atWord r → here ≡ c ∷ (p ++ rest) → Whole done c p d r) →
-      Whole (ifValue n done (around (plug e₁ b))) c p d r
-  unfolding path.pathOnce
-  by-part e₁ around c₀ A later c p rest d r then here done (isValue v) e h q is values = values v e h q
-  by-part e₁ around c₀ A later c p rest d r then here done (atVariable x) e h q is values = no-word refl h
-  by-part e₁ around c₀ A later c p rest d r then here done (atWord w) e h q is values =
-      into-part e₁ around c₀ A later c p rest d w r e h q is
+    by-part : OnPath (around e₁) (once (nextWord e₁) next) (path.pathOnce (nextWord e₁) here (c₀ ∷ nextPath e₁)) c p rest d r →
+        (done : Exp) → ((v : Value) → nextWord e₁ ≡ isValue v → OnPath (around e₁) (next v) here c p rest d r → Whole done c p d r) →
+        Whole (ifValue (nextWord e₁) done (around (plug e₁ b))) c p d r
+    unfolding path.pathOnce
+    by-part X done values = by-next (nextWord e₁) refl X
+      where
+        by-next : (n : Next) → nextWord e₁ ≡ n → OnPath (around e₁) (once n next) (path.pathOnce n here (c₀ ∷ nextPath e₁)) c p rest d r →
+            Whole (ifValue n done (around (plug e₁ b))) c p d r
+        by-next (isValue v) e X = values v e X
+        by-next (atVariable x) e X = no-word refl (X .word)
+        by-next (atWord w) e X = into-part e X
 
-  -- The whole goes on once that part is a value, and stands at its own word then, or at the path `here` of a later part.
-  wants-value : (around : Exp → Exp) (c : Part) (rest : Value → Next) (here : Path) → ((E : Exp) (p : Path) → partAt (c ∷ p) (around E) ≡ partAt p E) →
-      ((E : Exp) → nextWord (around E) ≡ once (nextWord E) rest) → ((E : Exp) → nextPath (around E) ≡ path.pathOnce (nextWord E) here (c ∷ nextPath E)) →
-      Around around c
-  unfolding path.pathOnce
-  wants-value around c rest here part word path-to = record {
-    part = part;
-    word = λ E n busy k. word E ∙ ap (λ (n : Next). once n rest) k ∙ once-waits n rest busy;
-    path-to = λ E n busy k. path-to E ∙ ap (λ (n : Next). path.pathOnce n here (c ∷ nextPath E)) k ∙ path-waits n here (c ∷ nextPath E) busy;
-  }
-
-  let-around : (x : ℕ) (e₂ : Exp) → Around (λ E. letIn x E e₂) first
-  unfolding partAt partOf nextPath
-  let-around x e₂ = wants-value (λ E. letIn x E e₂) first (λ v. atWord (letRedex x v e₂)) [] (λ E p. refl) (λ E. refl) (λ E. refl)
-
-  spawn-around : (e₂ : Exp) → Around (λ E. spawn E e₂) first
-  unfolding partAt partOf nextPath
-  spawn-around e₂ = wants-value (λ E. spawn E e₂) first (λ v. atWord (spawnRedex v e₂)) [] (λ E p. refl) (λ E. refl) (λ E. refl)
-
-  unary-around : (o : Unary) → Around (λ E. unary o E) first
-  unfolding partAt partOf onlyPart nextPath
-  unary-around o = wants-value (λ E. unary o E) first (λ v. atWord (unaryRedex o v)) [] (λ E p. refl) (λ E. refl) (λ E. refl)
-
-  first-around : (e₂ : Exp) → Around (λ E. write E e₂) first
-  unfolding partAt partOf nextPath
-  first-around e₂ = wants-value (λ E. write E e₂) first (λ v. once (nextWord e₂) λ w. atWord (writeRedex v w))
-      (path.pathOnce (nextWord e₂) [] (second ∷ nextPath e₂)) (λ E p. refl) (λ E. refl) (λ E. refl)
-
-  second-around : (e₁ : Exp) (v : Value) → nextWord e₁ ≡ isValue v → Around (λ E. write e₁ E) second
-  unfolding partAt partOf nextPath path.pathOnce
-  second-around e₁ v is = wants-value (λ E. write e₁ E) second (λ w. atWord (writeRedex v w)) [] (λ E p. refl)
-      (λ E. ap (λ (n : Next). once n λ u. once (nextWord E) λ w. atWord (writeRedex u w)) is)
-      (λ E. ap (λ (n : Next). path.pathOnce n (path.pathOnce (nextWord E) [] (second ∷ nextPath E)) (first ∷ nextPath e₁)) is)
-
-  by-path : (e : Exp) → ((c : Part) (p rest : Path) (d : Exp) (r : Redex) → nextWord e ≡ atWord r → nextPath e ≡ c ∷ (p ++ rest) →
-      partAt (c ∷ p) e ≡ some d → Whole (plug e b) c p d r) → Claim e
+  by-path : (e : Exp) → ((c : Part) (p rest : Path) (d : Exp) (r : Redex) → OnPath e (nextWord e) (nextPath e) c p rest d r → Whole (plug e b) c p d r) →
+      Claim e
   by-path e inner [] rest d r h q is = here-goes-on e d r h is
   by-path e inner (c ∷ p) rest d r h q is =
-      let (inside, there, leads) = inner c p rest d r h q is in
+      let (inside, there, leads) = inner c p rest d r (record { word = h; leads = q; there = is }) in
       record { inside = inside; there = there; leads = leads }
+
+  -- The next word is here, and no path leads on.
+  at-once : (e : Exp) → nextPath e ≡ [] → Claim e
+  at-once e h = by-path e (λ c p rest d r X. empty-clash (sym h ∙ X .leads))
 
   part-goes-on : (e : Exp) → Claim e
   unfolding nextPath
-  part-goes-on (value v) = by-path (value v) (λ c p rest d r h q is. empty-clash q)
-  part-goes-on (var x) = by-path (var x) (λ c p rest d r h q is. empty-clash q)
-  part-goes-on (letIn x e₁ e₂) = by-path (letIn x e₁ e₂) (λ c p rest d r h q is.
-      by-part e₁ (λ E. letIn x E e₂) first (let-around x e₂) (part-goes-on e₁) c p rest d r _ [] b (nextWord e₁) refl h q is (λ v z k n. empty-clash n))
-  part-goes-on (if e₁ e₂) = by-path (if e₁ e₂) (λ c p rest d r h q is. empty-clash q)
-  part-goes-on (while e) = by-path (while e) (λ c p rest d r h q is. empty-clash q)
-  part-goes-on (spawn e₁ e₂) = by-path (spawn e₁ e₂) (λ c p rest d r h q is.
-      by-part e₁ (λ E. spawn E e₂) first (spawn-around e₂) (part-goes-on e₁) c p rest d r _ [] b (nextWord e₁) refl h q is (λ v z k n. empty-clash n))
-  part-goes-on (write e₁ e₂) = by-path (write e₁ e₂) (λ c p rest d r h q is.
-      by-part e₁ (λ E. write E e₂) first (first-around e₂) (part-goes-on e₁) c p rest d r _ _ _ (nextWord e₁) refl h q is (λ v z k n.
-      by-part e₂ (λ E. write e₁ E) second (second-around e₁ v z) (part-goes-on e₂) c p rest d r _ [] b (nextWord e₂) refl k n is (λ u y l m. empty-clash m)))
-  part-goes-on (unary o e) = by-path (unary o e) (λ c p rest d r h q is.
-      by-part e (λ E. unary o E) first (unary-around o) (part-goes-on e) c p rest d r _ [] b (nextWord e) refl h q is (λ v z k n. empty-clash n))
-  part-goes-on (nullary o) = by-path (nullary o) (λ c p rest d r h q is. empty-clash q)
+  part-goes-on (value v) = at-once (value v) refl
+  part-goes-on (var x) = at-once (var x) refl
+  part-goes-on (letIn x e₁ e₂) = by-path (letIn x e₁ e₂) (λ c p rest d r X.
+      by-part (let-wants x e₂) e₁ (part-goes-on e₁) X b (λ v is Y. empty-clash (Y .leads)))
+  part-goes-on (if e₁ e₂) = at-once (if e₁ e₂) refl
+  part-goes-on (while e) = at-once (while e) refl
+  part-goes-on (spawn e₁ e₂) = by-path (spawn e₁ e₂) (λ c p rest d r X.
+      by-part (spawn-wants e₂) e₁ (part-goes-on e₁) X b (λ v is Y. empty-clash (Y .leads)))
+  part-goes-on (write e₁ e₂) = by-path (write e₁ e₂) (λ c p rest d r X.
+      by-part (first-wants e₂) e₁ (part-goes-on e₁) X _ (λ v is Y.
+      by-part (second-wants e₁ v is) e₂ (part-goes-on e₂) Y b (λ u _ Z. empty-clash (Z .leads))))
+  part-goes-on (unary o e) = by-path (unary o e) (λ c p rest d r X. by-part (unary-wants o) e (part-goes-on e) X b (λ v is Y. empty-clash (Y .leads)))
+  part-goes-on (nullary o) = at-once (nullary o) refl
 
 pub body-goes-on : BodyGoesOn
 body-goes-on b e p d w next R =
@@ -198,31 +208,32 @@ body-goes-on b e p d w next R =
 
 -- ---- It begins there
 
-word-in-part : (e : Exp) (around : Exp → Exp) (c : Part) (rest : Value → Next) → ((E : Exp) (p : Path) → partAt (c ∷ p) (around E) ≡ partAt p E) →
-    ((r : Redex) → nextWord e ≡ atWord r → (d : Exp) × (partAt (nextPath e) e ≡ some d)) → (n : Next) → nextWord e ≡ n → (r : Redex) →
-    once n rest ≡ atWord r → (here : Path) → ((v : Value) → rest v ≡ atWord r → (d : Exp) × (partAt here (around e) ≡ some d)) →
-    (d : Exp) × (partAt (path.pathOnce n here (c ∷ nextPath e)) (around e) ≡ some d)
+abbrev WordThere : Exp → Type 0
+WordThere e = (r : Redex) → nextWord e ≡ atWord r → (d : Exp) × (partAt (nextPath e) e ≡ some d)
+
+word-in-part : {around : Exp → Exp} {c : Part} {next : Value → Next} {here : Path} (W : Wants around c next here) (e : Exp) → WordThere e → (r : Redex) →
+    once (nextWord e) next ≡ atWord r → ((v : Value) → nextWord e ≡ isValue v → next v ≡ atWord r → (d : Exp) × (partAt here (around e) ≡ some d)) →
+    (d : Exp) × (partAt (path.pathOnce (nextWord e) here (c ∷ nextPath e)) (around e) ≡ some d)
 unfolding path.pathOnce
-word-in-part e around c rest into later (isValue v) is r h here values = values v h
-word-in-part e around c rest into later (atVariable x) is r h here values = no-word refl h
-word-in-part e around c rest into later (atWord w) is r h here values = let (d, there) = later w is in (d, into e (nextPath e) ∙ there)
+word-in-part {around} {c} {next} {here} W e later r h values = by-next (nextWord e) refl h
+  where
+    by-next : (n : Next) → nextWord e ≡ n → once n next ≡ atWord r → (d : Exp) × (partAt (path.pathOnce n here (c ∷ nextPath e)) (around e) ≡ some d)
+    by-next (isValue v) is h = values v is h
+    by-next (atVariable x) is h = no-word refl h
+    by-next (atWord w) is h = let (d, there) = later w is in (d, W .part e (nextPath e) ∙ there)
 
 -- The next word stands at its path.
 word-is-there : (e : Exp) (r : Redex) → nextWord e ≡ atWord r → (d : Exp) × (partAt (nextPath e) e ≡ some d)
-unfolding nextPath partAt partOf onlyPart
+unfolding nextPath partAt
 word-is-there (value v) r h = no-word refl h
 word-is-there (var x) r h = no-word refl h
-word-is-there (letIn x e₁ e₂) r h =
-    word-in-part e₁ (λ E. letIn x E e₂) first _ (λ E p. refl) (word-is-there e₁) (nextWord e₁) refl r h [] (λ v k. (_, refl))
+word-is-there (letIn x e₁ e₂) r h = word-in-part (let-wants x e₂) e₁ (word-is-there e₁) r h (λ v is k. (_, refl))
 word-is-there (if e₁ e₂) r h = (_, refl)
 word-is-there (while e) r h = (_, refl)
-word-is-there (spawn e₁ e₂) r h =
-    word-in-part e₁ (λ E. spawn E e₂) first _ (λ E p. refl) (word-is-there e₁) (nextWord e₁) refl r h [] (λ v k. (_, refl))
+word-is-there (spawn e₁ e₂) r h = word-in-part (spawn-wants e₂) e₁ (word-is-there e₁) r h (λ v is k. (_, refl))
 word-is-there (write e₁ e₂) r h =
-    word-in-part e₁ (λ E. write E e₂) first _ (λ E p. refl) (word-is-there e₁) (nextWord e₁) refl r h _ (λ v k.
-    word-in-part e₂ (λ E. write e₁ E) second _ (λ E p. refl) (word-is-there e₂) (nextWord e₂) refl r k [] (λ u l. (_, refl)))
-word-is-there (unary o e) r h =
-    word-in-part e (λ E. unary o E) first _ (λ E p. refl) (word-is-there e) (nextWord e) refl r h [] (λ v k. (_, refl))
+    word-in-part (first-wants e₂) e₁ (word-is-there e₁) r h (λ v is k. word-in-part (second-wants e₁ v is) e₂ (word-is-there e₂) r k (λ u _ l. (_, refl)))
+word-is-there (unary o e) r h = word-in-part (unary-wants o) e (word-is-there e) r h (λ v is k. (_, refl))
 word-is-there (nullary o) r h = (_, refl)
 
 -- What takes the place of the next word is what runs next, unless it is a value.

@@ -47,7 +47,7 @@ returns c =
     let at-binder = at-judge .before .before in
     let at-index = at-binder .before .before in
     let pre = begun at-index .pre in
-    refuses _ _ _ _ _ _ _ _ (at-loop at-index .loop .inv) _ _ _ (pre .0) (pre .3) (at-test at-index .loop-test .taken) (at-index .index .ensures .0)
+    refuses (at-loop at-index .loop .inv) (pre .0) (pre .3) (at-test at-index .loop-test .taken) (at-index .index .ensures .0)
     (at-binder .binder .ensures) (at-judge .judge .ensures) _ (c .before .refusal .given .1)
 
 slice-write-work : tie.Need-slice-write-work Inv-loop μ-loop
@@ -64,18 +64,18 @@ loop-again c =
     let pre = begun at-index .pre in
     ⊎-elim
     (λ u.
-    binds _ _ _ _ _ _ _ _ (at-loop at-index .loop .inv) _ _ _ (pre .0) (pre .3) (at-test at-index .loop-test .taken) (at-index .index .ensures .0)
+    binds (at-loop at-index .loop .inv) (pre .0) (pre .3) (at-test at-index .loop-test .taken) (at-index .index .ensures .0)
     (at-binder .binder .ensures) (at-judge .judge .ensures) _ _ (u .7)
     (u .6 ∙ u .3 .ensures)
     (u .1 .given .1))
     (λ u.
-    stores _ _ _ _ _ _ _ _ (at-loop at-index .loop .inv) _ _ _ (pre .0) (pre .3) (at-test at-index .loop-test .taken) (at-index .index .ensures .0)
+    stores (at-loop at-index .loop .inv) (pre .0) (pre .3) (at-test at-index .loop-test .taken) (at-index .index .ensures .0)
     (at-binder .binder .ensures) (at-judge .judge .ensures) _ _ _ (u .4) (u .3)
     (u .1 .given .1))
     (c .match .came)
 
 returns-2 : tie.Need-returns-2 Inv-loop μ-loop
-returns-2 c = finish _ _ _ _ _ _ _ _ (c .before .loop .inv) (c .loop-test .left)
+returns-2 c = finish (c .before .loop .inv) (c .loop-test .left)
 
 pub scope-steps-spec : {M : Type 1} → statement M
 scope-steps-spec =

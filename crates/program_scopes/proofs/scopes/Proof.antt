@@ -33,18 +33,18 @@ module _ (s : tie.After-scope-body Inv-loop μ-loop) where
 scope-body-requires : tie.Need-scope-body-requires Inv-loop μ-loop
 scope-body-requires c κs =
     let test = c .before .before in
-    body-due _ _ _ _ _ _ (test .before .before .before .pre) (test .before .loop .inv) (test .loop-test .taken)
+    body-due (test .before .before .before .pre) (test .before .loop .inv) (test .loop-test .taken)
 
 returns : tie.Need-returns Inv-loop μ-loop
 returns c =
     let at-body = c .before .before .before .before .before .before in
-    body-refuses _ _ _ _ _ _ (at-loop at-body .before .before .pre) (at-loop at-body .loop .inv) (at-test at-body .loop-test .taken) _ _ _
+    body-refuses (at-loop at-body .before .before .pre) (at-loop at-body .loop .inv) (at-test at-body .loop-test .taken)
     (at-body .scope-body .ensures) _ (c .before .refusal .given .1)
 
 loop-again : tie.Need-loop-again Inv-loop μ-loop
 loop-again c =
     let at-body = c .before .before .before .before .before in
-    body-passes _ _ _ _ _ _ (at-loop at-body .before .before .pre) (at-loop at-body .loop .inv) (at-test at-body .loop-test .taken) _ _ _
+    body-passes (at-loop at-body .before .before .pre) (at-loop at-body .loop .inv) (at-test at-body .loop-test .taken)
     (at-body .scope-body .ensures) (c .enum-told .given .1)
 
 slice-read-index : tie.Need-slice-read-index Inv-loop μ-loop
@@ -64,7 +64,7 @@ scope-steps-requires c κs =
     let pre = loop .before .before .pre in (
       loop .loop .inv .changed .long ∙ pre .long,
       loop .loop .inv .long,
-      root-below _ _ _ _ _ _ pre (loop .loop .inv) (test .loop-test .left) _ (at-index .index .ensures .0),
+      root-below pre (loop .loop .inv) (test .loop-test .left) (at-index .index .ensures .0),
       pre .few,
     )
 
@@ -74,7 +74,7 @@ returns-2 c =
     let at-index = at-steps .before .before .before in
     let test = at-index .before .before in
     let loop = test .before in
-    root-scoped _ _ _ _ _ _ (loop .before .before .pre) (loop .loop .inv) (test .loop-test .left) _ (at-index .index .ensures .0) _ _ _
+    root-scoped (loop .before .before .pre) (loop .loop .inv) (test .loop-test .left) (at-index .index .ensures .0)
     (at-steps .scope-steps .ensures)
 
 pub scopes-spec : {M : Type 1} → statement M

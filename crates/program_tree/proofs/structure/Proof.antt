@@ -20,13 +20,13 @@ returns : tie.Need-returns Inv-loop μ-loop
 returns c =
     let at-read = c .before .before .before .before .before in
     let at-test = at-read .before .before in
-    walk-refuses _ _ _ _ _ _ _ _ (at-test .before .loop .inv) (at-test .loop-test .taken) _ _ (at-read .read-procedure .ensures) _ (c .before .refusal .given .1)
+    walk-refuses (at-test .before .loop .inv) (at-test .loop-test .taken) (at-read .read-procedure .ensures) _ (c .before .refusal .given .1)
 
 loop-again : tie.Need-loop-again Inv-loop μ-loop
 loop-again c =
     let at-read = c .before .before .before .before .before in
     let at-test = at-read .before .before in
-    walk-on _ _ _ _ _ _ _ _ (at-test .before .loop .inv) (at-test .loop-test .taken) _ _ (at-read .read-procedure .ensures) _ (c .before .e .given .1)
+    walk-on (at-test .before .loop .inv) (at-test .loop-test .taken) (at-read .read-procedure .ensures) (c .before .e .given .1)
 
 -- behind the loop, where the root is read
 module _ (s : tie.After-read-expression Inv-loop μ-loop) where
@@ -40,13 +40,13 @@ module _ (s : tie.After-read-expression Inv-loop μ-loop) where
   begun = at-loop .before .before
 
 read-expression-requires : tie.Need-read-expression-requires Inv-loop μ-loop
-read-expression-requires c κs = root-due _ _ _ _ _ _ _ _ (c .before .before .loop .inv) (c .before .loop-test .left)
+read-expression-requires c κs = root-due (c .before .before .loop .inv) (c .before .loop-test .left)
 
 finish-requires : tie.Need-finish-requires Inv-loop μ-loop
 finish-requires c κs =
     let at-read = c .before .before .before .before .before .before in
     let inv = at-loop at-read .loop .inv in
-    let e = root-within _ _ _ _ _ _ _ _ inv (at-test at-read .loop-test .left) _ _ (at-read .read-expression .ensures) _ (c .before .before .e2 .given .1) in (
+    let e = root-within inv (at-test at-read .loop-test .left) (at-read .read-expression .ensures) (c .before .before .e2 .given .1) in (
       record { long = at-read .read-expression .ensures .changed .long ∙ inv .left .room .long; few = inv .left .room .few },
       inv .left .few,
       omega (arith, e, inv .left .room .few),
@@ -56,20 +56,20 @@ finish-requires c κs =
 returns-2 : tie.Need-returns-2 Inv-loop μ-loop
 returns-2 c =
     let at-read = c .before .before .before .before .before in
-    root-off _ _ _ _ _ _ _ _ (at-loop at-read .loop .inv) (at-test at-read .loop-test .left) _ _ (at-read .read-expression .ensures) _ (c .before .refusal2 .given .1)
+    root-off (at-loop at-read .loop .inv) (at-test at-read .loop-test .left) (at-read .read-expression .ensures) _ (c .before .refusal2 .given .1)
 
 returns-3 : tie.Need-returns-3 Inv-loop μ-loop
 returns-3 c =
     let at-finish = c .before .before in
     let at-read = at-finish .before .before .before .before .before .before .before in
-    root-passed _ _ _ _ _ _ _ _ (at-loop at-read .loop .inv) (at-test at-read .loop-test .left) _ _ (at-read .read-expression .ensures) _
+    root-passed (at-loop at-read .loop .inv) (at-test at-read .loop-test .left) (at-read .read-expression .ensures)
     (at-finish .before .before .before .e2 .given .1) _ (at-finish .finish .ensures) (c .enum-told .given .1)
 
 returns-4 : tie.Need-returns-4 Inv-loop μ-loop
 returns-4 c =
     let at-finish = c .before .before .before in
     let at-read = at-finish .before .before .before .before .before .before .before in
-    root-failed _ _ _ _ _ _ _ _ (at-loop at-read .loop .inv) (at-test at-read .loop-test .left) _ _ (at-read .read-expression .ensures) _
+    root-failed (at-loop at-read .loop .inv) (at-test at-read .loop-test .left) (at-read .read-expression .ensures)
     (at-finish .before .before .before .e2 .given .1) _ (at-finish .finish .ensures) _ (c .before .refusal3 .given .1)
 
 pub structure-spec : {M : Type 1} → statement M

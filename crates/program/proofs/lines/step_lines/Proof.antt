@@ -25,7 +25,7 @@ returns c =
     let at-step-line = c .before .before .before in
     let at-loop-test = at-step-line .before in
     let at-loop = at-loop-test .before in
-    refuses _ _ _ _ _ _ _ _ _ _ (at-loop .loop .inv) (at-loop-test .loop-test .taken) _ (subst (StepShown _ _ _) (c .before .refusal .given .1) (at-step-line .step-line .ensures))
+    refuses (at-loop .loop .inv) (at-loop-test .loop-test .taken) _ (subst (StepShown _ _ _) (c .before .refusal .given .1) (at-step-line .step-line .ensures))
 
 -- where a step is stored
 module _ (s : tie.After-code-of Inv-loop μ-loop) where
@@ -75,15 +75,15 @@ loop-again c =
     let at-pre = at-loop .before .before .before in
     ⊎-elim
     (λ u.
-    step-on _ _ _ _ _ _ _ _ _ _ (at-loop .loop .inv) (at-loop-test .loop-test .taken) (at-pre .pre .0 .long) (at-pre .pre .0 .few) _ _ _ _
+    step-on (at-loop .loop .inv) (at-loop-test .loop-test .taken) (at-pre .pre .0 .long) (at-pre .pre .0 .few) _ _ _ _
     (subst (StepShown _ _ _) (u .1 .given .1) (at-step-line .step-line .ensures)) (u .3 .ensures) _ _ _ _ (u .4) (u .5) (u .6) (u .7))
     (λ u.
-    proc-on _ _ _ _ _ _ _ _ _ _ (at-loop .loop .inv) (at-loop-test .loop-test .taken) (at-pre .pre .0 .long) (at-pre .pre .0 .few) _ _ _
+    proc-on (at-loop .loop .inv) (at-loop-test .loop-test .taken) (at-pre .pre .0 .long) (at-pre .pre .0 .few) _ _ _
     (subst (StepShown _ _ _) (u .1 .given .1) (at-step-line .step-line .ensures)) refl _ _ _ _ (u .3) (u .4) (u .5) (u .6))
     (c .match .came)
 
 returns-2 : tie.Need-returns-2 Inv-loop μ-loop
-returns-2 c = finish _ _ _ _ _ _ _ _ _ _ (c .before .loop .inv) (c .loop-test .left)
+returns-2 c = finish (c .before .loop .inv) (c .loop-test .left)
 
 pub step-lines-spec : {M : Type 1} → statement M
 step-lines-spec =
