@@ -1,5 +1,5 @@
 -- What the numbers of a kept run promise: all that those of `racecheck_replay` do.
-use Prim.Native.Nat.{ℕ, _<_}
+use Prim.Native.Nat.{ℕ}
 use mathlib.Core.Path.{_≡_, sym, _∙_, ap, subst}
 use mathlib.Core.List.{List}
 use lib.ListN.{length}
@@ -12,7 +12,7 @@ use Rattle.replay_theory.specs.Claim.{TraceFollowed, RaceFound}
 use Rattle.replay_theory.proofs.Reported.{trace-is-followed, race-is-found, none-if-accepted}
 use Rattle.replay_answers.specs.Numbers.{raceNumbers, Stored}
 use Rattle.replay_kept.specs.declared.numbers.Told.{Told}
-use Rattle.replay_kept.specs.Kept.{keptSize, toldNumbers}
+use Rattle.replay_kept.specs.Kept.{toldNumbers}
 use Rattle.replay_pieces.specs.Pieces.{KeptRun}
 
 module _ (run : List ℕ) (t : Told) (told : (program trace job space : List ℕ) → KeptRun program trace job space run → t ≡ toldNumbers (replay (length space) program trace)) where

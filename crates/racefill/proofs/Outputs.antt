@@ -18,7 +18,7 @@ use Rattle.writer.specs.Buffer.{WrittenAt}
 use Rattle.answers.specs.Line.{refusalLine, answerLine, outputLine}
 use Rattle.answers.specs.declared.line.Outcome.the-variants.{Answered}
 use Rattle.answers.specs.declared.line.Outcome.the-variants.{Unread as UnreadLine}
-use Rattle.file_io.specs.Files.{Within, textIn, InFront}
+use Rattle.file_io.specs.Files.{textIn, InFront}
 use Rattle.file_io.specs.declared.Contents.{Contents}
 use Rattle.file_io.specs.declared.Contents.the-variants.{Unread}
 use Rattle.file_io.proofs.Buffers.{front, line-in-front}

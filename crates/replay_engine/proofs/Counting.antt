@@ -10,7 +10,6 @@ use lib.ListN.{getD, set}
 use Rattle.spec.specs.Choice.{if_then_else_}
 use Rattle.replay_theory.specs.declared.Status.{Status}
 use Rattle.replay_theory.specs.declared.Status.the-variants.{Running, Finished, Joined}
-use Rattle.threads.specs.declared.Record.{Record}
 use Rattle.threads.specs.declared.Threads.{Threads}
 use Rattle.threads.specs.declared.Found.{Found}
 use Rattle.threads.specs.declared.Found.the-variants.{At, Nothing}

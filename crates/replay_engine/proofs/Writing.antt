@@ -5,7 +5,7 @@ use mathlib.Core.Bool.{Bool, true, false}
 use mathlib.Core.List.{List}
 use native.Mathlib.Omega.{arith}
 use Rattle.spec.specs.Choice.{if_then_else_}
-use Rattle.replay_engine.specs.Races.{accessOf, writes, reads, isWrite, clash, anyWrites, partnerOf, partnerFrom, pairWith, pairOf, lowestPair}
+use Rattle.replay_engine.specs.Races.{accessOf, writes, isWrite, clash, anyWrites, partnerOf, partnerFrom, pairWith, pairOf, lowestPair}
 use Rattle.replay_engine.proofs.Pairing.{one-less, none-left}
 use Rattle.replay_engine.specs.declared.races.Access.{Access}
 use Rattle.replay_engine.specs.declared.races.Access.the-variants.{None, Read, Write}

@@ -12,7 +12,6 @@ use Rattle.spec.specs.Text.{Line, closed, unclosed, lines, onLine as textLine}
 use Rattle.lexer.specs.Views.{lineAt}
 use Rattle.lexer.specs.Numbers.{stored}
 use Rattle.trace.specs.Lines.{moveIn}
-use Rattle.replay_engine.specs.declared.Outcome.the-variants.{Moved, Stuck, Past}
 use Rattle.replay_engine.specs.declared.Stepped.{Stepped}
 use Rattle.replay_engine.specs.Steps.{stepped}
 use Rattle.replay_theory.specs.Trace.{TraceLine, traceLine}
@@ -30,7 +29,7 @@ use Rattle.replay_simulation.proofs.Stored.{line-answered}
 use Rattle.replay_loop.specs.declared.Progress.{Progress}
 use Rattle.replay_loop.specs.declared.Progress.the-variants.{Goes, Stops}
 use Rattle.replay_loop.specs.declared.Point.{Point}
-use Rattle.replay_loop.specs.Play.{raceAfter, stoppedBy, byOutcome, afterStep, lineDone, Steady, LoopPre, GoesTo, LoopPost}
+use Rattle.replay_loop.specs.Play.{raceAfter, stoppedBy, byOutcome, afterStep, lineDone, Steady, LoopPre, LoopPost}
 
 -- what is known of a run behind a line, by its progress
 abbrev pub Tells : Progress → (whole : List Line → Replayed) (p s piece : List ℕ) → Point → Type 0

@@ -1,6 +1,6 @@
 -- A line that goes on leaves a point further in the piece, whose counts still have room, whatever the numbers hold.
-use Prim.Native.Nat.{ℕ, _+_, _-_, _<_, _≤_}
-use mathlib.Core.Path.{_≡_, refl, sym, _∙_, ap, subst}
+use Prim.Native.Nat.{ℕ, _-_, _<_, _≤_}
+use mathlib.Core.Path.{_≡_, refl, subst}
 use mathlib.Core.List.{List, [], _∷_}
 use mathlib.Core.Option.{Option, none, some}
 use native.Mathlib.Omega.{arith}
@@ -15,8 +15,7 @@ use Rattle.replay_engine.specs.declared.Outcome.the-variants.{Moved, Stuck, Pas
 use Rattle.replay_engine.specs.declared.Stepped.{Stepped}
 use Rattle.replay_engine.specs.Steps.{stepped}
 use Rattle.threads.specs.declared.Threads.{Threads}
-use Rattle.replay_theory.specs.declared.Ending.{Ending}
-use Rattle.replay_simulation.proofs.Resting.{RestAt, rest-at}
+use Rattle.replay_simulation.proofs.Resting.{rest-at}
 use Rattle.replay_loop.specs.declared.Progress.{Progress}
 use Rattle.replay_loop.specs.declared.Progress.the-variants.{Goes, Stops}
 use Rattle.replay_loop.specs.declared.Point.{Point}

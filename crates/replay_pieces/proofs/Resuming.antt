@@ -1,5 +1,5 @@
 -- A run is kept, read back as it was, and goes on behind a piece.
-use Prim.Native.Nat.{ℕ, _+_, _<_, _≤_}
+use Prim.Native.Nat.{ℕ, _+_, _<_}
 use mathlib.Core.Path.{_≡_, refl, sym, _∙_, ap, subst}
 use mathlib.Core.Bool.{true}
 use mathlib.Core.List.{List, _++_}
@@ -20,7 +20,7 @@ use Rattle.replay_loop.specs.Play.{GoesTo, LoopPost}
 use Rattle.replay.specs.Pieces.{endsLine, tellingBy, telling, RunOf}
 use Rattle.replay.proofs.Runs.{stopped-run, told-replays}
 use Rattle.replay_kept.specs.declared.numbers.Told.{Told}
-use Rattle.replay_kept.specs.Kept.{toldNumbers, racedNumber, raceIn, toldIn, RecordsKept, RaceKept, FrontKept}
+use Rattle.replay_kept.specs.Kept.{toldNumbers, racedNumber, toldIn, RecordsKept, RaceKept, FrontKept}
 use Rattle.replay_kept.proofs.Keeping.{record-behind}
 use Rattle.replay_kept.proofs.Rereading.{threads-back}
 use Rattle.replay_pieces.specs.Runs.{goesNumber, Keeps, atStart}

@@ -2,7 +2,7 @@
 -- computes; `found` unfolds every definition on the way from a text to an answer.
 use mathlib.Core.Path.{refl}
 use Rattle.spec.specs.Verdict.{returned}
-use Rattle.spec.specs.Pairs.KnownPairs.{barred, _with_is_, found, Answered, P, S, Z, starred}
+use Rattle.spec.specs.Pairs.KnownPairs.{_with_is_, found, Answered, P, S, Z, starred}
 use Rattle.spec.specs.Pairs.Reasons.{reasons, Returns}
 use Rattle.spec.specs.Pairs.EdgeSheets.{countRows}
 use Rattle.spec.specs.Pairs.EdgeConditions.{rows, intRows}

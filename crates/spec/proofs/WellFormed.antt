@@ -1,6 +1,6 @@
 -- The sheets that meet none of 10 to 15, 45 and 49, none of 20 to 23, 40 and 50, are the well-formed ones.
 use mathlib.Core.Path.{_≡_, refl, ap, sym, _∙_, subst}
-use mathlib.Core.List.{List, [], map}
+use mathlib.Core.List.{List, map}
 use Prim.Native.Nat.{ℕ, _+_, _≤_}
 use native.Mathlib.Omega.{arith}
 use lib.ListN.{length}

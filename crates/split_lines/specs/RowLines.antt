@@ -5,7 +5,6 @@ use Rattle.spec.specs.Choice.{if_then_else_}
 use Rattle.spec.specs.Text.{Field}
 use Rattle.spec.specs.Reading.{LineResult, below, inRange, allInRange}
 use Rattle.spec.specs.Split.{Row, startRange, mayBeEmpty, rowLine}
-use Rattle.spec.specs.declared.Signature.{Signature}
 use Rattle.spec.specs.declared.Header.{Header}
 use Rattle.spec.specs.declared.Purpose.{Purpose}
 use Rattle.spec.specs.declared.Refusal.the-variants.{SplitRange}

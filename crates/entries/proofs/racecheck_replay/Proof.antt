@@ -1,6 +1,5 @@
 -- The numbers of the ending and of the report that `replay` hands back.
 use mathlib.Core.Path.{refl, sym, _∙_, ap}
-use Rattle.replay_theory.specs.declared.Numbers.{Numbers}
 use Rattle.replay_theory.specs.declared.Report.{Report}
 use Rattle.replay_answers.specs.Numbers.{raceNumbers}
 use borrow.Author.Needs.{needs}

@@ -1,9 +1,8 @@
 -- The loop's invariant: what is looked at is a part of the text.
-use Prim.Native.Nat.{suc, _-_, _≤_}
-use mathlib.Core.Path.{_≡_, refl, subst}
-use mathlib.Core.Bool.{true}
+use Prim.Native.Nat.{_-_, _≤_}
+use mathlib.Core.Path.{refl}
 use native.Mathlib.Omega.{arith}
-use lib.ListN.{length, take}
+use lib.ListN.{length}
 use Rattle.replay.specs.Pieces.{endsLine}
 use Rattle.racereplay.proofs.Carrying.{ends-just-there}
 use borrow.Author.Needs.{needs}

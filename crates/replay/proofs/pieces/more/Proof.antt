@@ -1,5 +1,5 @@
 -- The front of the space is lent on; what is behind it stays.
-use mathlib.Core.Path.{refl, sym, _∙_}
+use mathlib.Core.Path.{refl, sym}
 use lib.Seq.{length-take-le}
 use Rattle.replay_theory.specs.Replay.{replaySpace}
 use Rattle.replay_control.specs.Layout.{spaceSize}

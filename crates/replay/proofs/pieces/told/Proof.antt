@@ -1,5 +1,5 @@
 -- By whether the run has stopped.
-use mathlib.Core.Path.{_≡_, refl, _∙_}
+use mathlib.Core.Path.{refl}
 use Rattle.replay_machine.specs.Replay.{ended}
 use Rattle.replay.specs.Pieces.{tellingBy, telling}
 use Rattle.replay.proofs.Runs.{told-replays}

@@ -1,5 +1,5 @@
 -- A job of another size and a space that is too short are refused; else the front of the space is lent on.
-use mathlib.Core.Path.{refl, sym, _∙_}
+use mathlib.Core.Path.{refl, sym}
 use lib.Seq.{length-take-le}
 use Rattle.replay_theory.specs.Replay.{replaySpace}
 use Rattle.replay_control.specs.Layout.{spaceSize}

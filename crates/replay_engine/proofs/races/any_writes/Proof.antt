@@ -1,5 +1,5 @@
 -- The loop's invariant: the threads from here on tell what all of them tell.
-use mathlib.Core.Path.{_≡_, refl, sym, ap, _∙_}
+use mathlib.Core.Path.{_≡_, sym, ap, _∙_}
 use Prim.Native.Nat.{_-_}
 use native.Mathlib.Omega.{arith}
 use Rattle.replay_engine.specs.Races.{anyWrites}
