@@ -23,7 +23,7 @@ ghost use Rattle.fill.specs.Stages.{MapsGiven};
 const LARGEST: u64 = 1000000000;
 
 // No after-maps; greatest ones with a number that no map may have; or maps that stand in the work space.
-pub enum Found {
+pub(crate) enum Found {
     Nothing,
     Large,
     Maps,
@@ -115,7 +115,7 @@ fn show_maps(work: &mut [u32], steps: usize, maps: usize)
 
 // The greatest after-maps of the sheets that the work space holds, filled in there: the map of step i has the number M + i.
 // That there are none is told at the first location without posts; that a number is too large, once every location has some.
-pub fn fill_maps(work: &mut [u32], header: Header, steps: usize, procedures: usize) -> Found
+pub(crate) fn fill_maps(work: &mut [u32], header: Header, steps: usize, procedures: usize) -> Found
     requires { ⌜ MapsGiven (now work) header steps procedures ⌝ }
     ensures { λ r. ⌜ FilledMaps (now (work .entry)) header steps procedures r (now (work .exit)) ⌝ }
 {

@@ -15,13 +15,13 @@ ghost use Rattle.program_tree.specs.Structure.{RoomFor};
 ghost use Rattle.program.specs.Lines.{StepsShown};
 
 // The numbers of steps and of `proc` lines, and the cursor behind the lines; or the refusal of one of them.
-pub enum StepLines {
+pub(crate) enum StepLines {
     Read(usize, usize, Cursor),
     Refused(Refusal),
 }
 
 // The n lines from the cursor on, steps and `proc` lines each stored in line order.
-pub fn step_lines(
+pub(crate) fn step_lines(
     text: &[u8],
     work: &mut [u32],
     heading: ProgramHeading,

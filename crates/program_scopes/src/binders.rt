@@ -20,7 +20,7 @@ pub(crate) const UNBOUND: u32 = 272;
 
 // A step judged: its variable is bound here, or a number is stored for it, what binds its variable if it is a `var`, else 0; or it is
 // refused.
-pub enum Judged {
+pub(crate) enum Judged {
     Bind,
     Store(u32),
     Refused(Refusal),

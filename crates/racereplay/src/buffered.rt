@@ -39,7 +39,7 @@ fn carry(buffer: &mut [u8], from: usize)
 }
 
 // The run behind the lines of a buffer, and how many bytes of a cut line stand in front of it now.
-pub struct Taken {
+pub(crate) struct Taken {
     pub run: Point,
     pub held: usize,
 }
@@ -48,7 +48,7 @@ pub struct Taken {
 // taken: if the run is that of a program behind lines of its trace, it is now the one behind those lines and the lines of the buffer, and what
 // the buffer had behind them is held;
 // held: no more is held than there is room for.
-pub fn take_in(job: &[u32], space: &mut [u32], run: Point, buffer: &mut [u8]) -> Taken
+pub(crate) fn take_in(job: &[u32], space: &mut [u32], run: Point, buffer: &mut [u8]) -> Taken
     ensures taken { λ r. ⌜ ((program trace : List ℕ) → RunOf program trace (now (job .entry)) (now (space .entry)) run → endsLine trace ≡ true → run .steps + length (now (buffer .entry)) < 18446744073709551616 → TakenIn program trace (now (job .entry)) (now (space .exit)) (now (buffer .entry)) (now (buffer .exit)) r) ⌝ }
     ensures held { λ r. ⌜ r .held ≤ length (now (buffer .exit)) ⌝ }
 {
