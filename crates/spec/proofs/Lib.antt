@@ -1,4 +1,5 @@
 pub mod KnownPairs
+pub mod LinesRead
 pub mod Workspace
 pub mod Reasons
 pub mod Refusals
