@@ -1,4 +1,6 @@
 // The four numbers that document 01 returns for an answer; in `line` the line that `racecheck` writes of them.
+#![tactic(auto)]
+
 mod line;
 
 ghost use Rattle.std.specs.Prelude.{◌≡◌};

@@ -1,4 +1,6 @@
 // The offered call: two texts and a lent work space in, one answer out.
+#![tactic(auto)]
+
 ghost use Rattle.std.specs.Prelude.{◌≡◌, true, ◌↔◌, ◌≤◌, length};
 ghost use Rattle.spec.specs.Verdict.{verdict, returned, numbers4, on_conditions};
 ghost use Rattle.spec.specs.Workspace.{workspace_size, workspace_after};

@@ -1,4 +1,6 @@
 // The rules of the words on threads, locks, semaphores and read-write locks.
+#![tactic(auto)]
+
 mod loads;
 mod rows;
 

@@ -1,5 +1,7 @@
 // What one condition asks of the sheets that the work space holds, judged with its line and its number: on types, on flow, on
 // access. Before those of the steps come 44, of the lock lines, and 30, of the start.
+#![tactic(auto)]
+
 mod locks;
 mod types;
 

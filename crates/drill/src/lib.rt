@@ -1,5 +1,7 @@
 // The offered call for practice pairs: from a seed, a program of k readers and a split of it that is accepted, written into two
 // lent buffers.
+#![tactic(auto)]
+
 mod program_sheet;
 mod split_sheet;
 

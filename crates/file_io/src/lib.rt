@@ -1,6 +1,8 @@
 // What the programs share of the outside: reading a sheet into a lent buffer, making a file, telling an outcome in one
 // line, writing bytes to a descriptor. No contract of the kit says what a file holds. So what is to go in and out stands in the
 // `requires` of the functions that meet the outside: which file is read into how much room, which bytes are a line.
+#![tactic(auto)]
+
 mod making;
 mod retry;
 

@@ -1,4 +1,6 @@
 // The offered call of filling, request (viii): a program and a split whose step lines leave their maps out in, the whole sheet out.
+#![tactic(auto)]
+
 mod maps;
 
 ghost use Rattle.std.specs.Prelude.{◌≡◌, List, ◌↔◌, ◌≤◌, length, take};

@@ -1,5 +1,7 @@
 // The pass of filling at one location, request (viii): the greatest posts of all steps there, from what the work space holds of a
 // program and a split.
+#![tactic(auto)]
+
 mod attainable;
 mod posts;
 mod roots;

@@ -1,5 +1,6 @@
 // Filling, request (viii): the greatest after-maps of a split whose step lines leave them out. Here the shapes that definitions
 // and code share; what filling is stands in specs/, that it is right in proofs/.
+#![tactic(auto)]
 
 // What a step does to the number at one location once its parts are done: it takes some, it gives some, so much must be there
 // afterwards, and what it lends in all may be no more than what it takes.

@@ -1,5 +1,7 @@
 // The transfer function of a step at a location: how the number flows through it, from the constants that the work space holds. `steps`
 // applies it.
+#![tactic(auto)]
+
 pub mod steps;
 
 ghost use Rattle.std.specs.Prelude.{◌≡◌, ◌<◌};

@@ -1,4 +1,6 @@
 // The fixed words of both sheets, compared as byte strings; in `numbers` what the word of a step says of its number v.
+#![tactic(auto)]
+
 mod numbers;
 
 ghost use Rattle.std.specs.Prelude.{◌≡◌};

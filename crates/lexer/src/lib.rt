@@ -1,4 +1,6 @@
 // The cursor over a lent text, and what is read at it: fields, numerals, the ends of lines and of the text.
+#![tactic(auto)]
+
 ghost use Rattle.std.specs.Prelude.{◌≡◌, ◌-◌, length};
 ghost use Rattle.spec.specs.Text.{leading_zero, numeral, digit_limit};
 ghost use Rattle.lexer.specs.Views.{text_ended};

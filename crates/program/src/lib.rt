@@ -1,4 +1,6 @@
 // The program sheet, read into the work space: its lines, and then what they list.
+#![tactic(auto)]
+
 mod lines;
 
 ghost use Rattle.std.specs.Prelude.{◌≡◌, ◌≤◌, length};

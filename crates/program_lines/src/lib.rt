@@ -1,4 +1,6 @@
 // One line of a program sheet at a cursor, with its ranges: line 1, of a step, of a procedure.
+#![tactic(auto)]
+
 mod counts;
 mod items;
 mod tails;

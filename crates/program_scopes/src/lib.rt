@@ -1,5 +1,7 @@
 // What the stored lines of a program list, with their variables in scope: each is bound once, and used only in its let's e2 or its
 // procedure's body. `binders` judges one step and what binds its variable.
+#![tactic(auto)]
+
 mod binders;
 
 ghost use Rattle.std.specs.Prelude.{◌≡◌, ◌≤◌, length, get_or, set};

@@ -1,4 +1,6 @@
 // The procedures and the root that the stored lines list, each expression a step, then its parts, left to right.
+#![tactic(auto)]
+
 ghost use Rattle.std.specs.Prelude.{◌≡◌, ◌+◌, ◌≤◌};
 ghost use Rattle.workspace.specs.Layout.{step_room};
 ghost use Rattle.program_tree.specs.Items.{ItemsStored};

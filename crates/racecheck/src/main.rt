@@ -1,5 +1,7 @@
 // Reads `program.txt` and `split.txt` in the current folder and writes one line: `ACCEPT`, `REFUSE,` and four numbers, or
 // `UNREAD`. The judging is in the library `checker`, the wording in `answers`; here is only what meets the outside.
+#![tactic(auto)]
+
 ghost use Rattle.std.specs.Prelude.{◌≡◌, length};
 ghost use Rattle.std.proofs.Math.Option.{some};
 ghost use Rattle.file_io.specs.Files.{Within, text_in};

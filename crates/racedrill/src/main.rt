@@ -1,6 +1,8 @@
 // `racedrill SEED` makes the practice pair of a seed: `program.txt` and `split.txt` in the current folder. It writes one line:
 // `DRILL,` with the new x and the two lengths, or `UNMADE`, and then no file of its own is left behind and standard error says why.
 // Everything that matters is in the library `drill`; here is only what meets the outside.
+#![tactic(auto)]
+
 mod line;
 mod pair;
 mod seed;

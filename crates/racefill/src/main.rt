@@ -1,6 +1,8 @@
 // Reads `program.txt` and `split.txt` in the current folder, a split whose step lines leave their maps out, and writes the whole
 // sheet, or one line: `REFUSE,` and four numbers, or `UNREAD`. The filling is in the library `fill`, the wording in `answers`; here
 // is only what meets the outside.
+#![tactic(auto)]
+
 ghost use Rattle.std.specs.Prelude.{◌≡◌, length};
 ghost use Rattle.spec.specs.Split.{split_limit};
 ghost use Rattle.spec.specs.Workspace.{workspace_size};

@@ -1,6 +1,8 @@
 // Reads `program.txt` and `trace.txt` in the current folder and writes one line: `RAN,` or `RACE,` and what the replay reports, `REFUSE,`
 // and four numbers with what it reports, or `UNREAD`. The replay is in the library `replay`, the wording in `replay_answers`; here is only
 // what meets the outside.
+#![tactic(auto)]
+
 mod buffered;
 
 ghost use Rattle.std.specs.Prelude.{◌≡◌, true, List, ◌++◌, ℕ, ◌+◌, ◌<◌, length};

@@ -1,5 +1,7 @@
 // The offered calls of request (xii): a program, a trace and a lent space in, an answer and a report out; and the same of a trace that comes
 // in pieces.
+#![tactic(auto)]
+
 mod pieces;
 mod start;
 

@@ -1,4 +1,6 @@
 // What a replay answers and reports, in numbers: its ending and its race; in `line` the line that `racereplay` writes of them.
+#![tactic(auto)]
+
 mod line;
 
 ghost use Rattle.std.specs.Prelude.{◌≡◌};

@@ -1,5 +1,7 @@
 // The control of a thread on numbers: from where a step leaves it to its next word. A step of the program has one continuation, what
 // follows once it is a value, so that no frames are stored.
+#![tactic(auto)]
+
 mod continuations;
 pub mod layout;
 mod shapes;

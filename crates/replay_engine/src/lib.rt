@@ -1,5 +1,7 @@
 // The steps of a program's threads on numbers in a lent space. `replay_step` has what a word does by itself; here a thread goes on to its
 // next word, the records of threads follow `spawn` and `join`, and the threads that race are found.
+#![tactic(auto)]
+
 mod control_points;
 mod races;
 

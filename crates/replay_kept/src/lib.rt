@@ -1,5 +1,7 @@
 // A run of a replay as numbers of 64 bits in a lent buffer, one table of their places: whether it goes on, what it tells so far, and the records
 // of its threads. What it tells stands there in the numbers that a caller is handed.
+#![tactic(auto)]
+
 mod numbers;
 
 ghost use Rattle.std.specs.Prelude.{◌≡◌, ℕ, ◌+◌, ◌<◌, length, get_or, set, take};

@@ -1,4 +1,6 @@
 // The lines of a piece of a trace in turn: the run between two of them, and the first race so far.
+#![tactic(auto)]
+
 ghost use Rattle.std.specs.Prelude.{◌≡◌, List, ◌<◌, ◌≤◌, length, drop};
 ghost use Rattle.spec.specs.Text.{Line};
 ghost use Rattle.lexer.specs.Views.{line_at};

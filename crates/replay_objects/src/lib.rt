@@ -1,5 +1,7 @@
 // The things of a run, which names name, and what a word does with the one that it is about: a function for each word, and the table of
 // them by rule.
+#![tactic(auto)]
+
 ghost use Rattle.std.specs.Prelude.{◌≡◌};
 ghost use Rattle.replay_objects.specs.Uses.{made_of, spawned_of, joined_of, read_of, written_of, locked_of, unlocked_of, posted_of, waited_of, rdlocked_of, rdunlocked_of, wrlocked_of, wrunlocked_of, effect_of};
 

@@ -1,6 +1,8 @@
 // A replay whose trace comes in pieces, for callers that keep its run as numbers: it begins with a program, goes on with any number of pieces,
 // each of them lines of the trace, and tells what it has come to. Between two calls all of it lies in three lent buffers: the job, which is the
 // program as the run reads it, the space, and the run (crates/replay_kept).
+#![tactic(auto)]
+
 mod runs;
 
 ghost use Rattle.std.specs.Prelude.{◌≡◌, true, false, List, [], ◌++◌, ℕ, ◌+◌, ◌<◌, length};

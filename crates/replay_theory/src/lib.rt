@@ -1,5 +1,7 @@
 // What it is to run a recorded order (document 02, request (xii), with the calls of request (xiv)): the trace, the run, the report. The
 // shapes that the definitions and the code share stand here, the definitions in specs/. Nothing here runs.
+#![tactic(auto)]
+
 use spec::Refusal;
 
 // The record of a thread.

@@ -1,5 +1,7 @@
 // What the conditions of a step look at, and how the columns of the work space show it. The rules of Figure 5 as rows of conditions over
 // such a view are definitions; `relations` has what their code shares.
+#![tactic(auto)]
+
 mod columns;
 mod relations;
 

@@ -1,4 +1,6 @@
 // The conditions of one step: its rule, by its word, judged over what the work space shows of the step.
+#![tactic(auto)]
+
 mod table;
 
 ghost use Rattle.std.specs.Prelude.{◌≡◌};

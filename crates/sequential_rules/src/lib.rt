@@ -1,5 +1,7 @@
 // The rules of the words that a thread does alone, on values, cells, branches and calls, and what a `proc` line asks of its
 // procedure.
+#![tactic(auto)]
+
 mod procedures;
 mod rows;
 

@@ -1,4 +1,6 @@
 // Both sheets, read in turn into the work space: what a check and a filling begin with.
+#![tactic(auto)]
+
 ghost use Rattle.std.specs.Prelude.{◌≡◌, length};
 ghost use Rattle.workspace.specs.Layout.{work_size};
 ghost use Rattle.sheets.specs.Answers.{ProgramHeld, SplitAnswered, SheetsAnswered};

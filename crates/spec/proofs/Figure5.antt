@@ -57,82 +57,82 @@ module _ (S : Split) where
 
   -- ------------------------------------------------------------------ from conditions to a derivation
 
-  holding_derives : (Γ : Env) (pre : Map) (e : Expr) → AllAt (step_contexts S Γ pre e) → Derives S Γ pre e
+  holding_derives : (e : Expr) (Γ : Env) (pre : Map) → AllAt (step_contexts S Γ pre e) → Derives S Γ pre e
   unfolding AllHold Holds claims_at numbered conditions_by conditions_of pre_of_part pre_of_second role binding post body_start kept_back
-  holding_derives Γ pre (leaf Var k v) h =
+  holding_derives (leaf Var k v) Γ pre h =
       let c = leaf_conditions Γ pre Var k v h in
       VAR c.0 (none_equal c.1.0)
-  holding_derives Γ pre (leaf Int k v) h =
+  holding_derives (leaf Int k v) Γ pre h =
       let c = leaf_conditions Γ pre Int k v h in
       INT (is_of int _ c.0) (none_equal c.1.0)
-  holding_derives Γ pre (leaf Newtid k v) h =
+  holding_derives (leaf Newtid k v) Γ pre h =
       let c = leaf_conditions Γ pre Newtid k v h in
       NEWT (is_of tid _ c.0) (none_equal c.1.0)
-  holding_derives Γ pre (leaf Newlock k v) h =
+  holding_derives (leaf Newlock k v) Γ pre h =
       let c = leaf_conditions Γ pre Newlock k v h in
       NEWL (is_of lock _ c.0) (none_equal c.1.0)
-  holding_derives Γ pre (unary While k v e₁) h =
+  holding_derives (unary While k v e₁) Γ pre h =
       let (c, h₁) = unary_conditions Γ pre While k v e₁ h in
-      WHILE (holding_derives _ _ e₁ h₁) (none_covers c.1.1.0) (none_covers c.1.0) (is_of int _ c.0)
-  holding_derives Γ pre (unary Join k v e₁) h =
+      WHILE (holding_derives e₁ _ _ h₁) (none_covers c.1.1.0) (none_covers c.1.0) (is_of int _ c.0)
+  holding_derives (unary Join k v e₁) Γ pre h =
       let (c, h₁) = unary_conditions Γ pre Join k v e₁ h in
-      JOIN (holding_derives _ _ e₁ h₁) (is_of tid _ c.1.0) (is_of int _ c.0) (none_equal c.1.1.0)
-  holding_derives Γ pre (unary Ref k v e₁) h =
+      JOIN (holding_derives e₁ _ _ h₁) (is_of tid _ c.1.0) (is_of int _ c.0) (none_equal c.1.1.0)
+  holding_derives (unary Ref k v e₁) Γ pre h =
       let (c, h₁) = unary_conditions Γ pre Ref k v e₁ h in
       let (is, agrees) = is_ref_of S _ _ c.0 in
-      REF (holding_derives _ _ e₁ h₁) is agrees (none_equal c.1.0)
-  holding_derives Γ pre (unary Read k v e₁) h =
+      REF (holding_derives e₁ _ _ h₁) is agrees (none_equal c.1.0)
+  holding_derives (unary Read k v e₁) Γ pre h =
       let (c, h₁) = unary_conditions Γ pre Read k v e₁ h in
       let (is, agrees) = is_ref_of S _ _ c.1.0 in
-      READ (holding_derives _ _ e₁ h₁) is agrees (ltb-true _ _ c.1.1.1.0) (none_equal c.1.1.0)
-  holding_derives Γ pre (unary Lock k v e₁) h =
+      READ (holding_derives e₁ _ _ h₁) is agrees (ltb-true _ _ c.1.1.1.0) (none_equal c.1.1.0)
+  holding_derives (unary Lock k v e₁) Γ pre h =
       let (c, h₁) = unary_conditions Γ pre Lock k v e₁ h in
-      LCK (holding_derives _ _ e₁ h₁) (is_of lock _ c.1.0) (is_of int _ c.0) (none_equal c.1.1.0)
-  holding_derives Γ pre (unary Unlock k v e₁) h =
+      LCK (holding_derives e₁ _ _ h₁) (is_of lock _ c.1.0) (is_of int _ c.0) (none_equal c.1.1.0)
+  holding_derives (unary Unlock k v e₁) Γ pre h =
       let (c, h₁) = unary_conditions Γ pre Unlock k v e₁ h in
-      ULCK (holding_derives _ _ e₁ h₁) (is_of lock _ c.1.0) (is_of int _ c.0) (none_equal c.1.1.0)
-  holding_derives Γ pre (leaf Newsem k v) h =
+      ULCK (holding_derives e₁ _ _ h₁) (is_of lock _ c.1.0) (is_of int _ c.0) (none_equal c.1.1.0)
+  holding_derives (leaf Newsem k v) Γ pre h =
       let c = leaf_conditions Γ pre Newsem k v h in
       NEWSEM (is_of sem _ c.0) (none_equal c.1.0)
-  holding_derives Γ pre (unary Post k v e₁) h =
+  holding_derives (unary Post k v e₁) Γ pre h =
       let (c, h₁) = unary_conditions Γ pre Post k v e₁ h in
-      POST (holding_derives _ _ e₁ h₁) (is_of sem _ c.1.0) (is_of int _ c.0) (none_equal c.1.1.0)
-  holding_derives Γ pre (unary Wait k v e₁) h =
+      POST (holding_derives e₁ _ _ h₁) (is_of sem _ c.1.0) (is_of int _ c.0) (none_equal c.1.1.0)
+  holding_derives (unary Wait k v e₁) Γ pre h =
       let (c, h₁) = unary_conditions Γ pre Wait k v e₁ h in
-      WAIT (holding_derives _ _ e₁ h₁) (is_of sem _ c.1.0) (is_of int _ c.0) (none_equal c.1.1.0)
-  holding_derives Γ pre (leaf Newrwlock k v) h =
+      WAIT (holding_derives e₁ _ _ h₁) (is_of sem _ c.1.0) (is_of int _ c.0) (none_equal c.1.1.0)
+  holding_derives (leaf Newrwlock k v) Γ pre h =
       let c = leaf_conditions Γ pre Newrwlock k v h in
       NEWRWLOCK (is_of rwlock _ c.0) (none_covers c.1.0) (none_equal c.1.1.0)
-  holding_derives Γ pre (unary Rdlock k v e₁) h =
+  holding_derives (unary Rdlock k v e₁) Γ pre h =
       let (c, h₁) = unary_conditions Γ pre Rdlock k v e₁ h in
-      RDLOCK (holding_derives _ _ e₁ h₁) (is_of rwlock _ c.1.0) (is_of int _ c.0) (none_equal c.1.1.0)
-  holding_derives Γ pre (unary Rdunlock k v e₁) h =
+      RDLOCK (holding_derives e₁ _ _ h₁) (is_of rwlock _ c.1.0) (is_of int _ c.0) (none_equal c.1.1.0)
+  holding_derives (unary Rdunlock k v e₁) Γ pre h =
       let (c, h₁) = unary_conditions Γ pre Rdunlock k v e₁ h in
-      RDUNLOCK (holding_derives _ _ e₁ h₁) (is_of rwlock _ c.1.0) (is_of int _ c.0) (none_equal c.1.1.0)
-  holding_derives Γ pre (unary Wrlock k v e₁) h =
+      RDUNLOCK (holding_derives e₁ _ _ h₁) (is_of rwlock _ c.1.0) (is_of int _ c.0) (none_equal c.1.1.0)
+  holding_derives (unary Wrlock k v e₁) Γ pre h =
       let (c, h₁) = unary_conditions Γ pre Wrlock k v e₁ h in
-      WRLOCK (holding_derives _ _ e₁ h₁) (is_of rwlock _ c.1.0) (is_of int _ c.0) (none_equal c.1.1.0)
-  holding_derives Γ pre (unary Wrunlock k v e₁) h =
+      WRLOCK (holding_derives e₁ _ _ h₁) (is_of rwlock _ c.1.0) (is_of int _ c.0) (none_equal c.1.1.0)
+  holding_derives (unary Wrunlock k v e₁) Γ pre h =
       let (c, h₁) = unary_conditions Γ pre Wrunlock k v e₁ h in
-      WRUNLOCK (holding_derives _ _ e₁ h₁) (is_of rwlock _ c.1.0) (is_of int _ c.0) (none_equal c.1.1.0)
-  holding_derives Γ pre (unary Call k f e₁) h =
+      WRUNLOCK (holding_derives e₁ _ _ h₁) (is_of rwlock _ c.1.0) (is_of int _ c.0) (none_equal c.1.1.0)
+  holding_derives (unary Call k f e₁) Γ pre h =
       let (c, h₁) = unary_conditions Γ pre Call k f e₁ h in
-      CALL (holding_derives _ _ e₁ h₁) c.1.0 (none_equal c.1.1.0) c.0 (none_equal c.1.1.1.0)
-  holding_derives Γ pre (binary Let k v e₁ e₂) h =
+      CALL (holding_derives e₁ _ _ h₁) c.1.0 (none_equal c.1.1.0) c.0 (none_equal c.1.1.1.0)
+  holding_derives (binary Let k v e₁ e₂) Γ pre h =
       let (c, h₁, h₂) = binary_conditions Γ pre Let k v e₁ e₂ h in
-      LET (holding_derives _ _ e₁ h₁) (holding_derives _ _ e₂ h₂) c.0 (none_equal c.1.0)
-  holding_derives Γ pre (binary If k v e₁ e₂) h =
+      LET (holding_derives e₁ _ _ h₁) (holding_derives e₂ _ _ h₂) c.0 (none_equal c.1.0)
+  holding_derives (binary If k v e₁ e₂) Γ pre h =
       let (c, h₁, h₂) = binary_conditions Γ pre If k v e₁ e₂ h in
-      IF (holding_derives _ _ e₁ h₁) c.0 (none_covers c.1.1.0)
-      (holding_derives _ _ e₂ h₂) c.1.0 (none_covers c.1.1.1.0)
-  holding_derives Γ pre (binary Spawn k v e₁ e₂) h =
+      IF (holding_derives e₁ _ _ h₁) c.0 (none_covers c.1.1.0)
+      (holding_derives e₂ _ _ h₂) c.1.0 (none_covers c.1.1.1.0)
+  holding_derives (binary Spawn k v e₁ e₂) Γ pre h =
       let (c, h₁, h₂) = binary_conditions Γ pre Spawn k v e₁ e₂ h in
-      SPAWN (holding_derives _ _ e₁ h₁) (is_of tid _ c.1.0) (holding_derives _ _ e₂ h₂) (none_covers c.1.1.0)
+      SPAWN (holding_derives e₁ _ _ h₁) (is_of tid _ c.1.0) (holding_derives e₂ _ _ h₂) (none_covers c.1.1.0)
       (is_of int _ c.0) (none_equal c.1.1.1.0)
-  holding_derives Γ pre (binary Write k v e₁ e₂) h =
+  holding_derives (binary Write k v e₁ e₂) Γ pre h =
       let (c, h₁, h₂) = binary_conditions Γ pre Write k v e₁ e₂ h in
       let (is, agrees) = is_ref_of S _ _ c.1.1.0 in
-      WRITE (holding_derives _ _ e₁ h₁) is (holding_derives _ _ e₂ h₂) agrees
+      WRITE (holding_derives e₁ _ _ h₁) is (holding_derives e₂ _ _ h₂) agrees
       (leb-true _ _ c.1.1.1.1.0) (is_of int _ c.0) (none_equal c.1.1.1.0)
 
   -- ------------------------------------------------------------------ from a derivation to conditions
@@ -215,7 +215,7 @@ module _ (S : Split) where
   unfolding claims_of_procedure procedure_conditions body_step_contexts numbered AllHold Holds
   holding_body g p h =
       let (own, body) = all_hold_parts (numbered p.line 1 (procedure_conditions S g p)) (claims S (body_step_contexts S g p)) h in
-      record { derives = holding_derives _ _ p.body body; result = own.0; after = none_covers own.1.0 }
+      record { derives = holding_derives p.body _ _ body; result = own.0; after = none_covers own.1.0 }
 
   holding_bodies : (f : ℕ) (ps : List Procedure) → AllHold (claims_of_procedures S f ps) → BodiesDerive S f ps
   unfolding claims_of_procedures
@@ -243,7 +243,7 @@ module _ (S : Split) where
   unfolding claims_of
   conditions_derive P h =
       let (bodies, root) = all_hold_parts (claims_of_procedures S 0 P.procedures) _ (none_false_all_hold _ h) in
-      (holding_bodies 0 P.procedures bodies, holding_derives [] (start_map S) P.root root)
+      (holding_bodies 0 P.procedures bodies, holding_derives P.root [] (start_map S) root)
 
   pub derivation_meets_conditions : (P : Program) → BodiesDerive S 0 P.procedures → Derives S [] (start_map S) P.root
       → first_false (claims_of S P) ≡ ok tt

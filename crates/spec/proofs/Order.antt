@@ -114,12 +114,12 @@ module _ (S : Split) where
   abbrev line_of_step : Step → ℕ
   line_of_step s = s.line
 
-  step_context_lines : (Γ : Env) (pre : Map) (e : Expr) → map line_of_step_context (step_contexts S Γ pre e) ≡ map line_of_step (prefix e)
+  step_context_lines : (e : Expr) (Γ : Env) (pre : Map) → map line_of_step_context (step_contexts S Γ pre e) ≡ map line_of_step (prefix e)
   unfolding step_contexts prefix line_of
-  step_context_lines Γ pre (leaf w k v) = refl
-  step_context_lines Γ pre (unary w k v e₁) = ap (k.line ∷◌) (step_context_lines Γ _ e₁)
-  step_context_lines Γ pre (binary w k v e₁ e₂) =
-      rw (map-append line_of_step_context (step_contexts S Γ pre e₁) _, map-append line_of_step (prefix e₁) (prefix e₂), step_context_lines Γ pre e₁, step_context_lines _ _ e₂)
+  step_context_lines (leaf w k v) Γ pre = refl
+  step_context_lines (unary w k v e₁) Γ pre = ap (k.line ∷◌) (step_context_lines e₁ Γ _)
+  step_context_lines (binary w k v e₁ e₂) Γ pre =
+      rw (map-append line_of_step_context (step_contexts S Γ pre e₁) _, map-append line_of_step (prefix e₁) (prefix e₂), step_context_lines e₁ Γ pre, step_context_lines e₂ _ _)
 
   judged_lines : (ss : List StepContext) → map line_of_judged (judged_of ss) ≡ map line_of_step_context ss
   judged_lines [] = refl
@@ -132,7 +132,7 @@ module _ (S : Split) where
 
   expression_lines : (Γ : Env) (pre : Map) (e : Expr) → map line_of_judged (judged_of (step_contexts S Γ pre e)) ≡ map line_of_item (items_of e)
   unfolding items_of
-  expression_lines Γ pre e = judged_lines (step_contexts S Γ pre e) ∙ step_context_lines Γ pre e ∙ sym (step_lines (prefix e))
+  expression_lines Γ pre e = judged_lines (step_contexts S Γ pre e) ∙ step_context_lines e Γ pre ∙ sym (step_lines (prefix e))
 
   program_lines_lem : (f : ℕ) (ps : List Procedure) (root : Expr) → map line_of_judged (judged_from f ps root) ≡ map line_of_item (listing ps root)
   unfolding listing body_step_contexts line_of_item judged_from

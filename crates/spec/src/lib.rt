@@ -1,4 +1,5 @@
 // The shapes that the definitions of document 01 and the code share. The definitions stand in specs/.
+#![tactic(auto)]
 
 // The words of a program sheet, by their number of parts.
 #[derive(Drop)]

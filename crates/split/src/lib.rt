@@ -1,4 +1,6 @@
 // The split sheet, read into the work space line by line: its header, then the sections behind it, types, maps, signatures and rows.
+#![tactic(auto)]
+
 mod map_lines;
 mod row_lines;
 mod signature_lines;

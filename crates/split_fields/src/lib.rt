@@ -1,5 +1,7 @@
 // What the lines of a split sheet share: their fields, which are the first one, a number with a comma behind it, and the m and
 // the s of a step line; two numbers in their ranges; and the answer to lines that are stored. `starts` has what the s may be.
+#![tactic(auto)]
+
 mod starts;
 
 ghost use Rattle.std.specs.Prelude.{◌≡◌, [], ◌∷◌};

@@ -1,4 +1,6 @@
 // Line 1 of the split sheet, its header: `C,D,L,T,M`, `C2,D,L,T,M,r` or `C3,D,L,T,M,r`, with its ranges.
+#![tactic(auto)]
+
 ghost use Rattle.std.specs.Prelude.{◌≡◌};
 ghost use Rattle.spec.specs.Text.{look_up};
 ghost use Rattle.spec.specs.Reading.{split_sheet, ◌to◌, in_range, read_line};

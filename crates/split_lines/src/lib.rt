@@ -1,5 +1,7 @@
 // The lines of a split sheet behind its header, one at a cursor, with its ranges: of a type and of a map, which have a number; of a
 // procedure, which is its signature, and of a step, which is its row.
+#![tactic(auto)]
+
 mod maps;
 mod rows;
 mod signatures;

@@ -1,4 +1,6 @@
 // Writing a whole split sheet: the split that the work space holds, line by line, into a lent buffer.
+#![tactic(auto)]
+
 ghost use Rattle.std.specs.Prelude.{◌≡◌, [], ◌∷◌, ◌++◌, map, ◌*◌, ◌+◌, ◌≤◌, ◌<◌, length};
 ghost use Rattle.workspace.specs.Layout.{starts_at, maps_at, stride};
 ghost use Rattle.text_theory.specs.Text.{decimal, line, text};

@@ -1,4 +1,6 @@
 // The steps in line order. Each is judged once the map before it is known, and hands down the maps before its parts.
+#![tactic(auto)]
+
 ghost use Rattle.std.specs.Prelude.{◌≡◌, ◌+◌, ◌-◌, ◌<◌, length};
 ghost use Rattle.spec.specs.Words.{pre_of_part, pre_of_second};
 ghost use Rattle.workspace.specs.Layout.{pres_at, work_size};

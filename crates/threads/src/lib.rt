@@ -1,4 +1,6 @@
 // Thread records: each thread of a run is running, finished or joined, with the identifier that a join asks for.
+#![tactic(auto)]
+
 ghost use Rattle.std.specs.Prelude.{◌≡◌, ◌<◌};
 ghost use Rattle.threads.specs.Records.{matching, lowest};
 ghost use Rattle.threads.specs.Threads.{started, spawned as spawned_of, turned, finished as finished_of, joined as joined_of, is_running, runs as runs_of};

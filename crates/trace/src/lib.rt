@@ -1,5 +1,7 @@
 // The lines of a trace, `thread,choice`. A trace has no limit but that of a slice, so that its bytes are counted in 64 bits; the
 // cursor of `lexer` is for sheets, which have one.
+#![tactic(auto)]
+
 ghost use Rattle.std.specs.Prelude.{◌≡◌, ◌+◌, ◌≤◌, length, drop};
 ghost use Rattle.lexer.specs.Views.{width, line_at};
 ghost use Rattle.trace.specs.Lines.{closed_by, choice_by, move_in};

@@ -6,6 +6,8 @@
 //
 // A line of the input is a program, a tab and a split; in both texts a bar stands for byte 10. The first 131,072 bytes of the
 // input are read, and that is the one limit on the length of a line.
+#![tactic(auto)]
+
 ghost use Rattle.std.specs.Prelude.{◌≤◌, length};
 
 use libc::{STDIN_FILENO, STDOUT_FILENO};

@@ -1,5 +1,7 @@
 // The walk over a program and its split as the work space holds them: the lock lines and the start, then line by line the
 // conditions of each procedure and of each step.
+#![tactic(auto)]
+
 mod bodies;
 
 ghost use Rattle.std.specs.Prelude.{◌≡◌, ◌≤◌, length};

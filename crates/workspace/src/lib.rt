@@ -1,5 +1,7 @@
 // What stands where in the lent work space, once the sheets are read: the one table of offsets, the numbers that stand for
 // words and types, and reading them back.
+#![tactic(auto)]
+
 ghost use Rattle.std.specs.Prelude.{◌≡◌, ◌+◌, ◌*◌, ◌<◌, length, get_or, replicate};
 ghost use Rattle.workspace.specs.Layout.{code_of, leaf_code, unary_code, binary_code, rule_of, touching as touching_by, known as known_by, traits_of, shape_of, touch_of, word_of, kind_code, first_of, second_of, type_of, type_at, map_cell};
 

@@ -1,5 +1,7 @@
 // Writing texts into lent buffers: bytes, byte strings and numerals at a place. A byte past the end of a buffer is left out
 // and counted all the same, so a writer run over an empty buffer tells how long its text is.
+#![tactic(auto)]
+
 ghost use Rattle.std.specs.Prelude.{◌≡◌, [], ◌∷◌, ◌++◌, map, ◌+◌, ◌≤◌, ◌<◌, length, set};
 ghost use Rattle.text_theory.specs.Text.{digit as digit_of, decimal, line};
 ghost use Rattle.writer.specs.Buffer.{WrittenAt, counted, overwrite};
