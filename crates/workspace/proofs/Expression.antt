@@ -137,15 +137,15 @@ module _ {w : List ℕ} {k : ℕ} where
   module _ (x : BinaryWord) (p : Position) (v : ℕ) (e₁ e₂ : Expr) (s : Standing w k (binary x p v e₁ e₂)) where
     codes_parts : Region w (words_at + k + 1) (codes e₁ ++ codes e₂)
     unfolding codes prefix
-    codes_parts = rw map-append at (region_behind s.words)
+    codes_parts = rw (map-append (λ (s : Step). code_of s.word) (prefix e₁) (prefix e₂)) at (region_behind s.words)
 
     values_parts : Region w (values_at + k + 1) (values e₁ ++ values e₂)
     unfolding values prefix
-    values_parts = rw map-append at (region_behind s.numbers)
+    values_parts = rw (map-append (λ (s : Step). s.value) (prefix e₁) (prefix e₂)) at (region_behind s.numbers)
 
     lines_parts : Region w (lines_at + k + 1) (lines_of e₁ ++ lines_of e₂)
     unfolding lines_of prefix
-    lines_parts = rw map-append at (region_behind s.lined)
+    lines_parts = rw (map-append (λ (s : Step). s.line) (prefix e₁) (prefix e₂)) at (region_behind s.lined)
 
     ends_parts : Region w (ends_at + k + 1) (ends (k + 1) e₁ ++ ends (k + 1 + size e₁) e₂)
     unfolding ends
