@@ -1,12 +1,11 @@
 use mathlib.Core.List.{append-nil}
 use lib.Seq.{drop-length}
-use Prim.Native.Nat.{ℕ, ◌≤◌, ◌-◌, ◌+◌}
+use Prim.Native.Nat.{ℕ}
 use mathlib.Core.Path.{◌≡◌, refl, ap, ◌∙◌}
-use mathlib.Core.List.{List, ◌++◌}
+use mathlib.Core.List.{List}
 use native.Mathlib.Omega.{arith}
-use borrow.Author.Rules.{rules}
 use borrow.Author.Fill.{fill_none, fill_more}
-use lib.ListN.{length, drop, replicate, set, length-set}
+use lib.ListN.{length, set, length-set}
 use Rattle.workspace.proofs.clear.Goals as goal
 
 pub loop-i-init : goal.loop-i-init

@@ -1,5 +1,4 @@
 -- A rule a line: its word, how that is evaluated and what it does with a cell.
-use borrow.Author.Rules.{rules}
 use Rattle.workspace.proofs.traits_of.Goals as goal
 
 pub returns-in-VAR : goal.returns-in-VAR

@@ -1,5 +1,4 @@
 use Rattle.workspace.specs.Layout.{type_at}
-use borrow.Author.Rules.{rules}
 use Rattle.workspace.proofs.type_at.Goals as goal
 
 -- all three are read at once, or each by itself

@@ -1,5 +1,4 @@
 use mathlib.Core.Path.{ap, ◌∙◌}
-use borrow.Author.Rules.{rules}
 use Rattle.workspace.specs.Layout.{word_by, word_of}
 use Rattle.workspace.specs.declared.Traits.{Traits}
 use Rattle.workspace.proofs.word_of.Goals as goal
