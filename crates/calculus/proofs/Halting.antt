@@ -83,24 +83,24 @@ module _ {D : ℕ} {S : Signatures} {s : State} (P : List Procedure) (bodies : B
       some_is_not_none (bind_goes_on (inside_after M w k) _ turned h)
 
   unary_halts : {σ τ : Ty} {Ψ Φ : Cap} {v : Value} (o : Unary) → next_word t.body ≡ at_word (unary_redex o v) →
-      ValueTyped I.N v σ → UnaryTyped D S o σ Ψ τ Φ → Waits s t
-  unary_halts join word (name_typed known as_it_is) (join_typed gains) = join_waits word known
-  unary_halts ref word typed (ref_typed enough) = named_goes_ahead _ (no_reduct word 0 I.top)
-  unary_halts read word (name_typed {n = n} known as_it_is) (read_typed some_of_it enough) =
+      UnaryTyped D S o σ Ψ τ Φ → ValueTyped I.N v σ → Waits s t
+  unary_halts join word (join_typed gains) (name_typed known as_it_is) = join_waits word known
+  unary_halts ref word (ref_typed enough) typed = named_goes_ahead _ (no_reduct word 0 I.top)
+  unary_halts read word (read_typed some_of_it enough) (name_typed {n = n} known as_it_is) =
       some_is_not_none (bind_goes_on (cell_value (s.names n)) _ (cell_has_content known).1 (no_reduct word 0 0))
-  unary_halts lock word (name_typed {n = n} known shown) (lock_typed gains) =
+  unary_halts lock word (lock_typed gains) (name_typed {n = n} known shown) =
       let (l, found) = lock_named {n = n} (own_lock known shown) in lock_waits l word found
-  unary_halts unlock word (name_typed {n = n} known shown) (unlock_typed pays) =
+  unary_halts unlock word (unlock_typed pays) (name_typed {n = n} known shown) =
       let (l, found) = lock_named {n = n} (own_lock known shown) in
       some_is_not_none (bind_goes_on (lock_state (s.names n)) _ (ap lock_state found) (no_reduct word 0 0))
-  unary_halts post word (name_typed {n = n} known as_it_is) (post_typed pays) =
+  unary_halts post word (post_typed pays) (name_typed {n = n} known as_it_is) =
       let (c, found) = semaphore_there (rw known at (I.slots n)) in
       some_is_not_none (bind_goes_on (count (s.names n)) _ (ap count found) (no_reduct word 0 0))
-  unary_halts wait word (name_typed {n = n} known as_it_is) (wait_typed gains) =
+  unary_halts wait word (wait_typed gains) (name_typed {n = n} known as_it_is) =
       let (c, found) = semaphore_there (rw known at (I.slots n)) in wait_waits c word found
-  unary_halts (hold w) word (name_typed {n = n} known as_it_is) (hold_typed typed) =
+  unary_halts (hold w) word (hold_typed typed) (name_typed {n = n} known as_it_is) =
       let (M, k, found, _) = rwlock_there (rw known at (I.slots n)) in hold_waits w word found (inside_after M w k) refl
-  unary_halts (call f) word argument (call_typed {g = g} known pays gains) =
+  unary_halts (call f) word (call_typed {g = g} known pays gains) argument =
       some_is_not_none (bind_goes_on (get_elem? P f) _ (bodies f g known).there (no_reduct word 0 0))
 
   redex_halts : {σ : Ty} {Ψ Φ : Cap} {r : Redex} → next_word t.body ≡ at_word r → RedexTyped D S I.N empty Ψ Φ r σ → Waits s t
@@ -112,7 +112,7 @@ module _ {D : ℕ} {S : Signatures} {s : State} (P : List Procedure) (bodies : B
       some_is_not_none (bind_goes_on (if_identifier (s.names n)) _ kind (no_reduct word 0 0))
   redex_halts word (write_redex_typed (name_typed {n = n} known as_it_is) typed whole enough) =
       some_is_not_none (bind_goes_on (cell_value (s.names n)) _ (cell_has_content known).1 (no_reduct word 0 0))
-  redex_halts word (unary_redex_typed {o = o} v_typed o_typed) = unary_halts o word v_typed o_typed
+  redex_halts word (unary_redex_typed {o = o} v_typed o_typed) = unary_halts o word o_typed v_typed
   redex_halts word (nullary_redex_typed o_typed) = named_goes_ahead _ (no_reduct word 0 I.top)
 
   next_halts : (q : Next) → next_word t.body ≡ q → Finished t ⊎ Waits s t

@@ -132,17 +132,17 @@ module _ {D : ℕ} {S : Signatures} {s : State} (P : List Procedure) (bodies : B
       thread_alone_keeps M _ (body_in_place {Ψkeep = Ψkeep} b.p g b.keeps argument pays gains) (bind_goes_on (get_elem? P f) _ b.there q)
 
   unary_keeps : {Φ : Cap} {σ τ : Ty} {v : Value} {s' : State} (o : Unary) (M : Place D S s I m t h τ Φ) → ThreadAt s m.thread t →
-      next_word t.body ≡ at_word (unary_redex o v) → ValueTyped I.N v σ → UnaryTyped D S o σ h.own τ Φ →
+      next_word t.body ≡ at_word (unary_redex o v) → UnaryTyped D S o σ h.own τ Φ → ValueTyped I.N v σ →
       unary_reduct P s m t o v ≡ some s' → WellTyped D S s'
-  unary_keeps join M there word (name_typed known as_it_is) (join_typed gains) q = join_keeps M there word known gains q
-  unary_keeps ref M there word typed (ref_typed enough) q = ref_keeps M typed enough q
-  unary_keeps read M there word (name_typed known as_it_is) (read_typed some_of_it enough) q = read_keeps M known enough q
-  unary_keeps lock M there word (name_typed known shown) (lock_typed gains) q = lock_keeps M (own_lock known shown) gains q
-  unary_keeps unlock M there word (name_typed known shown) (unlock_typed pays) q = unlock_keeps M (own_lock known shown) pays q
-  unary_keeps post M there word (name_typed known as_it_is) (post_typed pays) q = post_keeps M known pays q
-  unary_keeps wait M there word (name_typed known as_it_is) (wait_typed gains) q = wait_keeps M known gains q
-  unary_keeps (hold w) M there word (name_typed known as_it_is) (hold_typed typed) q = hold_keeps M known typed q
-  unary_keeps (call f) M there word argument (call_typed known pays gains) q = call_keeps f M known argument pays gains q
+  unary_keeps join M there word (join_typed gains) (name_typed known as_it_is) q = join_keeps M there word known gains q
+  unary_keeps ref M there word (ref_typed enough) typed q = ref_keeps M typed enough q
+  unary_keeps read M there word (read_typed some_of_it enough) (name_typed known as_it_is) q = read_keeps M known enough q
+  unary_keeps lock M there word (lock_typed gains) (name_typed known shown) q = lock_keeps M (own_lock known shown) gains q
+  unary_keeps unlock M there word (unlock_typed pays) (name_typed known shown) q = unlock_keeps M (own_lock known shown) pays q
+  unary_keeps post M there word (post_typed pays) (name_typed known as_it_is) q = post_keeps M known pays q
+  unary_keeps wait M there word (wait_typed gains) (name_typed known as_it_is) q = wait_keeps M known gains q
+  unary_keeps (hold w) M there word (hold_typed typed) (name_typed known as_it_is) q = hold_keeps M known typed q
+  unary_keeps (call f) M there word (call_typed known pays gains) argument q = call_keeps f M known argument pays gains q
 
   -- ---- The other words
 
@@ -154,8 +154,11 @@ module _ {D : ℕ} {S : Signatures} {s : State} (P : List Procedure) (bodies : B
   if_keeps : {Φ : Cap} {e₁ e₂ : Exp} {τ : Ty} {s' : State} (M : Place D S s I m t h τ Φ) → Typed D S I.N empty h.own e₁ τ Φ →
       Typed D S I.N empty h.own e₂ τ Φ → reduct P s m t (if_redex e₁ e₂) ≡ some s' → WellTyped D S s'
   if_keeps {Φ} {e₁} {e₂} {τ} M e₁_typed e₂_typed =
-      let either : (p : Part) → Typed D S I.N empty h.own (part_listed p e₁ e₂) τ Φ = λ p. elim p [ first ↦ e₁_typed | second ↦ e₂_typed ] in
       thread_alone_keeps M (part_listed m.part e₁ e₂) (either m.part)
+    where
+      either : (p : Part) → Typed D S I.N empty h.own (part_listed p e₁ e₂) τ Φ
+      either first = e₁_typed
+      either second = e₂_typed
 
   -- What the body needs is there before the loop, and again after each turn.
   while_keeps : {Φ Ψ₁ : Cap} {e : Exp} {σ : Ty} {s' : State} (M : Place D S s I m t h int_type Φ) → Typed D S I.N empty Ψ₁ e σ Ψ₁ →
@@ -207,7 +210,7 @@ module _ {D : ℕ} {S : Signatures} {s : State} (P : List Procedure) (bodies : B
   redex_keeps M there word (while_redex_typed typed enough left) q = while_keeps M typed enough left q
   redex_keeps M there word (spawn_redex_typed (name_typed known as_it_is) typed pays) q = spawn_keeps M known typed pays q
   redex_keeps M there word (write_redex_typed (name_typed known as_it_is) typed whole enough) q = write_keeps M known typed enough q
-  redex_keeps M there word (unary_redex_typed {o = o} v_typed o_typed) q = unary_keeps o M there word v_typed o_typed q
+  redex_keeps M there word (unary_redex_typed {o = o} v_typed o_typed) q = unary_keeps o M there word o_typed v_typed q
   redex_keeps M there word (nullary_redex_typed (newtid_typed enough)) q = newtid_keeps M enough q
   redex_keeps M there word (nullary_redex_typed (newlock_typed covers pays)) q = newlock_keeps M covers pays q
   redex_keeps M there word (nullary_redex_typed (newsem_typed enough)) q = newsem_keeps M enough q

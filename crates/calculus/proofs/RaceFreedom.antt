@@ -10,7 +10,7 @@ use Rattle.calculus.specs.State.{Thread, State}
 use Rattle.calculus.specs.Claim.{AboutToRead, about_to_read, AboutToWrite, about_to_write, race, RaceFree}
 use Rattle.calculus.specs.Capability.{Cap}
 use Rattle.calculus.specs.Figure5.{Ty, ref_type, as_it_is, Signatures, Env, empty}
-use Rattle.calculus.proofs.Typing.{name_typed, read_typed}
+use Rattle.calculus.proofs.Typing.{ValueTyped, name_typed, UnaryTyped, read_typed}
 use Rattle.calculus.proofs.Focus.{RedexTyped, write_redex_typed, unary_redex_typed, focus}
 use Rattle.calculus.proofs.Pool.{ThreadTyped, two_members}
 use Rattle.calculus.proofs.Laws.Total.{total}
@@ -27,9 +27,12 @@ write_needs : {D : ℕ} {S : Signatures} {N : Env} {Ψ Φ : Cap} {n : ℕ} {w : 
     Access N Ψ n D
 write_needs (write_redex_typed {ρ = ρ} {σ = σ} (name_typed k as_it_is) l g h) = record { ρ = ρ; τ = σ; known = k; enough = g }
 
+read_shown : {D : ℕ} {S : Signatures} {N : Env} {Ψ Φ : Cap} {n : ℕ} {σ τ : Ty} → UnaryTyped D S read σ Ψ τ Φ → ValueTyped N (name n) σ → Access N Ψ n 1
+read_shown (read_typed {τ = σ} {ρ = ρ} g h) (name_typed k as_it_is) = record { ρ = ρ; τ = σ; known = k; enough = g }
+
 read_needs : {D : ℕ} {S : Signatures} {N : Env} {Ψ Φ : Cap} {n : ℕ} {τ : Ty} → RedexTyped D S N empty Ψ Φ (unary_redex read (name n)) τ →
     Access N Ψ n 1
-read_needs (unary_redex_typed (name_typed k as_it_is) (read_typed {τ = σ} {ρ = ρ} g h)) = record { ρ = ρ; τ = σ; known = k; enough = g }
+read_needs (unary_redex_typed v_typed o_typed) = read_shown o_typed v_typed
 
 access_needs : {D : ℕ} {S : Signatures} {N : Env} {s : State} {u : Thread} {Ψ : Cap} {n : ℕ} → 0 < D → ThreadTyped D S N u Ψ →
     AboutToRead s u n ⊎ AboutToWrite s u n → Access N Ψ n 1

@@ -91,7 +91,7 @@ substitution_keeps Γ' x t c (value_typed w h) = value_typed w h
 substitution_keeps Γ' x t c (var_typed {x = y} {σ = υ} w f h) = variable_keeps x y (ℕ_discrete y x) t (c y υ w) f h
 substitution_keeps {D} {S} {N} {v} Γ' x t c (let_typed {Γ = Γ} {Ψ₁ = Ψ₁} {Φ = Φ} {x = y} {e₂ = e₂} {σ = υ} {τ = τ} a b) =
     let e₂_keeps : (q : Dec (y ≡ x)) → Typed D S N (bind Γ' y υ) Ψ₁ (choose q e₂ (substitute x v e₂)) τ Φ =
-    λ q. elim q [
+    λ q. elim q as (λ d. Typed D S N (bind Γ' y υ) Ψ₁ (choose d e₂ (substitute x v e₂)) τ Φ) [
       | yes p ↦ typing_grows (⊆-refl N) (bind_same_grows Γ Γ' x y _ υ p c) b
       | no p ↦ substitution_keeps (bind Γ' y υ) x t (bind_other_extends Γ Γ' x y _ υ p c) b
     ] in

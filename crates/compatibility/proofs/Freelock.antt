@@ -58,15 +58,16 @@ changed_alike read read' empty gone other l = by_fields (fields l) refl
     by_fields [] e = empty ∙ sym (ap read' e)
     by_fields (f ∷ fs) e = by_word f fs e (same f (bytes "freelock")) refl
 
+freelock_as_lock : (h : ProgramHeading) (k : ℕ) (fs : List Field) → item_line_with_freelock h k (bytes "freelock" ∷ fs) ≡ item_line h k (bytes "lock" ∷ fs)
+unfolding item_line_with_freelock item_line or_bad_form look_up words_under words leaf_words unary_words cell_words lock_words same bytes
+freelock_as_lock heading.P k fs = refl
+freelock_as_lock heading.P2 k fs = refl
+
 item_alike : (h : ProgramHeading) (k : ℕ) (l : List ℕ) → item_line_with_freelock h k (fields l) ≡ item_line h k (fields (lock_instead l))
-item_alike h k = changed_alike (item_line_with_freelock h k) (item_line h k) no_fields (changed h) other
+item_alike h k = changed_alike (item_line_with_freelock h k) (item_line h k) no_fields (freelock_as_lock h k) other
   where
     no_fields : item_line_with_freelock h k [] ≡ item_line h k []
     no_fields = unfold item_line_with_freelock item_line in refl
-
-    changed : (h : ProgramHeading) (fs : List Field) → item_line_with_freelock h k (bytes "freelock" ∷ fs) ≡ item_line h k (bytes "lock" ∷ fs)
-    changed heading.P fs = unfold item_line_with_freelock item_line or_bad_form look_up words_under words leaf_words unary_words cell_words lock_words same bytes in refl
-    changed heading.P2 fs = unfold item_line_with_freelock item_line or_bad_form look_up words_under words leaf_words unary_words cell_words lock_words same bytes in refl
 
     other : (f : Field) (fs : List Field) → same f (bytes "freelock") ≡ false → item_line_with_freelock h k (f ∷ fs) ≡ item_line h k (f ∷ fs)
     other f fs w = unfold item_line_with_freelock item_line in rw w

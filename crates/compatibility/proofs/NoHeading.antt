@@ -103,7 +103,7 @@ module _ (h : Heading) (S : Split) where
     same_type : (t : TypeTerm) → type_term (under h S) Γ pre e t ≡ type_term S Γ pre e t
     unfolding row type signature under
     same_type (entry.type_of_lem p) = refl
-    same_type entry.type-of-its-let = refl
+    same_type entry.type_of_its_let = refl
     same_type entry.result = refl
     same_type entry.argument = refl
 
@@ -131,8 +131,8 @@ module _ (h : Heading) (S : Split) where
     same_says (entry.N×◌≦◌ l m) = rw (same_map l, same_map m)
     same_says (entry.◌⊕◌＝◌ l m n) = rw (same_map l, same_map m, same_map n)
     same_says (entry.◌＝◌⊕◌ l m n) = rw (same_map l, same_map m, same_map n)
-    same_says entry.post-at-p＞0 = refl
-    same_says entry.post-at-p≧D = refl
+    same_says entry.post_at_p＞0 = refl
+    same_says entry.post_at_p≧D = refl
 
     same_all : (xs : List Entry)
         → map (says (under h S) Γ pre e (agree (under h S)) (may_show (under h S))) xs ≡ map (says S Γ pre e (agree S) (may_show S)) xs

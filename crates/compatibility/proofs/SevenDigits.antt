@@ -26,12 +26,15 @@ data Lost : Fault → Type 0 where
   lost_form : Lost bad_form
   lost_range : Lost bad_range
 
-lost_gone : (sheet : SheetName) (w : Fault) → Lost w → (k : ℕ) → Gone (faulty sheet w k)
+gone_by : {w : Fault} (sheet : SheetName) → Lost w → (k : ℕ) → Gone (faulty sheet w k)
 unfolding faulty form outside
-lost_gone program_sheet bad_form lost_form k = program_form
-lost_gone program_sheet bad_range lost_range k = program_range
-lost_gone split_sheet bad_form lost_form k = split_form
-lost_gone split_sheet bad_range lost_range k = split_range
+gone_by program_sheet lost_form k = program_form
+gone_by program_sheet lost_range k = program_range
+gone_by split_sheet lost_form k = split_form
+gone_by split_sheet lost_range k = split_range
+
+lost_gone : (sheet : SheetName) (w : Fault) → Lost w → (k : ℕ) → Gone (faulty sheet w k)
+lost_gone sheet w = gone_by sheet
 
 module _ (sheet : SheetName) {A : Type 0} where
   abbrev Alike : (x y : LineResult A) → Type 0

@@ -27,13 +27,13 @@ pub data Lined : List Line → Type 0 where
 pub text_lined : (t : List ℕ) → Lined (lines t)
 unfolding lines on_line
 text_lined [] = no_line
-text_lined (b ∷ t) = by_byte (eqb b 10) refl (lines t) (text_lined t)
+text_lined (b ∷ t) = by_byte (eqb b 10) refl (text_lined t)
   where
-    by_byte : (x : Bool) → eqb b 10 ≡ x → (ls : List Line) → Lined ls → Lined (if x then closed [] ∷ ls else on_line b ls)
-    by_byte true e ls w = closed_line tt w
-    by_byte false e [] no_line = last_line {b = b} {l = []} (eqb-false b 10 e, tt)
-    by_byte false e (closed l ∷ ls) (closed_line one w) = closed_line {l = b ∷ l} (eqb-false b 10 e, one) w
-    by_byte false e (unclosed (c ∷ l) ∷ []) (last_line one) = last_line {b = b} {l = c ∷ l} (eqb-false b 10 e, one)
+    by_byte : {ls : List Line} (x : Bool) → eqb b 10 ≡ x → Lined ls → Lined (if x then closed [] ∷ ls else on_line b ls)
+    by_byte true e w = closed_line tt w
+    by_byte false e no_line = last_line {b = b} {l = []} (eqb-false b 10 e, tt)
+    by_byte false e (closed_line {l = l} one w) = closed_line {l = b ∷ l} (eqb-false b 10 e, one) w
+    by_byte false e (last_line {b = c} {l = l} one) = last_line {b = b} {l = c ∷ l} (eqb-false b 10 e, one)
 
 unclosed_lines : (b : ℕ) (l : List ℕ) → OneLine (b ∷ l) → lines (b ∷ l) ≡ unclosed (b ∷ l) ∷ []
 unfolding lines on_line

@@ -58,8 +58,8 @@ module _ (S : Split) where
     says_holds (entry.N×◌≦◌ l m) h = h
     says_holds (entry.◌⊕◌＝◌ l m n) h = h
     says_holds (entry.◌＝◌⊕◌ l m n) h = h
-    says_holds entry.post-at-p＞0 h = h
-    says_holds entry.post-at-p≧D h = h
+    says_holds entry.post_at_p＞0 h = h
+    says_holds entry.post_at_p≧D h = h
 
     all_say : (n i : ℕ) (xs : List Entry) → AllHold (numbered n i (map (says S Γ pre e agree_by_number agree_by_number) xs))
         → AllHold (numbered n i (map (says S Γ pre e (agree S) (may_show S)) xs))

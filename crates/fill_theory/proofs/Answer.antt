@@ -12,7 +12,7 @@ use native.Mathlib.Decide.{dec_le}
 use lib.ListN.{length, get_or}
 use borrow.Author.Tests.{leb-true}
 use Rattle.spec.specs.Reading.{Result, refuse, ok}
-use Rattle.spec.specs.Program.{Program, program, program_limit}
+use Rattle.spec.specs.Program.{Program, program_limit}
 use Rattle.spec.specs.Split.{Map, Split, split, split_limit}
 use Rattle.spec.specs.Maps.{share}
 use Rattle.spec.specs.Workspace.{workspace_size}

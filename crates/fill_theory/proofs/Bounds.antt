@@ -1,6 +1,6 @@
 -- Laws of the bounds at one location: posts that pass respect them; and from a larger pre as much more is reached as posts that pass
 -- have gained, up to what is reached at all. All hold for a top that no post can be above.
-use Prim.Native.Nat.{ℕ, zero, suc, ◌+◌, ◌-◌, ◌≤◌}
+use Prim.Native.Nat.{ℕ, zero, suc, ◌+◌, ◌≤◌}
 use native.Mathlib.Omega.{arith}
 use native.Mathlib.Decide.{dec_le}
 use Rattle.fill_theory.specs.declared.Effect.{Effect}
@@ -46,7 +46,7 @@ module _ (top : ℕ) where
   unfolding attainable
   attainable_grows x y c (alone E) l = forth_grows E _ _ l
   attainable_grows x y c (after E f) l = forth_grows E _ _ (attainable_grows x y _ f l)
-  attainable_grows x y c (in_turn E f g) l = forth_grows E _ _ (attainable_grows _ _ _ g (attainable_grows x y _ f l))
+  attainable_grows x y c (in_turn E f g) l = forth_grows E _ _ (attainable_grows (attainable top x (ceiling top (back E c) g) f) _ _ g (attainable_grows x y _ f l))
   attainable_grows x y c (branch f g) l = omega (arith, attainable_grows x y top f l, attainable_grows x y top g l)
   attainable_grows x y c (loop f) l = omega arith
   attainable_grows x y c (fork s k f g) l = forth_grows (taking s) _ _ (attainable_grows x y _ f l)

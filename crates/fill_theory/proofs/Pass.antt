@@ -28,7 +28,7 @@ applies_along p q t = record { balance = omega (arith, t.balance); enough = omeg
 module _ (top : ℕ) where
   -- ------------------------------------------------------------------ how many posts there are
 
-  pub pass_length : {ps : List ℕ} (pre c : ℕ) (f : Flow) → pass top pre c f ≡ some ps → length ps ≡ steps f
+  pub pass_length : (pre c : ℕ) (f : Flow) {ps : List ℕ} → pass top pre c f ≡ some ps → length ps ≡ steps f
   unfolding pass steps
   pass_length pre c (alone E) h =
       bind_through _ _ h λ p _ e.
@@ -128,7 +128,7 @@ module _ (top : ℕ) where
 
   -- ------------------------------------------------------------------ the own post is all that is in reach
 
-  pub pass_own : {ps : List ℕ} (pre c : ℕ) (f : Flow) → pass top pre c f ≡ some ps → own_post ps ≡ attainable top pre c f
+  pub pass_own : (pre c : ℕ) (f : Flow) {ps : List ℕ} → pass top pre c f ≡ some ps → own_post ps ≡ attainable top pre c f
   unfolding pass attainable own_post
   pass_own pre c (alone E) h =
       bind_through _ _ h λ p t e.

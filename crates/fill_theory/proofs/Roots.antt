@@ -38,7 +38,7 @@ roots_pass a i (r ∷ rs) h w =
     let (first, others) = along_parts ◌≡◌ a i ps qs (rw (← some_injective e) at w) in
     let own = own_post_lem ◌≡◌ a i r ps counted first in
     let left = demand_met r.due (own_post ps) d in
-    (posts_pass r.pre r.flow a i h₁ first, omega arith, roots_pass a _ rs h₂ (along_shift ◌≡◌ a qs (ap (i +◌) counted) others))
+    (posts_pass r.pre r.flow a i h₁ first, omega arith, roots_pass a (i + steps r.flow) rs h₂ (along_shift ◌≡◌ a qs (ap (i +◌) counted) others))
 
 -- posts that pass are nowhere above what is found
 pub roots_best : (a : ℕ → ℕ) (i : ℕ) (rs : List Root) → RootsPass a i rs → (ps : List ℕ) × (posts_of_roots rs ≡ some ps) × Along ◌≤◌ a i ps

@@ -57,7 +57,7 @@ module _ {P : Program} {S : Split} (R : InRange P S) (σ : List Map) where
     term_kept : (t : TypeTerm) → type_term S' Γ pre e t ≡ type_term S Γ pre' e t
     unfolding signature filled
     term_kept (entry.type_of_lem p) = type_kept S σ _
-    term_kept entry.type-of-its-let = refl
+    term_kept entry.type_of_its_let = refl
     term_kept entry.result = refl
     term_kept entry.argument = refl
 
@@ -74,8 +74,8 @@ module _ {P : Program} {S : Split} (R : InRange P S) (σ : List Map) where
     entries_kept n i (entry.N×◌≦◌ l m ∷ xs) = entries_kept n (i + 1) xs
     entries_kept n i (entry.◌⊕◌＝◌ l m k ∷ xs) = entries_kept n (i + 1) xs
     entries_kept n i (entry.◌＝◌⊕◌ l m k ∷ xs) = entries_kept n (i + 1) xs
-    entries_kept n i (entry.post-at-p＞0 ∷ xs) = entries_kept n (i + 1) xs
-    entries_kept n i (entry.post-at-p≧D ∷ xs) = entries_kept n (i + 1) xs
+    entries_kept n i (entry.post_at_p＞0 ∷ xs) = entries_kept n (i + 1) xs
+    entries_kept n i (entry.post_at_p≧D ∷ xs) = entries_kept n (i + 1) xs
 
     conditions_kept : own_types S' Γ pre e ≡ own_types S Γ pre' e
     unfolding claims_at conditions_of conditions_by

@@ -8,7 +8,7 @@ use native.Mathlib.Omega.{arith}
 use lib.ListN.{get_elem?}
 use Rattle.calculus.specs.Expression.{Value, int, name, Unary, join, ref, read, lock, unlock, post, wait, hold, call, Redex, let_redex, if_redex, while_redex, spawn_redex, write_redex, unary_redex, nullary_redex, next_word}
 use Rattle.calculus.specs.State.{Slot, unused, Thread, State, Move}
-use Rattle.calculus.specs.Reduction.{◌>>=◌, ◌>>◌, if_unused, if_identifier, if_equal, value_of, word_of, named, unary_reduct, reduct, reduce}
+use Rattle.calculus.specs.Reduction.{◌>>=◌, if_unused, if_identifier, if_equal, value_of, word_of, named, unary_reduct, reduct, reduce}
 use Rattle.calculus.specs.Claim.{ThreadAt}
 use Rattle.calculus.proofs.Laws.Maps.{some_injective, none_is_not_some, bind_is_some}
 use Rattle.calculus.proofs.Laws.Questions.{equal_sound, equal_complete, word_tells}

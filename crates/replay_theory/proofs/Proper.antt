@@ -1,6 +1,6 @@
 -- What every run on the way keeps: a number and a list of calls for each thread, the numbers rising; and no name used from the next on. So a
 -- run's books are right.
-use Prim.Native.Nat.{ℕ, zero, suc, ◌≤◌, ◌+◌}
+use Prim.Native.Nat.{ℕ, zero, suc, ◌≤◌}
 use mathlib.Core.Path.{◌≡◌, refl, sym, ◌∙◌, ap, subst}
 use mathlib.Core.Option.{some}
 use mathlib.Core.List.{List, [], ◌∷◌, ◌++◌}

@@ -20,7 +20,12 @@ plain_derived {Φ} {τ} derived = record { τ = τ; Ψ₁ = Φ; root = derived; 
 -- Sums at the two locations that the programs use, and at all others.
 pub sum_at_each : {Ψ Ψ₁ Ψ₂ : Cap} → Ψ 0 ≡ Ψ₁ 0 + Ψ₂ 0 → Ψ 1 ≡ Ψ₁ 1 + Ψ₂ 1 → ((ρ : ℕ) → Ψ (suc (suc ρ)) ≡ Ψ₁ (suc (suc ρ)) + Ψ₂ (suc (suc ρ))) →
     Ψ ≈ Ψ₁ ⊕ Ψ₂
-sum_at_each h k l = record { at = λ ρ. elim ρ [ zero ↦ h | suc n ↦ elim n [ zero ↦ k | suc m ↦ l m ] ] }
+sum_at_each {Ψ} {Ψ₁} {Ψ₂} h k l = record { at = at_each }
+  where
+    at_each : (ρ : ℕ) → Ψ ρ ≡ Ψ₁ ρ + Ψ₂ ρ
+    at_each zero = h
+    at_each (suc zero) = k
+    at_each (suc (suc ρ)) = l ρ
 
 pub holding_sum : (a b c d : ℕ) → holding (a + c) (b + d) ≈ holding a b ⊕ holding c d
 holding_sum a b c d = sum_at_each refl refl (λ ρ. refl)

@@ -32,7 +32,7 @@ constant_stops (call f) d s m t s' q = none_is_not_some q
 pub word_on_constant_halts : (o : Unary) → o ≢ ref → Halts [] (start_state (plain (on_constant o))) 0
 unfolding start_state
 word_on_constant_halts o d = stuck_halts [] (start_state (plain (on_constant o))) 0 refl
-    λ m r s' w q. constant_stops o d (start_state (plain (on_constant o))) m _ s' (rw (word_injective (sym w)) at q)
+    λ m r s' w q. constant_stops o d (start_state (plain (on_constant o))) m (record { tid = 0; body = on_constant o }) s' (rw (word_injective (sym w)) at q)
 
 constant_is_no_name : {A : Type 0} {o p : Unary} {k n : ℕ} → at_word (unary_redex o (int k)) ≡ at_word (unary_redex p (name n)) → A
 constant_is_no_name h = let z : ◌≡◌ {A = ℕ} 0 1 = cc in absurd (omega (arith, z))
