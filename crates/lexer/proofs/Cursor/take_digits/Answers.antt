@@ -1,0 +1,8 @@
+-- The digits are taken within the lower of what is left and what a numeral can have.
+use borrow.Author.Rules.{rules}
+use Rattle.spec.specs.Text.{digit_limit}
+use Rattle.lexer.proofs.Cursor.take_digits.Goals as goal
+
+pub returns : goal.returns
+unfolding digit_limit
+returns c = search rules

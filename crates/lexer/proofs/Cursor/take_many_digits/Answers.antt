@@ -1,0 +1,12 @@
+-- The digits are taken within what is left, or within what a numeral can have where more is left.
+use borrow.Author.Rules.{rules}
+use Rattle.spec.specs.Text.{digit_limit}
+use Rattle.lexer.proofs.Cursor.take_many_digits.Goals as goal
+
+pub returns-then-left-lt-DIGIT_LIMIT : goal.returns-then-left-lt-DIGIT_LIMIT
+unfolding digit_limit
+returns-then-left-lt-DIGIT_LIMIT c = search rules
+
+pub returns : goal.returns
+unfolding digit_limit
+returns c = search rules
