@@ -19,7 +19,7 @@ pub use types::{agrees, may_show};
 use workspace::{MAPS, STRIDE, index, map_cell, wide};
 
 // What is asked of maps, number by number: a = b, a ≥ b, a ≥ n × b, a + b = c, a ≤ n.
-#[derive(Drop)]
+#[derive(Clone, Copy)]
 pub enum Relation {
     Equal(MapNumber, MapNumber),
     AtLeast(MapNumber, MapNumber),

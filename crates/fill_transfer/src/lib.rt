@@ -18,7 +18,7 @@ use workspace::{
 };
 
 // The location that is filled, and the sheet's denominator.
-#[derive(Drop)]
+#[derive(Clone, Copy)]
 pub struct Column {
     pub location: Location,
     pub denominator: u32,

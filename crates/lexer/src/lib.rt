@@ -15,7 +15,7 @@ const LARGEST_STORED: u64 = 4294967295;
 
 // The reading place: the byte to read next, and the number of the last line read, 0 before the first. Both are as wide as what
 // a refusal holds, so that an answer that holds either is copied in whole words.
-#[derive(Drop)]
+#[derive(Clone, Copy)]
 pub struct Cursor {
     pub at: u32,
     pub line: u32,

@@ -19,7 +19,7 @@ pub use shapes::{is_if, is_write};
 use workspace::{Shape, at, index, rule_of, shape_of};
 
 // Where a thread is, while its next word is looked for and once it is found; its variables stand in that row.
-#[derive(Drop)]
+#[derive(Clone, Copy)]
 pub struct ControlPoint {
     pub mode: u32,
     pub at: u32,

@@ -5,7 +5,7 @@
 use spec::Refusal;
 
 // The record of a thread.
-#[derive(Drop)]
+#[derive(Clone, Copy)]
 pub enum Status {
     Running,
     Finished,
@@ -14,7 +14,7 @@ pub enum Status {
 
 // How a replay ends: every line of the trace is done, or a reason to stop. A trace has no limit of length, so its lines are
 // counted as lengths are; for the reasons of a sheet 32 bits are enough.
-#[derive(Drop)]
+#[derive(Clone, Copy)]
 pub enum Ending {
     Done,
     Refused(Refusal),

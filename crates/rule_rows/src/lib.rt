@@ -12,7 +12,7 @@ use spec::{MapNumber, Signature, TypeNumber};
 // What the conditions of a step look at: the sheet's locations and denominator, the step's line and number, the types and
 // maps of the step and of its parts, for a `var` the type of its let's e1 or of its procedure's argument, and for a `call`
 // the signature of the procedure.
-#[derive(Drop)]
+#[derive(Clone, Copy)]
 pub struct StepView {
     pub line: u32,
     pub value: u32,

@@ -2,7 +2,7 @@
 #![tactic(auto)]
 
 // The words of a program sheet, by their number of parts.
-#[derive(Drop)]
+#[derive(Clone, Copy)]
 pub enum LeafWord {
     Var,
     Int,
@@ -12,7 +12,7 @@ pub enum LeafWord {
     Newrwlock,
 }
 
-#[derive(Drop)]
+#[derive(Clone, Copy)]
 pub enum UnaryWord {
     While,
     Join,
@@ -29,7 +29,7 @@ pub enum UnaryWord {
     Call,
 }
 
-#[derive(Drop)]
+#[derive(Clone, Copy)]
 pub enum BinaryWord {
     Let,
     If,
@@ -37,7 +37,7 @@ pub enum BinaryWord {
     Write,
 }
 
-#[derive(Drop)]
+#[derive(Clone, Copy)]
 pub enum Word {
     Leaf(LeafWord),
     Unary(UnaryWord),
@@ -54,24 +54,24 @@ pub enum Role {
 }
 
 // The headings of a program sheet: `P,n` and `P2,n,k`.
-#[derive(Drop)]
+#[derive(Clone, Copy)]
 pub enum ProgramHeading {
     P,
     P2,
 }
 
 // The numbers of types, maps and locations, each counted from 0: three sorts that never mix.
-#[derive(Drop)]
+#[derive(Clone, Copy)]
 pub struct TypeNumber(pub u32);
 
-#[derive(Drop)]
+#[derive(Clone, Copy)]
 pub struct MapNumber(pub u32);
 
-#[derive(Drop)]
+#[derive(Clone, Copy)]
 pub struct Location(pub u32);
 
 // The headings of a split sheet: `C,D,L,T,M`, `C2,D,L,T,M,r` and `C3,D,L,T,M,r`.
-#[derive(Drop)]
+#[derive(Clone, Copy)]
 pub enum Heading {
     C,
     C2,
@@ -79,7 +79,7 @@ pub enum Heading {
 }
 
 // What a split sheet is read for: to check a program with it, or to fill in its after-maps.
-#[derive(Drop)]
+#[derive(Clone, Copy)]
 pub enum Purpose {
     Check,
     Fill,
@@ -87,7 +87,7 @@ pub enum Purpose {
 
 // What line 1 of a split sheet says: its heading, the denominator, how many locations, types and maps there are, and the start, the
 // map before the root.
-#[derive(Drop)]
+#[derive(Clone, Copy)]
 pub struct Header {
     pub heading: Heading,
     pub denominator: u32,
@@ -98,7 +98,7 @@ pub struct Header {
 }
 
 // What the line of a procedure says, `before,argument,after,result`: the map and the type that it asks for, and those that it leaves.
-#[derive(Drop)]
+#[derive(Clone, Copy)]
 pub struct Signature {
     pub before: MapNumber,
     pub argument: TypeNumber,
@@ -108,7 +108,7 @@ pub struct Signature {
 
 // What a type line of a split sheet says. A content type, a map: by number. A lock has its in and its out, a
 // read-write lock what a reader and a writer take.
-#[derive(Drop)]
+#[derive(Clone, Copy)]
 pub enum TypeLine {
     Int,
     Ref(Location, TypeNumber),
@@ -119,7 +119,7 @@ pub enum TypeLine {
 }
 
 // A reason to stop, with the line, the condition and the location that a person wants to know.
-#[derive(Drop)]
+#[derive(Clone, Copy)]
 pub enum Refusal {
     ShortWorkspace,
     LongProgram,
@@ -161,7 +161,7 @@ pub enum Refusal {
 }
 
 // What one of the stages of an answer says: nothing is to be refused, or the first thing that is.
-#[derive(Drop)]
+#[derive(Clone, Copy)]
 pub enum Ruling {
     Holds,
     Refused(Refusal),

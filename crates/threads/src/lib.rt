@@ -10,7 +10,7 @@ use replay_theory::Status;
 // The most threads of a run.
 pub const LIMIT: usize = 16;
 
-#[derive(Drop)]
+#[derive(Clone, Copy)]
 pub struct Record {
     pub state: Status,
     pub tid: u32,
