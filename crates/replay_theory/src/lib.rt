@@ -48,7 +48,7 @@ pub struct Replayed {
 }
 
 // The four numbers of an ending.
-#[derive(Drop)]
+#[derive(Clone, Copy)]
 pub struct Numbers {
     pub number: u32,
     pub line: usize,
