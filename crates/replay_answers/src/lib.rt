@@ -13,7 +13,7 @@ use replay_theory::{Ending, FirstRace, Numbers};
 use spec::{Answer, Refusal};
 
 // The state and the threads of a race in numbers; without one, the largest number of each kind.
-#[derive(Drop)]
+#[derive(Clone, Copy)]
 pub struct RaceNumbers {
     pub state: usize,
     pub first: u32,

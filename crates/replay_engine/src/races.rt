@@ -9,7 +9,7 @@ use replay_step::slot_at;
 use workspace::{Touch, at, index, rule_of, touch_of};
 
 // The cell that a thread is about to use, by the value that names it.
-#[derive(Drop)]
+#[derive(Clone, Copy)]
 pub enum Access {
     None,
     Read(u32),

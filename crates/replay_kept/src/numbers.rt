@@ -8,7 +8,7 @@ use replay_answers::RaceNumbers;
 use replay_theory::{Ending, FirstRace, Numbers, Replayed, Report};
 use spec::Refusal;
 
-#[derive(Drop)]
+#[derive(Clone, Copy)]
 pub struct Told {
     pub ending: Numbers,
     pub steps: usize,

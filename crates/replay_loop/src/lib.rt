@@ -15,7 +15,7 @@ use threads::Threads;
 use trace::TraceLine;
 
 // Whether a run goes on, or what has stopped it.
-#[derive(Drop)]
+#[derive(Clone, Copy)]
 pub enum Progress {
     Goes,
     Stops(Ending),

@@ -24,7 +24,7 @@ pub enum Ending {
 }
 
 // The first state with a race, counted from 0, and its lowest pair of threads.
-#[derive(Drop)]
+#[derive(Clone, Copy)]
 pub enum FirstRace {
     None,
     Found {
@@ -48,7 +48,7 @@ pub struct Replayed {
 }
 
 // The four numbers of an ending.
-#[derive(Drop)]
+#[derive(Clone, Copy)]
 pub struct Numbers {
     pub number: u32,
     pub line: usize,

@@ -10,7 +10,7 @@ use spec::{BinaryWord, Heading, MapNumber, Refusal, Word};
 use workspace::EMPTY_MAP;
 
 // What a row says of the map that a body starts with or a call keeps back: which, or nothing.
-#[derive(Drop)]
+#[derive(Clone, Copy)]
 pub enum RowStart {
     Given(MapNumber),
     Empty,

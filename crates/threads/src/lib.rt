@@ -67,7 +67,7 @@ fn lowest_of(rs: [Record; 16], tid: u32) -> Found
 }
 
 // The records of a run in spawn order, and how many of them are threads.
-#[derive(Drop)]
+#[derive(Clone, Copy)]
 pub struct Threads {
     pub records: [Record; 16],
     pub count: usize,
