@@ -112,107 +112,111 @@ module _ {ss : List Step} {S : Split} {σ : List Map} {T : Split} (G : Showing s
   whole_there x = rw G.denominator (leb-true _ x, le-leb _ x)
 
   -- pre is the map x; in the order of Figure 5
-  pub flow_at_each_location : (e : Expr) (Γ : Env) {pre x : Map} (i : ℕ) → Placed ss i e → Known L pre x
+  flow_along : (e : Expr) (Γ : Env) {pre x : Map} (i : ℕ) → Placed ss i e → Known L pre x
       → AllFlow (step_contexts T Γ pre e) ↔ Everywhere L (λ p. Passes (at σ p) i (share x p) (flow_of S p e))
   unfolding AllHold Holds claims_at numbered conditions_by conditions_of only is_flow pre_of_part pre_of_second kept_back calls loops unchanged taking giving needing lending moving effect_of part_transfer binary_transfer before_here after_here has_here given_here call_here unary_flow binary_flow flow_of Passes
-  flow_at_each_location (leaf Var k v) Γ i P before = no_part Γ _ Var k v (lastly (keeps (G.posts _ P) before))
-  flow_at_each_location (leaf Int k v) Γ i P before = no_part Γ _ Int k v (lastly (keeps (G.posts _ P) before))
-  flow_at_each_location (binary Let k v e₁ e₂) Γ {x = x} i P before =
+  flow_along (leaf Var k v) Γ i P before = no_part Γ _ Var k v (lastly (keeps (G.posts _ P) before))
+  flow_along (leaf Int k v) Γ i P before = no_part Γ _ Int k v (lastly (keeps (G.posts _ P) before))
+  flow_along (binary Let k v e₁ e₂) Γ {x = x} i P before =
       let after₁ = G.posts e₁ (first P) in
       restated (λ p. in_turn_parts p i (share x p) e₁ (flow_of S p e₂) _)
       (two_parts Γ _ Let k v e₁ e₂
-      (flow_at_each_location e₁ Γ (i + 1) (first P) before)
-      (flow_at_each_location e₂ _ (i + 1 + size e₁) (second P) after₁)
+      (flow_along e₁ Γ (i + 1) (first P) before)
+      (flow_along e₂ _ (i + 1 + size e₁) (second P) after₁)
       (lastly (keeps (G.posts _ P) (G.posts e₂ (second P)))))
-  flow_at_each_location (binary If k v e₁ e₂) Γ {x = x} i P before =
+  flow_along (binary If k v e₁ e₂) Γ {x = x} i P before =
       restated (λ p. branch_parts p i (share x p) e₁ (flow_of S p e₂))
       (two_parts Γ _ If k v e₁ e₂
-      (flow_at_each_location e₁ Γ (i + 1) (first P) before)
-      (flow_at_each_location e₂ _ (i + 1 + size e₁) (second P) before)
+      (flow_along e₁ Γ (i + 1) (first P) before)
+      (flow_along e₂ _ (i + 1 + size e₁) (second P) before)
       (together (least_everywhere (G.posts e₁ (first P)) (G.posts _ P))
       (lastly (least_everywhere (G.posts e₂ (second P)) (G.posts _ P)))))
-  flow_at_each_location (unary While k v e₁) Γ i P before =
+  flow_along (unary While k v e₁) Γ i P before =
       let after = G.posts (unary While k v e₁) P in
       three
       (one_part_lem Γ _ While k v e₁
-      (flow_at_each_location e₁ Γ (i + 1) (part P) after)
+      (flow_along e₁ Γ (i + 1) (part P) after)
       (together (least_everywhere before after) (lastly (least_everywhere (G.posts e₁ (part P)) after))))
-  flow_at_each_location (leaf Newtid k v) Γ i P before = no_part Γ _ Newtid k v (lastly (keeps (G.posts _ P) before))
-  flow_at_each_location (binary Spawn k v e₁ e₂) Γ {x = x} i P before =
+  flow_along (leaf Newtid k v) Γ i P before = no_part Γ _ Newtid k v (lastly (keeps (G.posts _ P) before))
+  flow_along (binary Spawn k v e₁ e₂) Γ {x = x} i P before =
       let e = binary Spawn k v e₁ e₂ in
       let after₁ = G.posts e₁ (first P) in
       restated (λ p. fork_parts p i (share x p) e₁ (flow_of S p e₂) _ _)
       (two_parts Γ _ Spawn k v e₁ e₂
-      (flow_at_each_location e₁ Γ (i + 1) (first P) before)
-      (flow_at_each_location e₂ _ (i + 1 + size e₁) (second P) (G.starts e))
+      (flow_along e₁ Γ (i + 1) (first P) before)
+      (flow_along e₂ _ (i + 1 + size e₁) (second P) (G.starts e))
       (together (least_everywhere (G.posts e₂ (second P)) (G.firsts e₁))
       (lastly (takes (G.posts _ P) after₁ (G.starts e)))))
-  flow_at_each_location (unary Join k v e₁) Γ i P before =
+  flow_along (unary Join k v e₁) Γ i P before =
       one_part_lem Γ _ Join k v e₁
-      (flow_at_each_location e₁ Γ (i + 1) (part P) before)
+      (flow_along e₁ Γ (i + 1) (part P) before)
       (lastly (gives (G.posts _ P) (G.posts e₁ (part P)) (G.firsts e₁)))
-  flow_at_each_location (unary Ref k v e₁) Γ i P before =
+  flow_along (unary Ref k v e₁) Γ i P before =
       one_part_lem Γ _ Ref k v e₁
-      (flow_at_each_location e₁ Γ (i + 1) (part P) before)
+      (flow_along e₁ Γ (i + 1) (part P) before)
       (lastly (keeps (G.posts _ P) (G.posts e₁ (part P))))
-  flow_at_each_location (binary Write k v e₁ e₂) Γ {x = x} i P before =
+  flow_along (binary Write k v e₁ e₂) Γ {x = x} i P before =
       let after₁ = G.posts e₁ (first P) in
       restated (λ p. in_turn_parts p i (share x p) e₁ (flow_of S p e₂) _)
       (two_parts Γ _ Write k v e₁ e₂
-      (flow_at_each_location e₁ Γ (i + 1) (first P) before)
-      (flow_at_each_location e₂ _ (i + 1 + size e₁) (second P) after₁)
+      (flow_along e₁ Γ (i + 1) (first P) before)
+      (flow_along e₂ _ (i + 1 + size e₁) (second P) after₁)
       (needs (G.posts _ P) (G.posts e₂ (second P)) _ _ (G.places e₁) (G.within e₁)
       S.header.denominator _ (whole_there _)))
-  flow_at_each_location (unary Read k v e₁) Γ i P before =
+  flow_along (unary Read k v e₁) Γ i P before =
       one_part_lem Γ _ Read k v e₁
-      (flow_at_each_location e₁ Γ (i + 1) (part P) before)
+      (flow_along e₁ Γ (i + 1) (part P) before)
       (needs (G.posts _ P) (G.posts e₁ (part P)) _ _ (G.places e₁) (G.within e₁)
       1 _ (ltb-true _ _, lt-ltb _ _))
-  flow_at_each_location (leaf Newlock k v) Γ i P before =
+  flow_along (leaf Newlock k v) Γ i P before =
       no_part Γ _ Newlock k v (lastly (takes (G.posts _ P) before (G.seconds (leaf Newlock k v))))
-  flow_at_each_location (unary Lock k v e₁) Γ i P before =
+  flow_along (unary Lock k v e₁) Γ i P before =
       one_part_lem Γ _ Lock k v e₁
-      (flow_at_each_location e₁ Γ (i + 1) (part P) before)
+      (flow_along e₁ Γ (i + 1) (part P) before)
       (lastly (gives (G.posts _ P) (G.posts e₁ (part P)) (G.firsts e₁)))
-  flow_at_each_location (unary Unlock k v e₁) Γ i P before =
+  flow_along (unary Unlock k v e₁) Γ i P before =
       one_part_lem Γ _ Unlock k v e₁
-      (flow_at_each_location e₁ Γ (i + 1) (part P) before)
+      (flow_along e₁ Γ (i + 1) (part P) before)
       (lastly (takes (G.posts _ P) (G.posts e₁ (part P)) (G.seconds e₁)))
-  flow_at_each_location (leaf Newsem k v) Γ i P before = no_part Γ _ Newsem k v (lastly (keeps (G.posts _ P) before))
-  flow_at_each_location (unary Post k v e₁) Γ i P before =
+  flow_along (leaf Newsem k v) Γ i P before = no_part Γ _ Newsem k v (lastly (keeps (G.posts _ P) before))
+  flow_along (unary Post k v e₁) Γ i P before =
       one_part_lem Γ _ Post k v e₁
-      (flow_at_each_location e₁ Γ (i + 1) (part P) before)
+      (flow_along e₁ Γ (i + 1) (part P) before)
       (lastly (takes (G.posts _ P) (G.posts e₁ (part P)) (G.firsts e₁)))
-  flow_at_each_location (unary Wait k v e₁) Γ i P before =
+  flow_along (unary Wait k v e₁) Γ i P before =
       one_part_lem Γ _ Wait k v e₁
-      (flow_at_each_location e₁ Γ (i + 1) (part P) before)
+      (flow_along e₁ Γ (i + 1) (part P) before)
       (lastly (gives (G.posts _ P) (G.posts e₁ (part P)) (G.firsts e₁)))
-  flow_at_each_location (leaf Newrwlock k v) Γ i P before =
+  flow_along (leaf Newrwlock k v) Γ i P before =
       let e = leaf Newrwlock k v in
       no_part Γ _ Newrwlock k v (lends v (G.posts e P) before (G.seconds e) (G.firsts e))
-  flow_at_each_location (unary Rdlock k v e₁) Γ i P before =
+  flow_along (unary Rdlock k v e₁) Γ i P before =
       one_part_lem Γ _ Rdlock k v e₁
-      (flow_at_each_location e₁ Γ (i + 1) (part P) before)
+      (flow_along e₁ Γ (i + 1) (part P) before)
       (lastly (gives (G.posts _ P) (G.posts e₁ (part P)) (G.firsts e₁)))
-  flow_at_each_location (unary Rdunlock k v e₁) Γ i P before =
+  flow_along (unary Rdunlock k v e₁) Γ i P before =
       one_part_lem Γ _ Rdunlock k v e₁
-      (flow_at_each_location e₁ Γ (i + 1) (part P) before)
+      (flow_along e₁ Γ (i + 1) (part P) before)
       (lastly (takes (G.posts _ P) (G.posts e₁ (part P)) (G.firsts e₁)))
-  flow_at_each_location (unary Wrlock k v e₁) Γ i P before =
+  flow_along (unary Wrlock k v e₁) Γ i P before =
       one_part_lem Γ _ Wrlock k v e₁
-      (flow_at_each_location e₁ Γ (i + 1) (part P) before)
+      (flow_along e₁ Γ (i + 1) (part P) before)
       (lastly (gives (G.posts _ P) (G.posts e₁ (part P)) (G.seconds e₁)))
-  flow_at_each_location (unary Wrunlock k v e₁) Γ i P before =
+  flow_along (unary Wrunlock k v e₁) Γ i P before =
       one_part_lem Γ _ Wrunlock k v e₁
-      (flow_at_each_location e₁ Γ (i + 1) (part P) before)
+      (flow_along e₁ Γ (i + 1) (part P) before)
       (lastly (takes (G.posts _ P) (G.posts e₁ (part P)) (G.seconds e₁)))
-  flow_at_each_location (unary Call k f e₁) Γ i P before =
+  flow_along (unary Call k f e₁) Γ i P before =
       let e = unary Call k f e₁ in
       three
       (one_part_lem Γ _ Call k f e₁
-      (flow_at_each_location e₁ Γ (i + 1) (part P) before)
+      (flow_along e₁ Γ (i + 1) (part P) before)
       (together (sums (G.posts e₁ (part P)) (G.befores f) (G.kepts e))
       (lastly (sums (G.posts e P) (G.afters f) (G.kepts e)))))
+
+  pub flow_at_each_location : (Γ : Env) {pre x : Map} (e : Expr) (i : ℕ) → Placed ss i e → Known L pre x
+      → AllFlow (step_contexts T Γ pre e) ↔ Everywhere L (λ p. Passes (at σ p) i (share x p) (flow_of S p e))
+  flow_at_each_location Γ e = flow_along e Γ
 
   -- ------------------------------------------------------------------ the procedures and the root
 
@@ -250,7 +254,7 @@ module _ {ss : List Step} {S : Split} {σ : List Map} {T : Split} (G : Showing s
   unfolding claims_of_procedures body_step_contexts before_here after_here roots_from NumberedFrom size_of RootsPass
   roots_at_each_location f i [] root numbered within =
       restated (λ p. (λ h. (h, omega arith, tt), λ h. h.0))
-      (flow_at_each_location root [] i (record { indexed = numbered; within = within }) G.first)
+      (flow_at_each_location [] root i (record { indexed = numbered; within = within }) G.first)
   roots_at_each_location f i (q ∷ ps) root numbering within =
       let e = q.body in
       let P : Placed ss i e = record { indexed = numbering.0; within = omega arith } in
@@ -259,5 +263,5 @@ module _ {ss : List Step} {S : Split} {σ : List Map} {T : Split} (G : Showing s
       (restated (λ p. roots_parts p i _ _ e (roots_from S p (f + 1) ps root))
       (procedure_parts f q others
       (lastly (least_everywhere (G.posts e P) (G.afters f)))
-      (flow_at_each_location e _ i P (G.befores f))
+      (flow_at_each_location _ e i P (G.befores f))
       (roots_at_each_location (f + 1) (i + size e) ps root numbering.1 (omega arith))))

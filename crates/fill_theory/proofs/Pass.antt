@@ -28,7 +28,7 @@ applies_along p q t = record { balance = omega (arith, t.balance); enough = omeg
 module _ (top : ℕ) where
   -- ------------------------------------------------------------------ how many posts there are
 
-  pub pass_length : (pre c : ℕ) (f : Flow) {ps : List ℕ} → pass top pre c f ≡ some ps → length ps ≡ steps f
+  pub pass_length : {ps : List ℕ} (pre c : ℕ) (f : Flow) → pass top pre c f ≡ some ps → length ps ≡ steps f
   unfolding pass steps
   pass_length pre c (alone E) h =
       bind_through _ _ h λ p _ e.
@@ -36,30 +36,30 @@ module _ (top : ℕ) where
   pass_length pre c (after E f) h =
       bind_through _ _ h λ ps h₁ h'.
       bind_through _ _ h' λ p _ e.
-      ap length (sym (some_injective e)) ∙ ap suc (pass_length pre _ f h₁)
+      ap length (sym (some_injective e)) ∙ ap suc (pass_length {ps = ps} pre _ f h₁)
   pass_length pre c (in_turn E f g) h =
       bind_through _ _ h λ ps h₁ h'.
       bind_through _ _ h' λ qs h₂ h''.
       bind_through _ _ h'' λ p _ e.
-      ap length (sym (some_injective e)) ∙ omega (arith, length-append ps qs, pass_length pre _ f h₁, pass_length (own_post ps) _ g h₂)
+      ap length (sym (some_injective e)) ∙ omega (arith, length-append ps qs, pass_length {ps = ps} pre _ f h₁, pass_length {ps = qs} (own_post ps) _ g h₂)
   pass_length pre c (branch f g) h =
       bind_through _ _ h λ ps h₁ h'.
       bind_through _ _ h' λ qs h₂ e.
-      ap length (sym (some_injective e)) ∙ omega (arith, length-append ps qs, pass_length pre top f h₁, pass_length pre top g h₂)
+      ap length (sym (some_injective e)) ∙ omega (arith, length-append ps qs, pass_length {ps = ps} pre top f h₁, pass_length {ps = qs} pre top g h₂)
   pass_length pre c (loop f) h =
       bind_through _ _ h λ ps h₁ h'.
       bind_through _ _ h' λ _ _ e.
-      ap length (sym (some_injective e)) ∙ ap suc (pass_length _ top f h₁)
+      ap length (sym (some_injective e)) ∙ ap suc (pass_length {ps = ps} _ top f h₁)
   pass_length pre c (fork s k f g) h =
       bind_through _ _ h λ ps h₁ h'.
       bind_through _ _ h' λ qs h₂ h''.
       bind_through _ _ h'' λ _ _ h'''.
       bind_through _ _ h''' λ p _ e.
-      ap length (sym (some_injective e)) ∙ omega (arith, length-append ps qs, pass_length pre _ f h₁, pass_length s top g h₂)
+      ap length (sym (some_injective e)) ∙ omega (arith, length-append ps qs, pass_length {ps = ps} pre _ f h₁, pass_length {ps = qs} s top g h₂)
   pass_length pre c (call b d f) h =
       bind_through _ _ h λ ps h₁ h'.
       bind_through _ _ h' λ _ _ e.
-      ap length (sym (some_injective e)) ∙ ap suc (pass_length pre b f h₁)
+      ap length (sym (some_injective e)) ∙ ap suc (pass_length {ps = ps} pre b f h₁)
 
   -- what stands in relation to all posts that the pass found stands in relation to the expression's own
   module _ (R : ℕ → ℕ → Type 0) (a : ℕ → ℕ) (i pre c : ℕ) (f : Flow) (ps : List ℕ) (found : pass top pre c f ≡ some ps) where
@@ -128,7 +128,7 @@ module _ (top : ℕ) where
 
   -- ------------------------------------------------------------------ the own post is all that is in reach
 
-  pub pass_own : (pre c : ℕ) (f : Flow) {ps : List ℕ} → pass top pre c f ≡ some ps → own_post ps ≡ attainable top pre c f
+  pub pass_own : {ps : List ℕ} (pre c : ℕ) (f : Flow) → pass top pre c f ≡ some ps → own_post ps ≡ attainable top pre c f
   unfolding pass attainable own_post
   pass_own pre c (alone E) h =
       bind_through _ _ h λ p t e.
@@ -136,17 +136,17 @@ module _ (top : ℕ) where
   pass_own pre c (after E f) h =
       bind_through _ _ h λ ps h₁ h'.
       bind_through _ _ h' λ p t e.
-      ap own_post (sym (some_injective e)) ∙ apply_forth E (own_post ps) t ∙ ap (forth E) (pass_own pre _ f h₁)
+      ap own_post (sym (some_injective e)) ∙ apply_forth E (own_post ps) t ∙ ap (forth E) (pass_own {ps = ps} pre _ f h₁)
   pass_own pre c (in_turn E f g) h =
       bind_through _ _ h λ ps h₁ h'.
       bind_through _ _ h' λ qs h₂ h''.
       bind_through _ _ h'' λ p t e.
-      let last = pass_own (own_post ps) _ g h₂ ∙ ap (λ (x : ℕ). attainable top x (back E c) g) (pass_own pre _ f h₁) in
+      let last = pass_own {ps = qs} (own_post ps) _ g h₂ ∙ ap (λ (x : ℕ). attainable top x (back E c) g) (pass_own {ps = ps} pre _ f h₁) in
       ap own_post (sym (some_injective e)) ∙ apply_forth E (own_post qs) t ∙ ap (forth E) last
   pass_own pre c (branch f g) h =
       bind_through _ _ h λ ps h₁ h'.
       bind_through _ _ h' λ qs h₂ e.
-      ap own_post (sym (some_injective e)) ∙ ap₂ (λ (x y : ℕ). min c (min x y)) (pass_own pre top f h₁) (pass_own pre top g h₂)
+      ap own_post (sym (some_injective e)) ∙ ap₂ (λ (x y : ℕ). min c (min x y)) (pass_own {ps = ps} pre top f h₁) (pass_own {ps = qs} pre top g h₂)
   pass_own pre c (loop f) h =
       bind_through _ _ h λ ps h₁ h'.
       bind_through _ _ h' λ _ _ e.
@@ -156,7 +156,7 @@ module _ (top : ℕ) where
       bind_through _ _ h' λ qs h₂ h''.
       bind_through _ _ h'' λ _ _ h'''.
       bind_through _ _ h''' λ p t e.
-      ap own_post (sym (some_injective e)) ∙ apply_forth (taking s) (own_post ps) t ∙ ap (forth (taking s)) (pass_own pre _ f h₁)
+      ap own_post (sym (some_injective e)) ∙ apply_forth (taking s) (own_post ps) t ∙ ap (forth (taking s)) (pass_own {ps = ps} pre _ f h₁)
   pass_own pre c (call b d f) h =
       bind_through _ _ h λ ps h₁ h'.
       bind_through _ _ h' λ _ _ e.
