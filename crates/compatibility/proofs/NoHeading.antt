@@ -102,7 +102,7 @@ module _ (h : Heading) (S : Split) where
   module _ (Γ : Env) (pre : Map) (e : Expr) where
     same_type : (t : TypeTerm) → type_term (under h S) Γ pre e t ≡ type_term S Γ pre e t
     unfolding row type signature under
-    same_type (entry.type_of_lem p) = refl
+    same_type (entry.type_of p) = refl
     same_type entry.type_of_its_let = refl
     same_type entry.result = refl
     same_type entry.argument = refl

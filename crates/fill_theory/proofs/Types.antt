@@ -56,7 +56,7 @@ module _ {P : Program} {S : Split} (R : InRange P S) (σ : List Map) where
   module _ (Γ : Env) (pre pre' : Map) (e : Expr) where
     term_kept : (t : TypeTerm) → type_term S' Γ pre e t ≡ type_term S Γ pre' e t
     unfolding signature filled
-    term_kept (entry.type_of_lem p) = type_kept S σ _
+    term_kept (entry.type_of p) = type_kept S σ _
     term_kept entry.type_of_its_let = refl
     term_kept entry.result = refl
     term_kept entry.argument = refl

@@ -89,14 +89,14 @@ module _ (whole : List Line → Replayed) (p s piece : List ℕ) (q : Point) whe
 
   pub goes_on : {pr : Progress} → pr ≡ Goes → LoopPost pr whole p s q →
       LoopPre behind p s piece (record { progress = Goes; threads = q.threads; at = 0; steps = q.steps; race = q.race })
-  goes_on h C = let G = goes whole p s q h C in record { going = refl; run = G.run; held = G.held; counts = G.counts; comes_to_lem = λ ls. G.comes_to_lem (lines piece ++ ls) }
+  goes_on h C = let G = goes whole p s q h C in record { going = refl; run = G.run; held = G.held; counts = G.counts; comes_to = λ ls. G.comes_to (lines piece ++ ls) }
 
 -- ------------------------------------------------------------------ what it tells
 
 telling_comes : (pr : Progress) (whole : List Line → Replayed) (p s : List ℕ) (q : Point) → LoopPost pr whole p s q → telling_by pr q ≡ whole []
 unfolding telling_by play_from
 telling_comes (Stops e) whole p s q C = C []
-telling_comes Goes whole p s q C = C.comes_to_lem []
+telling_comes Goes whole p s q C = C.comes_to []
 
 pub tells : (whole : List Line → Replayed) (p s : List ℕ) (q : Point) → LoopPost q.progress whole p s q → telling q ≡ whole []
 unfolding telling

@@ -57,7 +57,7 @@ module _ (p s : List ℕ) (long : length s ≡ space_size) (P : Program) (A : Pr
     run = start_replay P;
     held = held;
     counts = start_counts P;
-    comes_to_lem = λ ls. ap (λ (x : FirstRace). play_from 0 x (start_replay P) ls) (h ∙ ap (or_race None 0) (lowest_pair_alike p s' T (start_replay P) held));
+    comes_to = λ ls. ap (λ (x : FirstRace). play_from 0 x (start_replay P) ls) (h ∙ ap (or_race None 0) (lowest_pair_alike p s' T (start_replay P) held));
   }
 
 -- ------------------------------------------------------------------ the columns

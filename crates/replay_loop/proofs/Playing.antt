@@ -85,7 +85,7 @@ module _ (whole : List Line → Replayed) (p s piece : List ℕ) (q : Point) (P 
         run = R';
         held = H;
         counts = subst (λ (k : ℕ). CountsWithin k R'.machine.names) (let z : suc q.steps ≡ q.steps + 1 = omega arith in z) (counts R' refl);
-        comes_to_lem = λ ls.
+        comes_to = λ ls.
             ap (λ (x : Option (ℕ × ℕ)). play_from (q.steps + 1) (or_race q.race (q.steps + 1) x) R' (lines (drop next piece) ++ ls)) (lowest_pair_alike p r.1 r.0.threads R' H)
             ∙ ap (λ (x : List Line). play_from (q.steps + 1) (or_race q.race (q.steps + 1) (machine.lowest_pair R')) R' (x ++ ls)) left ∙ e ls;
       }
@@ -96,7 +96,7 @@ module _ (whole : List Line → Replayed) (p s piece : List ℕ) (q : Point) (P 
       LineTells whole p piece (line_done p s q (move_in (length piece) (line_at (drop q.at piece))))
   unfolding play_from play_on line_outcome line_done stopped_by
   by_line_lem h l rest e (open_line malformed none_there) =
-      let w : (ls : List Line) → play_from q.steps q.race R (l ∷ (rest ++ ls)) ≡ whole ls = λ ls. ap (λ (x : List Line). play_from q.steps q.race R (x ++ ls)) (sym e) ∙ P.comes_to_lem ls in
+      let w : (ls : List Line) → play_from q.steps q.race R (l ∷ (rest ++ ls)) ≡ whole ls = λ ls. ap (λ (x : List Line). play_from q.steps q.race R (x ++ ls)) (sym e) ∙ P.comes_to ls in
       rw malformed (rw none_there at w)
   by_line_lem h l rest e (shut_line fs r line_there told left) = by_form (trace_line l) refl
     where
@@ -104,7 +104,7 @@ module _ (whole : List Line → Replayed) (p s piece : List ℕ) (q : Point) (P 
       behind = rest_at piece q.at fs r S.in_piece line_there
 
       w : (ls : List Line) → play_from q.steps q.race R (l ∷ (rest ++ ls)) ≡ whole ls
-      w = λ ls. ap (λ (x : List Line). play_from q.steps q.race R (x ++ ls)) (sym e) ∙ P.comes_to_lem ls
+      w = λ ls. ap (λ (x : List Line). play_from q.steps q.race R (x ++ ls)) (sym e) ∙ P.comes_to ls
 
       by_form : (o : Option TraceLine) → trace_line l ≡ o → LineTells whole p piece (line_done p s q (move_in (length piece) (line_at (drop q.at piece))))
       by_form none z = rw (told, z) (rw z at w)
@@ -126,7 +126,7 @@ module _ (whole : List Line → Replayed) (p s piece : List ℕ) (q : Point) (P 
   pub piece_done : length piece ≤ q.at → LoopPost q.progress whole p s q
   unfolding lines
   piece_done h = subst (λ (x : Progress). LoopPost x whole p s q) (sym P.going)
-      (record { run = P.run; held = P.held; counts = P.counts; comes_to_lem = rw (drop_of_length-le piece {i = q.at} h) at P.comes_to_lem })
+      (record { run = P.run; held = P.held; counts = P.counts; comes_to = rw (drop_of_length-le piece {i = q.at} h) at P.comes_to })
 
   -- ---- what a caller of a line knows
 

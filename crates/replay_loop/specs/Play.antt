@@ -57,14 +57,14 @@ pub record LoopPre (whole : List Line → Replayed) (p s piece : List ℕ) (q : 
   pub run : Replay
   pub held : Holds p s q.threads run
   pub counts : CountsWithin q.steps run.machine.names
-  pub comes_to_lem : (ls : List Line) → play_from q.steps q.race run (lines (drop q.at piece) ++ ls) ≡ whole ls
+  pub comes_to : (ls : List Line) → play_from q.steps q.race run (lines (drop q.at piece) ++ ls) ≡ whole ls
 
 -- the same of a point with no piece at hand: the run has stopped, whatever lines come, or they go on with it
 pub record GoesTo (whole : List Line → Replayed) (p s : List ℕ) (q : Point) : Type 0 where
   pub run : Replay
   pub held : Holds p s q.threads run
   pub counts : CountsWithin q.steps run.machine.names
-  pub comes_to_lem : (ls : List Line) → play_from q.steps q.race run ls ≡ whole ls
+  pub comes_to : (ls : List Line) → play_from q.steps q.race run ls ≡ whole ls
 
 abbrev pub LoopPost : Progress → (whole : List Line → Replayed) (p s : List ℕ) → Point → Type 0
 LoopPost (Stops e) whole p s q = (ls : List Line) → ended e q.steps q.race ≡ whole ls

@@ -98,7 +98,7 @@ module _ (program trace job space : List ℕ) (q : Point) (R : RunOf program tra
 
   pub resumed : q.progress ≡ Goes → RunOf program trace job space (at_start q)
   unfolding at_start
-  resumed g = let G = resumes g in record { comes = record { run = G.run; held = G.held; counts = G.counts; comes_to_lem = G.comes_to_lem } }
+  resumed g = let G = resumes g in record { comes = record { run = G.run; held = G.held; counts = G.counts; comes_to = G.comes_to } }
 
 -- ------------------------------------------------------------------ behind a piece
 

@@ -3,7 +3,7 @@
 use Rattle.std.specs.Prelude.{List, [], ◌∷◌, map, ℕ}
 use Rattle.spec.specs.Kinds.{is, ref_location, first_map, second_map}
 use Rattle.spec.specs.Table as entry
-use Rattle.spec.specs.Table.{Node, step, e1, e2, TypeTerm, type_of_lem, type_of_its_let, result, argument, MapTerm, pre, post_of, K, «in», out, before, after, Entry, table}
+use Rattle.spec.specs.Table.{Node, step, e1, e2, TypeTerm, type_of, type_of_its_let, result, argument, MapTerm, pre, post_of, K, «in», out, before, after, Entry, table}
 use Rattle.spec.specs.Conditions.{Condition, T, F, contains}
 use Rattle.spec.specs.declared.MapNumber.{MapNumber}
 use Rattle.spec.specs.declared.TypeNumber.{TypeNumber}
@@ -46,7 +46,7 @@ holder (Unary x) = e1
 holder (Binary x) = e1
 
 abbrev pub type_term_in : StepView → TypeTerm → TypeNumber
-type_term_in s (type_of_lem n) = type_in s n
+type_term_in s (type_of n) = type_in s n
 type_term_in s type_of_its_let = s.bound
 type_term_in s result = s.signature.result
 type_term_in s argument = s.signature.argument
@@ -74,8 +74,8 @@ says_in w s x (entry.◌≧◌ l m) = flows w s (AtLeast (map_term_in s x l) (ma
 says_in w s x (entry.N×◌≦◌ l m) = flows w s (Covers (map_term_in s x m) s.value (map_term_in s x l))
 says_in w s x (entry.◌⊕◌＝◌ l m n) = flows w s (Sum (map_term_in s x l) (map_term_in s x m) (map_term_in s x n))
 says_in w s x (entry.◌＝◌⊕◌ l m n) = flows w s (Sum (map_term_in s x m) (map_term_in s x n) (map_term_in s x l))
-says_in w s x entry.post-at-p＞0 = has_at_least w s.post (ref_location x) 1
-says_in w s x entry.post-at-p≧D = has_at_least w s.post (ref_location x) s.denominator
+says_in w s x entry.post_at_p＞0 = has_at_least w s.post (ref_location x) 1
+says_in w s x entry.post_at_p≧D = has_at_least w s.post (ref_location x) s.denominator
 
 abbrev pub row_in : Word → (w : List ℕ) → StepView → List Condition
 row_in x w s = map (says_in w s (kind_in w s (holder x))) (table x)

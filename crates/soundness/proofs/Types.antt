@@ -22,7 +22,7 @@ use Rattle.spec.specs.declared.TypeNumber.{TypeNumber}
 use Rattle.spec.specs.declared.MapNumber.{MapNumber}
 use Rattle.spec.specs.declared.Location.{Location}
 use Rattle.spec.specs.declared.TypeLine.{TypeLine}
-use Rattle.spec.specs.declared.TypeLine.TheVariants as type_line_lem
+use Rattle.spec.specs.declared.TypeLine.TheVariants as declared_type
 use Rattle.spec.proofs.Fits.{maps_fit}
 use Rattle.spec.proofs.Wide.{map_wide_lem}
 use Rattle.spec.proofs.Agreement.{agree_same_tree, tree_of_type}
@@ -56,25 +56,25 @@ module _ (S : Split) where
   environment (b ∷ Γ) = bind (environment Γ) b.0 (means b.1)
 
 module _ {P : Program} (S : Split) (R : InRange P S) where
-  pub means_int : (t : TypeNumber) → type_at S t ≡ type_line_lem.Int → means S t ≡ int_type
+  pub means_int : (t : TypeNumber) → type_at S t ≡ declared_type.Int → means S t ≡ int_type
   unfolding means meaning tree_of is same_kind
-  means_int t e = ap meaning (tree_of_type S R t type_line_lem.Int e)
+  means_int t e = ap meaning (tree_of_type S R t declared_type.Int e)
 
-  pub means_lock : (t : TypeNumber) (i o : MapNumber) → type_at S t ≡ type_line_lem.Lock i o → means S t ≡ lock_type (cap (map_at S i)) (cap (map_at S o))
+  pub means_lock : (t : TypeNumber) (i o : MapNumber) → type_at S t ≡ declared_type.Lock i o → means S t ≡ lock_type (cap (map_at S i)) (cap (map_at S o))
   unfolding means meaning tree_of is same_kind
-  means_lock t i o e = ap meaning (tree_of_type S R t (type_line_lem.Lock i o) e)
+  means_lock t i o e = ap meaning (tree_of_type S R t (declared_type.Lock i o) e)
 
-  pub means_tid : (t : TypeNumber) (k : MapNumber) → type_at S t ≡ type_line_lem.Tid k → means S t ≡ tid_type (cap (map_at S k))
+  pub means_tid : (t : TypeNumber) (k : MapNumber) → type_at S t ≡ declared_type.Tid k → means S t ≡ tid_type (cap (map_at S k))
   unfolding means meaning tree_of is same_kind
-  means_tid t k e = ap meaning (tree_of_type S R t (type_line_lem.Tid k) e)
+  means_tid t k e = ap meaning (tree_of_type S R t (declared_type.Tid k) e)
 
-  pub means_sem : (t : TypeNumber) (k : MapNumber) → type_at S t ≡ type_line_lem.Sem k → means S t ≡ sem_type (cap (map_at S k))
+  pub means_sem : (t : TypeNumber) (k : MapNumber) → type_at S t ≡ declared_type.Sem k → means S t ≡ sem_type (cap (map_at S k))
   unfolding means meaning tree_of is same_kind
-  means_sem t k e = ap meaning (tree_of_type S R t (type_line_lem.Sem k) e)
+  means_sem t k e = ap meaning (tree_of_type S R t (declared_type.Sem k) e)
 
-  pub means_rwlock : (t : TypeNumber) (r w : MapNumber) → type_at S t ≡ type_line_lem.Rwlock r w → means S t ≡ rwlock_type (cap (map_at S r)) (cap (map_at S w))
+  pub means_rwlock : (t : TypeNumber) (r w : MapNumber) → type_at S t ≡ declared_type.Rwlock r w → means S t ≡ rwlock_type (cap (map_at S r)) (cap (map_at S w))
   unfolding means meaning tree_of is same_kind
-  means_rwlock t r w e = ap meaning (tree_of_type S R t (type_line_lem.Rwlock r w) e)
+  means_rwlock t r w e = ap meaning (tree_of_type S R t (declared_type.Rwlock r w) e)
 
   -- what a var line may show is what a variable may be shown as
   pub shown_means : (t u : TypeNumber) → may_show S t u ≡ true → means S u <: means S t
@@ -86,10 +86,10 @@ module _ {P : Program} (S : Split) (R : InRange P S) where
           rw (means_lock t i o x, means_lock u j p y) (looser_lock (covers_cap gives) (covers_cap takes))
 
   -- a ref to a type that agrees with its content
-  pub means_ref : (t : TypeNumber) (p : Location) (c u : TypeNumber) → type_at S t ≡ type_line_lem.Ref p c → agree S c u ≡ true
+  pub means_ref : (t : TypeNumber) (p : Location) (c u : TypeNumber) → type_at S t ≡ declared_type.Ref p c → agree S c u ≡ true
       → means S t ≡ ref_type p.0 (means S u)
   unfolding means meaning tree_of tree is same_kind ref_location content
-  means_ref t p c u e h = ap meaning (tree_of_type S R t (type_line_lem.Ref p c) e) ∙ ap (ref_type p.0) (agree_means S c u h)
+  means_ref t p c u e h = ap meaning (tree_of_type S R t (declared_type.Ref p c) e) ∙ ap (ref_type p.0) (agree_means S c u h)
 
   -- ------------------------------------------------------------------ every map has every location
 
@@ -97,19 +97,19 @@ module _ {P : Program} (S : Split) (R : InRange P S) where
   loads : (t : TypeNumber) (x : TypeLine) → type_at S t ≡ x → AllBelow (length S.maps) (maps x)
   loads t x e = subst (λ y. AllBelow (length S.maps) (maps y)) e (maps_fit R t)
 
-  pub lock_wide : (t : TypeNumber) (i o : MapNumber) → type_at S t ≡ type_line_lem.Lock i o
+  pub lock_wide : (t : TypeNumber) (i o : MapNumber) → type_at S t ≡ declared_type.Lock i o
       → (length (map_at S i) ≡ S.header.locations) × (length (map_at S o) ≡ S.header.locations)
-  lock_wide t i o e = let (first, (second, none_left)) = loads t (type_line_lem.Lock i o) e in (map_wide_lem R i first, map_wide_lem R o second)
+  lock_wide t i o e = let (first, (second, none_left)) = loads t (declared_type.Lock i o) e in (map_wide_lem R i first, map_wide_lem R o second)
 
-  pub tid_wide : (t : TypeNumber) (k : MapNumber) → type_at S t ≡ type_line_lem.Tid k → length (map_at S k) ≡ S.header.locations
-  tid_wide t k e = map_wide_lem R k (loads t (type_line_lem.Tid k) e).0
+  pub tid_wide : (t : TypeNumber) (k : MapNumber) → type_at S t ≡ declared_type.Tid k → length (map_at S k) ≡ S.header.locations
+  tid_wide t k e = map_wide_lem R k (loads t (declared_type.Tid k) e).0
 
-  pub sem_wide : (t : TypeNumber) (k : MapNumber) → type_at S t ≡ type_line_lem.Sem k → length (map_at S k) ≡ S.header.locations
-  sem_wide t k e = map_wide_lem R k (loads t (type_line_lem.Sem k) e).0
+  pub sem_wide : (t : TypeNumber) (k : MapNumber) → type_at S t ≡ declared_type.Sem k → length (map_at S k) ≡ S.header.locations
+  sem_wide t k e = map_wide_lem R k (loads t (declared_type.Sem k) e).0
 
-  pub rwlock_wide : (t : TypeNumber) (r w : MapNumber) → type_at S t ≡ type_line_lem.Rwlock r w
+  pub rwlock_wide : (t : TypeNumber) (r w : MapNumber) → type_at S t ≡ declared_type.Rwlock r w
       → (length (map_at S r) ≡ S.header.locations) × (length (map_at S w) ≡ S.header.locations)
-  rwlock_wide t r w e = let (first, (second, none_left)) = loads t (type_line_lem.Rwlock r w) e in (map_wide_lem R r first, map_wide_lem R w second)
+  rwlock_wide t r w e = let (first, (second, none_left)) = loads t (declared_type.Rwlock r w) e in (map_wide_lem R r first, map_wide_lem R w second)
 
   -- ------------------------------------------------------------------ variables
 

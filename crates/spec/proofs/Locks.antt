@@ -15,7 +15,7 @@ use Rattle.spec.specs.Accepted.{LocksTakeEnough}
 use Rattle.spec.specs.Verdict.{takes_enough, all_take_enough, locks_take_enough}
 use Rattle.spec.specs.declared.MapNumber.{MapNumber}
 use Rattle.spec.specs.declared.TypeLine.{TypeLine}
-use Rattle.spec.specs.declared.TypeLine.TheVariants as type_line_lem
+use Rattle.spec.specs.declared.TypeLine.TheVariants as declared_type
 use Rattle.spec.specs.declared.Refusal.TheVariants.{LockTakesLess}
 use Rattle.spec.proofs.Outcomes.{bind_goes_on, goes_on_bind, demand_goes_on, goes_on_demand}
 use Rattle.spec.proofs.TypeKinds.{is_of}
@@ -24,7 +24,7 @@ use Rattle.spec.proofs.Maps.{nowhere_none, none_nowhere, none_covers, covers_non
 module _ (S : Split) where
   -- of one line
   abbrev Enough : TypeLine → Type 0
-  Enough x = (i o : MapNumber) → x ≡ type_line_lem.Lock i o → map_at S o ⊒ map_at S i
+  Enough x = (i o : MapNumber) → x ≡ declared_type.Lock i o → map_at S o ⊒ map_at S i
 
   line_enough : (x : TypeLine) → takes_enough S x ≡ true → Enough x
   unfolding takes_enough is same_kind first_map second_map
@@ -38,13 +38,13 @@ module _ (S : Split) where
       by_kind true e = none_nowhere (map_at S (second_map x) ≥ᵐ map_at S (first_map x)) (covers_none (h (first_map x) (second_map x) (is_of lock x e)))
       by_kind false e = refl
 
-  all_enough : {t : Unit {0}} (k : ℕ) (xs : List TypeLine) → all_take_enough S k xs ≡ ok t → (n : ℕ) → Enough (get_or xs n type_line_lem.Int)
+  all_enough : {t : Unit {0}} (k : ℕ) (xs : List TypeLine) → all_take_enough S k xs ≡ ok t → (n : ℕ) → Enough (get_or xs n declared_type.Int)
   unfolding all_take_enough
   all_enough k [] h n = λ i o e. let clash : ◌≡◌ {A = ℕ} 0 1 = cc in absurd (omega arith)
   all_enough k (x ∷ xs) h zero = line_enough x (demand_goes_on _ _ (bind_goes_on _ _ h).1)
   all_enough k (x ∷ xs) h (suc n) = all_enough (k + 1) xs (bind_goes_on _ _ h).2 n
 
-  enough_all : (k : ℕ) (xs : List TypeLine) → ((n : ℕ) → Enough (get_or xs n type_line_lem.Int)) → all_take_enough S k xs ≡ ok tt
+  enough_all : (k : ℕ) (xs : List TypeLine) → ((n : ℕ) → Enough (get_or xs n declared_type.Int)) → all_take_enough S k xs ≡ ok tt
   unfolding all_take_enough
   enough_all k [] h = refl
   enough_all k (x ∷ xs) h = goes_on_bind _ _ (goes_on_demand _ (LockTakesLess k) (enough_line x (h 0))) (enough_all (k + 1) xs (λ n. h (suc n)))

@@ -28,7 +28,7 @@ use Rattle.spec.specs.declared.MapNumber.{MapNumber}
 use Rattle.spec.specs.declared.TypeNumber.{TypeNumber}
 use Rattle.spec.specs.declared.Word.{Word}
 use Rattle.spec.specs.declared.TypeLine.{TypeLine}
-use Rattle.spec.specs.declared.TypeLine.TheVariants as type_line_lem
+use Rattle.spec.specs.declared.TypeLine.TheVariants as declared_type
 use Rattle.spec.proofs.Clashes.{true_is_not_false}
 use Rattle.spec.proofs.Seen.{wrong_is_not_right, seen_right, formed_right, insist_right, either_right, numbers_right, numbers_spelled, in_to, in_below, in_range_at}
 
@@ -97,11 +97,11 @@ module _ (H : Header) (own : ℕ) (fs : List Field) where
   plain_fits : (t : TypeLine) → is ref t ≡ false → AllBelow H.maps (maps t) → TypeFits H own t
   plain_fits t e h = record { place = λ r. true_is_not_false (sym r ∙ e); loads = h }
 
-  int_fits : (t : TypeLine) → seen (λ ns. type_line_lem.Int) (numbers ((0 to 0) ∷ (0 to 0) ∷ []) fs) ≡ good t → TypeFits H own t
+  int_fits : (t : TypeLine) → seen (λ ns. declared_type.Int) (numbers ((0 to 0) ∷ (0 to 0) ∷ []) fs) ≡ good t → TypeFits H own t
   unfolding is same_kind
-  int_fits t h = let (ns, n, e) = seen_right _ h in along (TypeFits H own) e (plain_fits type_line_lem.Int refl tt)
+  int_fits t h = let (ns, n, e) = seen_right _ h in along (TypeFits H own) e (plain_fits declared_type.Int refl tt)
 
-  ref_fits : (t : TypeLine) → seen (λ ns. type_line_lem.Ref (nth_location 0 ns) (nth_type 1 ns)) (numbers (below H.locations ∷ below own ∷ []) fs) ≡ good t → TypeFits H own t
+  ref_fits : (t : TypeLine) → seen (λ ns. declared_type.Ref (nth_location 0 ns) (nth_type 1 ns)) (numbers (below H.locations ∷ below own ∷ []) fs) ≡ good t → TypeFits H own t
   unfolding ref_location content
   ref_fits t h =
       let (ns, n, e) = seen_right _ h in
@@ -121,19 +121,19 @@ module _ (H : Header) (own : ℕ) (fs : List Field) where
       by_heading C2 ns first second = plain_fits _ refl (first, (first, tt))
       by_heading C3 ns first second = plain_fits _ refl (first, (in_below _ _ second, tt))
 
-  tid_fits : (t : TypeLine) → seen (λ ns. type_line_lem.Tid (nth_map 0 ns)) (numbers (below H.maps ∷ (0 to 0) ∷ []) fs) ≡ good t → TypeFits H own t
+  tid_fits : (t : TypeLine) → seen (λ ns. declared_type.Tid (nth_map 0 ns)) (numbers (below H.maps ∷ (0 to 0) ∷ []) fs) ≡ good t → TypeFits H own t
   unfolding is same_kind
   tid_fits t h =
       let (ns, n, e) = seen_right _ h in
       along (TypeFits H own) e (plain_fits _ refl (in_below _ _ (in_range_at (below H.maps ∷ (0 to 0) ∷ []) fs ns n 0 (omega arith)), tt))
 
-  sem_fits : (t : TypeLine) → seen (λ ns. type_line_lem.Sem (nth_map 0 ns)) (numbers (below H.maps ∷ (0 to 0) ∷ []) fs) ≡ good t → TypeFits H own t
+  sem_fits : (t : TypeLine) → seen (λ ns. declared_type.Sem (nth_map 0 ns)) (numbers (below H.maps ∷ (0 to 0) ∷ []) fs) ≡ good t → TypeFits H own t
   unfolding is same_kind
   sem_fits t h =
       let (ns, n, e) = seen_right _ h in
       along (TypeFits H own) e (plain_fits _ refl (in_below _ _ (in_range_at (below H.maps ∷ (0 to 0) ∷ []) fs ns n 0 (omega arith)), tt))
 
-  rwlock_fits : (t : TypeLine) → seen (λ ns. type_line_lem.Rwlock (nth_map 0 ns) (nth_map 1 ns)) (numbers (below H.maps ∷ below H.maps ∷ []) fs) ≡ good t → TypeFits H own t
+  rwlock_fits : (t : TypeLine) → seen (λ ns. declared_type.Rwlock (nth_map 0 ns) (nth_map 1 ns)) (numbers (below H.maps ∷ below H.maps ∷ []) fs) ≡ good t → TypeFits H own t
   unfolding is same_kind
   rwlock_fits t h =
       let (ns, n, e) = seen_right _ h in
@@ -153,23 +153,23 @@ type_fits H own (f ∷ fs) t h =
     (either_right fits (same f (bytes "rwlock")) _ _ (rwlock_fits H own fs) (λ t h. wrong_is_not_right h)))))) t h
 
 -- a type that is known to be a ref
-ref_place_lem : {H : Header} {own : ℕ} {t : TypeLine} {p : Location} {c : TypeNumber} → TypeFits H own t → t ≡ type_line_lem.Ref p c
+ref_place_lem : {H : Header} {own : ℕ} {t : TypeLine} {p : Location} {c : TypeNumber} → TypeFits H own t → t ≡ declared_type.Ref p c
     → (p.0 < H.locations) × (c.0 < own)
 unfolding is same_kind ref_location content
 ref_place_lem {H} {own} fits e = (along (TypeFits H own) e fits).place refl
 
 types_fit : (H : Header) (own n : ℕ) {ls rest : List Line} {ts : List TypeLine} → Parses (type_lines H own n) ls ts rest
-    → (length ts ≡ n) × ((t : ℕ) → t < length ts → TypeFits H (own + t) (get_or ts t type_line_lem.Int))
+    → (length ts ≡ n) × ((t : ℕ) → t < length ts → TypeFits H (own + t) (get_or ts t declared_type.Int))
 unfolding type_lines
 types_fit H own zero nothing = (refl, λ t h. absurd (omega arith))
 types_fit H own (suc n) (line {a = a} {as' = ts} h more) =
     let (l, fits) = types_fit H (own + 1) n more in
     (ap suc l, go fits)
   where
-    go : ((t : ℕ) → t < length ts → TypeFits H (own + 1 + t) (get_or ts t type_line_lem.Int))
-        → (t : ℕ) → t < length (a ∷ ts) → TypeFits H (own + t) (get_or (a ∷ ts) t type_line_lem.Int)
+    go : ((t : ℕ) → t < length ts → TypeFits H (own + 1 + t) (get_or ts t declared_type.Int))
+        → (t : ℕ) → t < length (a ∷ ts) → TypeFits H (own + t) (get_or (a ∷ ts) t declared_type.Int)
     go fits zero q = along (λ o. TypeFits H o a) (omega arith) (type_fits H own _ a h)
-    go fits (suc t) q = along (λ o. TypeFits H o (get_or ts t type_line_lem.Int)) (omega arith) (fits t (omega arith))
+    go fits (suc t) q = along (λ o. TypeFits H o (get_or ts t declared_type.Int)) (omega arith) (fits t (omega arith))
 
 -- ------------------------------------------------------------------ map lines
 
@@ -277,8 +277,8 @@ well_formed_in_range {purpose} {P} {text} {S} F =
     let (maps_counted, wide) = maps_wide H H.maps F.mapped in
     let (signatures_counted, signatures) = signatures_fit H (length P.procedures) F.signed in
     let (rows_counted, rows) = rows_fit purpose H P.steps F.rowed in
-    let fits : (t : ℕ) → t < length S.types → TypeFits H t (get_or S.types t type_line_lem.Int) =
-    λ t h. let z : 0 + t ≡ t = omega arith in along (λ o. TypeFits H o (get_or S.types t type_line_lem.Int)) z (types t h) in
+    let fits : (t : ℕ) → t < length S.types → TypeFits H t (get_or S.types t declared_type.Int) =
+    λ t h. let z : 0 + t ≡ t = omega arith in along (λ o. TypeFits H o (get_or S.types t declared_type.Int)) z (types t h) in
     record {
       denominator = head.denominator;
       locations = head.locations;
@@ -291,7 +291,7 @@ well_formed_in_range {purpose} {P} {text} {S} F =
       rows_counted = rows_counted;
       map_wide = wide;
       ref_place = λ t p c h e. ref_place_lem (fits t h) e;
-      type_maps = λ t h. along (λ n. AllBelow n (maps (get_or S.types t type_line_lem.Int))) (sym maps_counted) (fits t h).loads;
+      type_maps = λ t h. along (λ n. AllBelow n (maps (get_or S.types t declared_type.Int))) (sym maps_counted) (fits t h).loads;
       before_map = λ f d h. omega (arith, maps_counted, (signatures f d h).0);
       argument_type = λ f d h. omega (arith, types_counted, (signatures f d h).1);
       after_map = λ f d h. omega (arith, maps_counted, (signatures f d h).2);

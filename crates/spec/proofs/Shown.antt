@@ -11,7 +11,7 @@ use Rattle.spec.specs.Kinds.{lock, is, second_map}
 use Rattle.spec.specs.Conditions.{looser_lock, may_show}
 use Rattle.spec.specs.declared.TypeNumber.{TypeNumber}
 use Rattle.spec.specs.declared.MapNumber.{MapNumber}
-use Rattle.spec.specs.declared.TypeLine.TheVariants as type_line_lem
+use Rattle.spec.specs.declared.TypeLine.TheVariants as declared_type
 use Rattle.spec.proofs.Tests.{both_true}
 use Rattle.spec.proofs.Maps.{nowhere_none, none_nowhere, none_covers, covers_none, covers_itself}
 use Rattle.spec.proofs.TypeKinds.{is_of, of_is, first_told, second_told}
@@ -21,7 +21,7 @@ module _ (S : Split) where
   -- the type t, shown of a value of the type u
   pub data Shown (t u : TypeNumber) : Type 0 where
     agreeing : agree S t u ≡ true → Shown t u
-    looser : {i o j p : MapNumber} → type_at S t ≡ type_line_lem.Lock i o → type_at S u ≡ type_line_lem.Lock j p
+    looser : {i o j p : MapNumber} → type_at S t ≡ declared_type.Lock i o → type_at S u ≡ declared_type.Lock j p
         → map_at S j ⊒ map_at S i → map_at S o ⊒ map_at S p → Shown t u
 
   locks_show : (t u : TypeNumber) → is lock (type_at S t) ≡ true → is lock (type_at S u) ≡ true → looser_lock S (type_at S t) (type_at S u) ≡ true → Shown t u
@@ -39,7 +39,7 @@ module _ (S : Split) where
       by_kind true k h = let (x, y) = both_true _ _ k in locks_show t u x y h
       by_kind false k h = agreeing h
 
-  looser_locks : (t u : TypeNumber) {i o j p : MapNumber} → type_at S t ≡ type_line_lem.Lock i o → type_at S u ≡ type_line_lem.Lock j p
+  looser_locks : (t u : TypeNumber) {i o j p : MapNumber} → type_at S t ≡ declared_type.Lock i o → type_at S u ≡ declared_type.Lock j p
       → map_at S j ⊒ map_at S i → map_at S o ⊒ map_at S p → looser_lock S (type_at S t) (type_at S u) ≡ true
   unfolding looser_lock
   looser_locks t u {i} {o} {j} {p} x y gives takes =

@@ -9,7 +9,7 @@ use Rattle.spec.specs.declared.Purpose.{Purpose}
 use Rattle.spec.specs.declared.Purpose.TheVariants.{Check}
 use Rattle.spec.specs.declared.TypeNumber.{TypeNumber}
 use Rattle.spec.specs.declared.MapNumber.{MapNumber}
-use Rattle.spec.specs.declared.TypeLine.TheVariants as type_line_lem
+use Rattle.spec.specs.declared.TypeLine.TheVariants as declared_type
 
 -- a map has at most d of each location
 pub data AtMost (d : ℕ) : Map → Type 0 where
@@ -18,7 +18,7 @@ pub data AtMost (d : ℕ) : Map → Type 0 where
 
 -- the out of each lock line is nowhere below its in, used or not
 abbrev pub LocksTakeEnough : Split → Type 0
-LocksTakeEnough S = (t : TypeNumber) (i o : MapNumber) → type_at S t ≡ type_line_lem.Lock i o → map_at S o ⊒ map_at S i
+LocksTakeEnough S = (t : TypeNumber) (i o : MapNumber) → type_at S t ≡ declared_type.Lock i o → map_at S o ⊒ map_at S i
 
 -- what is judged before the conditions is passed: both sheets are well formed, no lock takes less than it gives, the start holds at most
 -- one of each location

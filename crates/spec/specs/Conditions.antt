@@ -16,7 +16,7 @@ use Rattle.spec.specs.declared.TypeLine.{TypeLine}
 use Rattle.spec.specs.declared.Word.{Word}
 use Rattle.spec.specs.declared.Word.TheVariants.{Leaf, Unary, Binary}
 use Rattle.spec.specs.Table as entry
-use Rattle.spec.specs.Table.{Node, step, e1, e2, TypeTerm, type_of_lem, type_of_its_let, result, argument, MapTerm, s, post_of, K, «in», out, r, before, after, Entry, ◌a◌, ◌is◌, ◌shows◌, ◌is_c_of◌, ◌＝◌, ◌≧◌, N×◌≦◌, ◌⊕◌＝◌, ◌＝◌⊕◌, post_at_p＞0, post_at_p≧D, table}
+use Rattle.spec.specs.Table.{Node, step, e1, e2, TypeTerm, type_of, type_of_its_let, result, argument, MapTerm, s, post_of, K, «in», out, r, before, after, Entry, ◌a◌, ◌is◌, ◌shows◌, ◌is_c_of◌, ◌＝◌, ◌≧◌, N×◌≦◌, ◌⊕◌＝◌, ◌＝◌⊕◌, post_at_p＞0, post_at_p≧D, table}
 
 -- a condition: on types (T); on flow (F), with the lowest location at which it fails; on access (A) to a location
 pub data Condition : Type 0 where
@@ -111,7 +111,7 @@ module _ (S : Split) where
   -- at the step e, with the types of the variables there and its pre
   module _ (Γ : Env) (pre : Map) (e : Expr) where
     abbrev pub type_term : TypeTerm → TypeNumber
-    type_term (type_of_lem p) = type (node_of e p)
+    type_term (type_of p) = type (node_of e p)
     type_term type_of_its_let = type_in Γ (step_number e)
     type_term result = (signature (step_number e)).result
     type_term argument = (signature (step_number e)).argument

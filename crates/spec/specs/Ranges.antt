@@ -12,7 +12,7 @@ use Rattle.spec.specs.Kinds.{maps}
 use Rattle.spec.specs.declared.TypeNumber.{TypeNumber}
 use Rattle.spec.specs.declared.MapNumber.{MapNumber}
 use Rattle.spec.specs.declared.Location.{Location}
-use Rattle.spec.specs.declared.TypeLine.TheVariants as type_line_lem
+use Rattle.spec.specs.declared.TypeLine.TheVariants as declared_type
 
 -- each of some maps has a number below n
 abbrev pub AllBelow : (n : ℕ) → List MapNumber → Type 0
@@ -33,8 +33,8 @@ pub record InRange (P : Program) (S : Split) : Type 0 where
   pub map_wide : (m : ℕ) → m < length S.maps → length (get_or S.maps m []) ≡ S.header.locations
   -- the numbers on a type line
   pub ref_place : (t : ℕ) (p : Location) (c : TypeNumber) → t < length S.types
-      → get_or S.types t type_line_lem.Int ≡ type_line_lem.Ref p c → (p.0 < S.header.locations) × (c.0 < t)
-  pub type_maps : (t : ℕ) → t < length S.types → AllBelow (length S.maps) (maps (get_or S.types t type_line_lem.Int))
+      → get_or S.types t declared_type.Int ≡ declared_type.Ref p c → (p.0 < S.header.locations) × (c.0 < t)
+  pub type_maps : (t : ℕ) → t < length S.types → AllBelow (length S.maps) (maps (get_or S.types t declared_type.Int))
   -- the numbers on a procedure's line
   pub before_map : (f : ℕ) (d : Signature) → f < length S.signatures → (get_or S.signatures f d).before.0 < length S.maps
   pub argument_type : (f : ℕ) (d : Signature) → f < length S.signatures → (get_or S.signatures f d).argument.0 < length S.types

@@ -22,7 +22,7 @@ part = e1
 
 -- a type: that of a step or a part; of a variable, that of its let's e1; of a call, those of its procedure
 pub data TypeTerm : Type 0 where
-  type_of_lem : Node → TypeTerm
+  type_of : Node → TypeTerm
   type_of_its_let result argument : TypeTerm
 
 -- a map: the step's pre, the post of the step or a part, the row's s; K of a tid or sem type, in and out of a lock type, r and w of a
@@ -59,8 +59,8 @@ type_shows◌ t = step shows t
 abbrev pub table : Word → List Entry
 table (Leaf Var) = type_shows type_of_its_let ∷ post ＝ pre ∷ []
 table (Leaf Int) = type_is_a int ∷ post ＝ pre ∷ []
-table (Binary Let) = type_is type_of_lem e2 ∷ post ＝ post_of e2 ∷ []
-table (Binary If) = type_is type_of_lem e1 ∷ type_is type_of_lem e2 ∷ post_of e1 ≧ post ∷ post_of e2 ≧ post ∷ []
+table (Binary Let) = type_is type_of e2 ∷ post ＝ post_of e2 ∷ []
+table (Binary If) = type_is type_of e1 ∷ type_is type_of e2 ∷ post_of e1 ≧ post ∷ post_of e2 ≧ post ∷ []
 table (Unary While) = type_is_a int ∷ pre ≧ post ∷ post_of part ≧ post ∷ []
 table (Leaf Newtid) = type_is_a tid ∷ post ＝ pre ∷ []
 table (Binary Spawn) = type_is_a int ∷ e1 a tid ∷ post_of e2 ≧ K ∷ post ⊕ s ＝ post_of e1 ∷ []

@@ -8,12 +8,12 @@ use Rattle.spec.specs.declared.Refusal.TheVariants.{NoStart, NoKept}
 use Rattle.spec.specs.declared.Word.{Word}
 use Rattle.spec.specs.declared.MapNumber.{MapNumber}
 use Rattle.split_fields.specs.declared.starts.RowStart.{RowStart}
-use Rattle.split_fields.specs.declared.starts.RowStart.TheVariants as row_start_lem
+use Rattle.split_fields.specs.declared.starts.RowStart.TheVariants as declared_start
 
 -- what a row says of its s, as document 01 has it
 unfoldable pub start_decoded : RowStart → Option MapNumber
-start_decoded (row_start_lem.Given m) = some m
-start_decoded row_start_lem.Empty = none
+start_decoded (declared_start.Given m) = some m
+start_decoded declared_start.Empty = none
 
 -- how many of the maps can be the s of a step with this word
 abbrev pub start_limit : Word → (maps : ℕ) → ℕ

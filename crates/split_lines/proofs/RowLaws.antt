@@ -26,7 +26,7 @@ use Rattle.split_fields.specs.Answers.{LeadingAnswer, PostAnswer, StartAnswer}
 use Rattle.split_fields.proofs.FieldsInTurn.{shown, behind_field_lem, field_wrong, field_last, field_more, at_cursor}
 use Rattle.split_fields.proofs.LineLaws.{shows_range, shows_entry, comma_line, comma_placed, comma_kept}
 use Rattle.split_fields.specs.declared.starts.RowStart.{RowStart}
-use Rattle.split_fields.specs.declared.starts.RowStart.TheVariants as row_start_lem
+use Rattle.split_fields.specs.declared.starts.RowStart.TheVariants as declared_start
 use Rattle.split_fields.specs.Starts.{start_decoded, empty_refusal}
 use Rattle.split_fields.proofs.StartLaws.{shows_empty}
 use Rattle.split_lines.specs.declared.rows.Row.{Row as RowNumbers}
@@ -51,7 +51,7 @@ module _ (line : ℕ) (row : RowNumbers) (w : Word) (H : Header) (c : Cursor) wh
     unfolding row_ranged
     started q = sym (rw e (ap (λ (x : RowStart). start_ranged line row x w H c) q))
 
-    module _ (m : MapNumber) (given : row.start ≡ row_start_lem.Given m) where
+    module _ (m : MapNumber) (given : row.start ≡ declared_start.Given m) where
       pub start_out : in_range (start_range w H) m.0 ≡ false → row_read.Refused (SplitRange line) ≡ row_ranged line row w H c
       unfolding start_ranged
       start_out h = sym (rw h) ∙ started given
@@ -60,7 +60,7 @@ module _ (line : ℕ) (row : RowNumbers) (w : Word) (H : Header) (c : Cursor) wh
       unfolding start_ranged
       start_in_lem h = sym (rw h) ∙ started given
 
-    module _ (empty : row.start ≡ row_start_lem.Empty) where
+    module _ (empty : row.start ≡ declared_start.Empty) where
       pub start_wanted : may_be_empty H.heading w ≡ false → row_read.Refused (empty_refusal w line) ≡ row_ranged line row w H c
       unfolding start_ranged
       start_wanted h = sym (rw h) ∙ started empty
@@ -171,20 +171,20 @@ module _ (purpose : Purpose) (H : Header) (w : Word) {text : List ℕ} {c : Curs
         empty_judged row false y e = row_closed ∙ shows_range (c.line + 1) (lines (rest text d)) e
 
       pub row_without : (H.types ≤ 64) × (H.maps ≤ 512) → (d : Cursor) → StartAnswer text c₃ (start.Empty d)
-          → (row : RowNumbers) → row ≡ row_made a b row_start_lem.Empty → (answer : RowRead) → answer ≡ row_ranged (c.line + 1) row w H d → RowAnswer text out answer
+          → (row : RowNumbers) → row ≡ row_made a b declared_start.Empty → (answer : RowRead) → answer ≡ row_ranged (c.line + 1) row w H d → RowAnswer text out answer
       unfolding row_ranged start_ranged row_made row_decoded start_decoded row_of
       row_without few d h row is answer q =
           let f = first_field (rest text c) in
           let g = first_field (rest text c₂) in
           subst (RowAnswer text out) (sym (q ∙ ap (λ (r : RowNumbers). row_ranged (c.line + 1) r w H d) is))
-          (empty_judged d h.1 h.2 (row_made a b row_start_lem.Empty) (all_in_range (two H) (a ∷ b ∷ [])) (may_be_empty H.heading w)
+          (empty_judged d h.1 h.2 (row_made a b declared_start.Empty) (all_in_range (two H) (a ∷ b ∷ [])) (may_be_empty H.heading w)
           (ap (λ (s : Field). word_line purpose H w (f ∷ g ∷ s ∷ [])) h.0 ∙ row_empty purpose H few w f g a b lead.0 lead₂.0))
 
       pub row_with_start : (H.types ≤ 64) × (H.maps ≤ 512) → (n : ℕ) (d : Cursor) → StartAnswer text c₃ (start.Given n d)
-          → (row : RowNumbers) → row ≡ row_made a b (row_start_lem.Given (record { 0 = n })) → (answer : RowRead) → answer ≡ row_ranged (c.line + 1) row w H d → RowAnswer text out answer
+          → (row : RowNumbers) → row ≡ row_made a b (declared_start.Given (record { 0 = n })) → (answer : RowRead) → answer ≡ row_ranged (c.line + 1) row w H d → RowAnswer text out answer
       unfolding row_ranged start_ranged row_made row_decoded start_decoded row_of
       row_with_start few n d h row is answer q =
-          let made = row_made a b (row_start_lem.Given (record { 0 = n })) in
+          let made = row_made a b (declared_start.Given (record { 0 = n })) in
           subst (RowAnswer text out) (sym (q ∙ ap (λ (r : RowNumbers). row_ranged (c.line + 1) r w H d) is))
           (given_judged d h.1 h.2 made (all_in_range (two H) (a ∷ b ∷ [])) (in_range (start_range w H) n)
           (row_given purpose H few w (first_field (rest text c)) (first_field (rest text c₂)) a b lead.0 lead₂.0 (first_field (rest text c₃)) n h.0

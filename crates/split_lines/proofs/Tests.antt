@@ -11,7 +11,7 @@ use Rattle.spec.specs.declared.Header.{Header}
 use Rattle.spec.specs.declared.Heading.{Heading}
 use Rattle.spec.specs.declared.Heading.TheVariants.{C, C2, C3}
 use Rattle.spec.specs.declared.TypeLine.{TypeLine}
-use Rattle.spec.specs.declared.TypeLine.TheVariants as type_line_lem
+use Rattle.spec.specs.declared.TypeLine.TheVariants as declared_type
 use Rattle.keywords.specs.declared.TypeWord.{TypeWord}
 use Rattle.keywords.specs.declared.TypeWord.TheVariants as kind
 use Rattle.split_lines.specs.declared.types.TypeSeen.{TypeSeen}
@@ -26,11 +26,11 @@ zero_below (suc n) = simp (le-leb 0 (suc n) (omega arith), lt-leb (suc n) 0 (ome
 
 -- the two numbers of a type line of each kind, as numbers of so many things
 module _ (H : Header) (own a b : ℕ) where
-  pub int_seen : (k : TypeWord) → k ≡ kind.Int → type_seen k H own (a ∷ b ∷ []) ≡ ranged_type (below 1 ∷ below 1 ∷ []) (λ ns. type_line_lem.Int) (a ∷ b ∷ [])
+  pub int_seen : (k : TypeWord) → k ≡ kind.Int → type_seen k H own (a ∷ b ∷ []) ≡ ranged_type (below 1 ∷ below 1 ∷ []) (λ ns. declared_type.Int) (a ∷ b ∷ [])
   unfolding type_seen ranged_type all_in_range
   int_seen k e = rw (e, zero_below a, zero_below b)
 
-  pub ref_seen : (k : TypeWord) → k ≡ kind.Ref → type_seen k H own (a ∷ b ∷ []) ≡ ranged_type (below H.locations ∷ below own ∷ []) (λ ns. type_line_lem.Ref (nth_location 0 ns) (nth_type 1 ns)) (a ∷ b ∷ [])
+  pub ref_seen : (k : TypeWord) → k ≡ kind.Ref → type_seen k H own (a ∷ b ∷ []) ≡ ranged_type (below H.locations ∷ below own ∷ []) (λ ns. declared_type.Ref (nth_location 0 ns) (nth_type 1 ns)) (a ∷ b ∷ [])
   unfolding type_seen
   ref_seen k e = rw e
 
@@ -39,15 +39,15 @@ module _ (H : Header) (own a b : ℕ) where
   unfolding type_seen
   lock_seen_lem k e told = rw e told
 
-  pub tid_seen : (k : TypeWord) → k ≡ kind.Tid → type_seen k H own (a ∷ b ∷ []) ≡ ranged_type (below H.maps ∷ below 1 ∷ []) (λ ns. type_line_lem.Tid (nth_map 0 ns)) (a ∷ b ∷ [])
+  pub tid_seen : (k : TypeWord) → k ≡ kind.Tid → type_seen k H own (a ∷ b ∷ []) ≡ ranged_type (below H.maps ∷ below 1 ∷ []) (λ ns. declared_type.Tid (nth_map 0 ns)) (a ∷ b ∷ [])
   unfolding type_seen ranged_type all_in_range
   tid_seen k e = rw (e, zero_below b)
 
-  pub sem_seen : (k : TypeWord) → k ≡ kind.Sem → type_seen k H own (a ∷ b ∷ []) ≡ ranged_type (below H.maps ∷ below 1 ∷ []) (λ ns. type_line_lem.Sem (nth_map 0 ns)) (a ∷ b ∷ [])
+  pub sem_seen : (k : TypeWord) → k ≡ kind.Sem → type_seen k H own (a ∷ b ∷ []) ≡ ranged_type (below H.maps ∷ below 1 ∷ []) (λ ns. declared_type.Sem (nth_map 0 ns)) (a ∷ b ∷ [])
   unfolding type_seen ranged_type all_in_range
   sem_seen k e = rw (e, zero_below b)
 
-  pub rwlock_seen : (k : TypeWord) → k ≡ kind.Rwlock → type_seen k H own (a ∷ b ∷ []) ≡ ranged_type (below H.maps ∷ below H.maps ∷ []) (λ ns. type_line_lem.Rwlock (nth_map 0 ns) (nth_map 1 ns)) (a ∷ b ∷ [])
+  pub rwlock_seen : (k : TypeWord) → k ≡ kind.Rwlock → type_seen k H own (a ∷ b ∷ []) ≡ ranged_type (below H.maps ∷ below H.maps ∷ []) (λ ns. declared_type.Rwlock (nth_map 0 ns) (nth_map 1 ns)) (a ∷ b ∷ [])
   unfolding type_seen
   rwlock_seen k e = rw e
 

@@ -10,7 +10,7 @@ use Rattle.spec.specs.declared.Refusal.TheVariants.{SplitRange}
 use Rattle.spec.specs.declared.Word.{Word}
 use Rattle.lexer.specs.declared.Cursor.{Cursor}
 use Rattle.split_fields.specs.declared.starts.RowStart.{RowStart}
-use Rattle.split_fields.specs.declared.starts.RowStart.TheVariants as row_start_lem
+use Rattle.split_fields.specs.declared.starts.RowStart.TheVariants as declared_start
 use Rattle.split_fields.specs.Starts.{start_decoded, empty_refusal}
 use Rattle.split_lines.specs.declared.rows.Row.{Row as RowNumbers}
 use Rattle.split_lines.specs.declared.rows.RowRead.{RowRead}
@@ -32,8 +32,8 @@ row_made typed post start = record { typed = record { 0 = typed }; post = record
 
 -- a row with its numbers in their ranges, and the cursor behind its line: its type and its post, then its start
 unfoldable pub start_ranged : (line : ℕ) → RowNumbers → RowStart → Word → Header → Cursor → RowRead
-start_ranged line row (row_start_lem.Given m) w H c = if in_range (start_range w H) m.0 then row_read.Read row c else row_read.Refused (SplitRange line)
-start_ranged line row row_start_lem.Empty w H c = if may_be_empty H.heading w then row_read.Read row c else row_read.Refused (empty_refusal w line)
+start_ranged line row (declared_start.Given m) w H c = if in_range (start_range w H) m.0 then row_read.Read row c else row_read.Refused (SplitRange line)
+start_ranged line row declared_start.Empty w H c = if may_be_empty H.heading w then row_read.Read row c else row_read.Refused (empty_refusal w line)
 
 unfoldable pub row_ranged : (line : ℕ) → RowNumbers → Word → Header → Cursor → RowRead
 row_ranged line row w H c =

@@ -7,7 +7,7 @@ use Rattle.spec.specs.Split.{Map, lock_of, out_range, nth_map, nth_type, nth_loc
 use Rattle.spec.specs.declared.Header.{Header}
 use Rattle.spec.specs.declared.Heading.{Heading}
 use Rattle.spec.specs.declared.TypeLine.{TypeLine}
-use Rattle.spec.specs.declared.TypeLine.TheVariants as type_line_lem
+use Rattle.spec.specs.declared.TypeLine.TheVariants as declared_type
 use Rattle.keywords.specs.declared.TypeWord.{TypeWord}
 use Rattle.keywords.specs.declared.TypeWord.TheVariants as kind
 use Rattle.split_lines.specs.declared.types.TypeSeen.{TypeSeen}
@@ -23,12 +23,12 @@ unfoldable pub lock_seen : Heading → (maps : ℕ) → List ℕ → TypeSeen
 lock_seen h maps ns = ranged_type (below maps ∷ out_range h maps ∷ []) (lock_of h) ns
 
 unfoldable pub type_seen : TypeWord → Header → (own : ℕ) → List ℕ → TypeSeen
-type_seen kind.Int H own ns = ranged_type ((0 to 0) ∷ (0 to 0) ∷ []) (λ ns. type_line_lem.Int) ns
-type_seen kind.Ref H own ns = ranged_type (below H.locations ∷ below own ∷ []) (λ ns. type_line_lem.Ref (nth_location 0 ns) (nth_type 1 ns)) ns
+type_seen kind.Int H own ns = ranged_type ((0 to 0) ∷ (0 to 0) ∷ []) (λ ns. declared_type.Int) ns
+type_seen kind.Ref H own ns = ranged_type (below H.locations ∷ below own ∷ []) (λ ns. declared_type.Ref (nth_location 0 ns) (nth_type 1 ns)) ns
 type_seen kind.Lock H own ns = lock_seen H.heading H.maps ns
-type_seen kind.Tid H own ns = ranged_type (below H.maps ∷ (0 to 0) ∷ []) (λ ns. type_line_lem.Tid (nth_map 0 ns)) ns
-type_seen kind.Sem H own ns = ranged_type (below H.maps ∷ (0 to 0) ∷ []) (λ ns. type_line_lem.Sem (nth_map 0 ns)) ns
-type_seen kind.Rwlock H own ns = ranged_type (below H.maps ∷ below H.maps ∷ []) (λ ns. type_line_lem.Rwlock (nth_map 0 ns) (nth_map 1 ns)) ns
+type_seen kind.Tid H own ns = ranged_type (below H.maps ∷ (0 to 0) ∷ []) (λ ns. declared_type.Tid (nth_map 0 ns)) ns
+type_seen kind.Sem H own ns = ranged_type (below H.maps ∷ (0 to 0) ∷ []) (λ ns. declared_type.Sem (nth_map 0 ns)) ns
+type_seen kind.Rwlock H own ns = ranged_type (below H.maps ∷ below H.maps ∷ []) (λ ns. declared_type.Rwlock (nth_map 0 ns) (nth_map 1 ns)) ns
 type_seen kind.Unknown H own ns = type-seen.BadForm
 
 unfoldable pub type_decoded : TypeSeen → LineResult TypeLine

@@ -10,7 +10,7 @@ use Rattle.spec.specs.Accepted.{AtMost}
 use Rattle.spec.specs.declared.Heading.{Heading}
 use Rattle.spec.specs.declared.Heading.TheVariants.{C, C2, C3}
 use Rattle.spec.specs.declared.MapNumber.{MapNumber}
-use Rattle.spec.specs.declared.TypeLine.TheVariants as type_line_lem
+use Rattle.spec.specs.declared.TypeLine.TheVariants as declared_type
 use Rattle.spec.specs.declared.Word.{Word}
 
 -- the start of the root that a heading can show: map 0 where the header does not name it
@@ -34,7 +34,7 @@ RowStarts h w (some m) = takes_start w ≡ true
 pub record Writable (P : Program) (S : Split) : Type 0 where
   pub in_range : InRange P S
   pub start : RootStarts S.header.heading S.header.start
-  pub lock_shows : (t : ℕ) (i o : MapNumber) → t < length S.types → get_or S.types t type_line_lem.Int ≡ type_line_lem.Lock i o
+  pub lock_shows : (t : ℕ) (i o : MapNumber) → t < length S.types → get_or S.types t declared_type.Int ≡ declared_type.Lock i o
       → LockShows S.header.heading i o
   pub numbers_small : (m : ℕ) → AtMost 1000000000 (get_or S.maps m [])
   pub row_starts : (i : ℕ) (s : Step) (r : Row) → i < length P.steps

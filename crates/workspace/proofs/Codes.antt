@@ -3,7 +3,7 @@ use mathlib.Core.Path.{◌≡◌, refl}
 use Prim.Native.Nat.{ℕ, zero, suc, ◌≤◌}
 use native.Mathlib.Omega.{arith}
 use Rattle.spec.specs.declared.TypeLine.{TypeLine}
-use Rattle.spec.specs.declared.TypeLine.TheVariants as type_line_lem
+use Rattle.spec.specs.declared.TypeLine.TheVariants as declared_type
 use Rattle.spec.specs.declared.Word.{Word}
 use Rattle.spec.specs.declared.Word.TheVariants.{Leaf, Unary, Binary}
 use Rattle.spec.specs.declared.LeafWord.TheVariants.{Var, Int, Newtid, Newlock, Newsem, Newrwlock}
@@ -48,9 +48,9 @@ word_of_code (Binary Write) = refl
 
 pub type_of_numbers : (t : TypeLine) → type_of (kind_code t) (first_of t) (second_of t) ≡ t
 unfolding type_of
-type_of_numbers type_line_lem.Int = refl
-type_of_numbers (type_line_lem.Ref p c) = refl
-type_of_numbers (type_line_lem.Lock i o) = refl
-type_of_numbers (type_line_lem.Tid k) = refl
-type_of_numbers (type_line_lem.Sem k) = refl
-type_of_numbers (type_line_lem.Rwlock r w) = refl
+type_of_numbers declared_type.Int = refl
+type_of_numbers (declared_type.Ref p c) = refl
+type_of_numbers (declared_type.Lock i o) = refl
+type_of_numbers (declared_type.Tid k) = refl
+type_of_numbers (declared_type.Sem k) = refl
+type_of_numbers (declared_type.Rwlock r w) = refl

@@ -6,7 +6,7 @@ use Rattle.spec.specs.Kinds.{ref, lock, tid, sem, rwlock, code, kind_of}
 use Rattle.spec.specs.declared.TypeNumber.{TypeNumber}
 use Rattle.spec.specs.declared.MapNumber.{MapNumber}
 use Rattle.spec.specs.declared.TypeLine.{TypeLine}
-use Rattle.spec.specs.declared.TypeLine.TheVariants as type_line_lem
+use Rattle.spec.specs.declared.TypeLine.TheVariants as declared_type
 use Rattle.spec.specs.declared.Word.{Word}
 use Rattle.spec.specs.declared.Word.TheVariants.{Leaf, Unary, Binary}
 use Rattle.spec.specs.declared.LeafWord.{LeafWord}
@@ -210,29 +210,29 @@ abbrev pub kind_code : TypeLine → ℕ
 kind_code t = code (kind_of t)
 
 abbrev pub first_of : TypeLine → ℕ
-first_of type_line_lem.Int = 0
-first_of (type_line_lem.Ref p c) = p.0
-first_of (type_line_lem.Lock i o) = i.0
-first_of (type_line_lem.Tid k) = k.0
-first_of (type_line_lem.Sem k) = k.0
-first_of (type_line_lem.Rwlock r w) = r.0
+first_of declared_type.Int = 0
+first_of (declared_type.Ref p c) = p.0
+first_of (declared_type.Lock i o) = i.0
+first_of (declared_type.Tid k) = k.0
+first_of (declared_type.Sem k) = k.0
+first_of (declared_type.Rwlock r w) = r.0
 
 abbrev pub second_of : TypeLine → ℕ
-second_of type_line_lem.Int = 0
-second_of (type_line_lem.Ref p c) = c.0
-second_of (type_line_lem.Lock i o) = o.0
-second_of (type_line_lem.Tid k) = 0
-second_of (type_line_lem.Sem k) = 0
-second_of (type_line_lem.Rwlock r w) = w.0
+second_of declared_type.Int = 0
+second_of (declared_type.Ref p c) = c.0
+second_of (declared_type.Lock i o) = o.0
+second_of (declared_type.Tid k) = 0
+second_of (declared_type.Sem k) = 0
+second_of (declared_type.Rwlock r w) = w.0
 
 unfoldable pub type_of : (kind first second : ℕ) → TypeLine
 type_of kind first second =
-    if eqb kind (code ref) then type_line_lem.Ref (record { 0 = first }) (record { 0 = second })
-    else if eqb kind (code lock) then type_line_lem.Lock (record { 0 = first }) (record { 0 = second })
-    else if eqb kind (code tid) then type_line_lem.Tid (record { 0 = first })
-    else if eqb kind (code sem) then type_line_lem.Sem (record { 0 = first })
-    else if eqb kind (code rwlock) then type_line_lem.Rwlock (record { 0 = first }) (record { 0 = second })
-    else type_line_lem.Int
+    if eqb kind (code ref) then declared_type.Ref (record { 0 = first }) (record { 0 = second })
+    else if eqb kind (code lock) then declared_type.Lock (record { 0 = first }) (record { 0 = second })
+    else if eqb kind (code tid) then declared_type.Tid (record { 0 = first })
+    else if eqb kind (code sem) then declared_type.Sem (record { 0 = first })
+    else if eqb kind (code rwlock) then declared_type.Rwlock (record { 0 = first }) (record { 0 = second })
+    else declared_type.Int
 
 unfoldable pub type_at : List ℕ → TypeNumber → TypeLine
 type_at w t = type_of (get_or w (kinds_at + t.0) 0) (get_or w (firsts_at + t.0) 0) (get_or w (seconds_at + t.0) 0)
