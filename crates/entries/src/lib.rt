@@ -42,7 +42,7 @@ pub extern "C" fn racecheck_check(
 ) -> u32
     ensures answer { numbers4 result line.new condition.new location.new ≡ returned (verdict (length work.old) program.now split.now) }
     ensures cleared { work.new ≡ workspace_after work.old }
-    ensures unchanged { (program.now ≡ program.now) × (split.now ≡ split.now) }
+    ensures unchanged { (program.exit.now ≡ program.entry.now) × (split.exit.now ≡ split.entry.now) }
     ensures derivation { workspace_size ≤ length work.old → (numbers4 result line.new condition.new location.new ≡ numbers4 0 0 0 0) ↔ Right program.now split.now }
     ensures first_false { on_conditions result ≡ true → RefutedAs program.now split.now (numbers4 result line.new condition.new location.new) }
     ensures safe { numbers4 result line.new condition.new location.new ≡ numbers4 0 0 0 0 → SafeText program.now }
@@ -104,7 +104,7 @@ pub extern "C" fn racecheck_fill(
     ensures answer { numbers4 result length_or_line.new condition.new location.new ≡ returned_for (filling (length work.old) (length out.old) program.now split.now) }
     ensures written { out.new ≡ buffer_after (filling (length work.old) (length out.old) program.now split.now) out.old }
     ensures cleared { work.new ≡ workspace_after work.old }
-    ensures unchanged { (program.now ≡ program.now) × (split.now ≡ split.now) }
+    ensures unchanged { (program.exit.now ≡ program.entry.now) × (split.exit.now ≡ split.entry.now) }
     ensures solvable { (P : Program) (S : Split) → Fillable (length work.old) program.now split.now P S → (numbers4 result length_or_line.new condition.new location.new ≡ numbers4 41 0 0 0) ↔ ((σ : List Map) → AfterMaps P S σ → ⊥) }
     ensures too_large { (P : Program) (S : Split) → Fillable (length work.old) program.now split.now P S → (numbers4 result length_or_line.new condition.new location.new ≡ numbers4 42 0 0 0) ↔ GreatestOverLimits (length out.old) P S }
     ensures greatest { result ≡ 0 → FilledSheet (length work.old) (length out.old) program.now split.now (take length_or_line.new out.new) }
@@ -144,7 +144,7 @@ pub extern "C" fn racecheck_replay(
 ) -> u32
     ensures answer { answer_told result line.new condition.new location.new ≡ ending_numbers (replayed (length space.old) program.now trace.now).ending }
     ensures report { (steps.new ≡ (replayed (length space.old) program.now trace.now).report.steps) × (race_told state.new first.new second.new ≡ race_numbers (replayed (length space.old) program.now trace.now).report.race) }
-    ensures unchanged { (program.now ≡ program.now) × (trace.now ≡ trace.now) }
+    ensures unchanged { (program.exit.now ≡ program.entry.now) × (trace.exit.now ≡ trace.entry.now) }
     ensures kept { length space.old < replay_space → space.new ≡ space.old }
     ensures free { (length space.new ≡ length space.old) × (drop replay_space space.new ≡ drop replay_space space.old) }
     ensures stops { TraceFollowed (length space.old) program.now trace.now steps.new (answer_told result line.new condition.new location.new) }
@@ -178,7 +178,7 @@ pub extern "C" fn racecheck_replay_begin(
     ensures begun { roomy job.old run.old ≡ true → KeptRun program.now [] job.new space.new run.new }
     ensures answer { roomy job.old run.old ≡ true → result ≡ answer_number (length space.old) program.now [] }
     ensures short { roomy job.old run.old ≡ false → (result ≡ 1) × (job.new ≡ job.old) × (space.new ≡ space.old) × (run.new ≡ run.old) }
-    ensures unchanged { program.now ≡ program.now }
+    ensures unchanged { program.exit.now ≡ program.entry.now }
     ensures kept { length space.old < replay_space → space.new ≡ space.old }
     ensures free { FrontUsed job_size job.old job.new × FrontUsed replay_space space.old space.new × FrontUsed kept_size run.old run.new }
 {
@@ -196,7 +196,7 @@ pub extern "C" fn racecheck_replay_more(
     ensures goes_on { (program trace : List ℕ) → KeptRun program trace job.now space.old run.old → ends_line trace ≡ true → (replayed (length space.old) program trace).report.steps + length piece.now < 18446744073709551616 → KeptRun program (trace ++ piece.now) job.now space.new run.new }
     ensures answer { (program trace : List ℕ) → KeptRun program trace job.now space.old run.old → ends_line trace ≡ true → (replayed (length space.old) program trace).report.steps + length piece.now < 18446744073709551616 → result ≡ answer_number (length space.old) program (trace ++ piece.now) }
     ensures short { roomy job.now run.old ≡ false → (result ≡ 1) × (space.new ≡ space.old) × (run.new ≡ run.old) }
-    ensures unchanged { (job.now ≡ job.now) × (piece.now ≡ piece.now) }
+    ensures unchanged { (job.exit.now ≡ job.entry.now) × (piece.exit.now ≡ piece.entry.now) }
     ensures kept { length space.old < replay_space → space.new ≡ space.old }
     ensures free { FrontUsed replay_space space.old space.new × FrontUsed kept_size run.old run.new }
 {
@@ -219,7 +219,7 @@ pub extern "C" fn racecheck_replay_told(
     ensures answer { (program trace job space : List ℕ) → KeptRun program trace job space run.now → answer_told result line.new condition.new location.new ≡ ending_numbers (replayed (length space) program trace).ending }
     ensures report { (program trace job space : List ℕ) → KeptRun program trace job space run.now → (steps.new ≡ (replayed (length space) program trace).report.steps) × (race_told state.new first.new second.new ≡ race_numbers (replayed (length space) program trace).report.race) }
     ensures short { length run.now < kept_size → (answer_told result line.new condition.new location.new ≡ ending_numbers (refused_by ShortWorkspace).ending) × (steps.new ≡ 0) × (race_told state.new first.new second.new ≡ race_numbers None) }
-    ensures unchanged { run.now ≡ run.now }
+    ensures unchanged { run.exit.now ≡ run.entry.now }
     ensures stops { (program trace job space : List ℕ) → KeptRun program trace job space run.now → TraceFollowed (length space) program trace steps.new (answer_told result line.new condition.new location.new) }
     ensures first_race { (program trace job space : List ℕ) → KeptRun program trace job space run.now → Stored (RaceFound (length space) program trace) state.new first.new second.new }
     ensures safe { (program trace job space : List ℕ) → KeptRun program trace job space run.now → (room : ℕ) (split : List ℕ) → verdict room program split ≡ Accept → race_told state.new first.new second.new ≡ race_numbers None }
