@@ -1,5 +1,4 @@
 use Rattle.trace.specs.Lines.{choice_by}
-use borrow.Author.Rules.{rules}
 use Rattle.trace.proofs.choice_at.Goals as goal
 
 pub returns-in-Number : goal.returns-in-Number

@@ -1,9 +1,6 @@
-use mathlib.Core.Path.{◌≡◌, refl}
-use Prim.Native.Nat.{◌≤◌, ◌+◌, ◌-◌}
+use mathlib.Core.Path.{refl}
 use native.Mathlib.Omega.{arith}
-use lib.ListN.{length, drop}
 use borrow.Author.Rules.{rules}
-use Rattle.lexer.specs.Views.{width}
 use Rattle.lexer.proofs.Fields.{comma_width, newline_width, byte_width, text_width}
 use Rattle.trace.proofs.field_end.Goals as goal
 

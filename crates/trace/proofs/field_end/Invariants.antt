@@ -1,11 +1,8 @@
 -- The loop's invariant: from the first byte and from the byte reached, the field ends at the same byte.
-use mathlib.Core.Path.{◌≡◌, refl}
+use mathlib.Core.Path.{◌≡◌}
 use Prim.Native.Nat.{◌≤◌, ◌+◌, ◌-◌}
-use native.Mathlib.Omega.{arith}
 use lib.ListN.{length, drop}
-use borrow.Author.Rules.{rules}
 use Rattle.lexer.specs.Views.{width}
-use Rattle.lexer.proofs.Fields.{comma_width, newline_width, byte_width, text_width}
 use Rattle.trace.proofs.field_end.Given as goal
 
 abbrev pub invariant-loop-to : goal.invariant-loop-to

@@ -1,6 +1,5 @@
 use mathlib.Core.Path.{sym, ◌∙◌}
 use Rattle.trace.proofs.Lines.{first_field_lem, line_found, line_malformed}
-use borrow.Author.Rules.{rules}
 use Rattle.trace.proofs.line_at.Goals as goal
 
 pub choice_at-requires : goal.choice_at-requires

@@ -1,6 +1,5 @@
 use mathlib.Core.Path.{sym, ◌∙◌}
 use Rattle.trace.proofs.Lines.{not_closed, other_byte, closed_field, number_decodes, malformed_decodes}
-use borrow.Author.Rules.{rules}
 use Rattle.trace.proofs.number_before.Goals as goal
 
 pub returns-then-text-to : goal.returns-then-text-to
