@@ -39,13 +39,7 @@ fn write_drill<W: Write>(out: &mut W, word: &[u8], next: u32, program: u32, spli
 }
 
 // Makes a file of the pair that a word asks for, with its own text, or says why there is none.
-fn make<R: Files + Env, E: Write>(
-    rt: &R,
-    err: &mut E,
-    word: &[u8],
-    name: &str,
-    text: &[u8],
-) -> bool
+fn make<R: Files + Env, E: Write>(rt: &R, err: &mut E, word: &[u8], name: &str, text: &[u8]) -> bool
     requires { FileOf word.now name.now text.now }
 {
     match make_file(rt, name, text) {
