@@ -8,7 +8,7 @@ use native.Mathlib.Omega.{arith}
 use lib.ListN.{length, get_or}
 use Rattle.spec.specs.Choice.{when◌then◌else◌}
 use Rattle.spec.specs.Text.{Field, lines}
-use Rattle.spec.specs.Reading.{split_sheet, refuse, good, bad, bad_form, bad_range, seen, Range, ◌to◌, all_in_range, numerals, numbers, form, faulty, passed, next_line, read_line, or_bad_form}
+use Rattle.spec.specs.Reading.{split_sheet, refuse, good, bad, bad_form, bad_range, seen, Range, all_in_range, numerals, numbers, form, faulty, passed, next_line, read_line, or_bad_form}
 use Rattle.spec.specs.Split.{out_range, type_line}
 use Rattle.spec.specs.declared.Header.{Header}
 use Rattle.spec.specs.declared.Heading.{Heading}
