@@ -1,5 +1,5 @@
-// The offered calls for callers in Rust and C, one entry each: the number is returned, and the other three numbers of an answer
-// are stored.
+// The offered calls with an entry each for callers in Rust and C: the number is returned, and the other three numbers of an answer
+// are stored. The crate `entries_c` exports them to C.
 #![tactic(auto)]
 
 ghost use Rattle.std.specs.Prelude.{◌≡◌, List, [], ◌++◌, true, false, ◌↔◌, ℕ, ◌+◌, ◌≤◌, ◌<◌, length, take, drop};
@@ -31,8 +31,7 @@ use fill::Filled;
 use spec::Answer;
 
 // The answer to a pair of texts: `check` of the crate `checker`, clause by clause.
-#[unsafe(no_mangle)]
-pub extern "C" fn racecheck_check(
+pub fn racecheck_check(
     program: &[u8],
     split: &[u8],
     work: &mut [u32],
@@ -56,8 +55,7 @@ pub extern "C" fn racecheck_check(
 }
 
 // The practice pair of a seed: `drill` of the crate `drill`, clause by clause. On 38 the three numbers stored are 0.
-#[unsafe(no_mangle)]
-pub extern "C" fn racecheck_drill(
+pub fn racecheck_drill(
     seed: u32,
     program: &mut [u8],
     split: &mut [u8],
@@ -91,8 +89,7 @@ pub extern "C" fn racecheck_drill(
 }
 
 // The whole sheet for a pair of texts whose split leaves its after-maps out: `fill` of the crate `fill`, clause by clause.
-#[unsafe(no_mangle)]
-pub extern "C" fn racecheck_fill(
+pub fn racecheck_fill(
     program: &[u8],
     split: &[u8],
     work: &mut [u32],
@@ -129,8 +126,7 @@ pub extern "C" fn racecheck_fill(
 
 // The replay of a program and a trace: `replay` of the crate `replay`, clause by clause. Without a race, the state and the two threads are the largest numbers
 // of their kinds.
-#[unsafe(no_mangle)]
-pub extern "C" fn racecheck_replay(
+pub fn racecheck_replay(
     program: &[u8],
     trace: &[u8],
     space: &mut [u32],
@@ -168,8 +164,7 @@ pub extern "C" fn racecheck_replay(
 }
 
 // The same of a trace that comes in pieces, all of it kept in three lent buffers: `begin` of the crate `replay_pieces`, clause by clause.
-#[unsafe(no_mangle)]
-pub extern "C" fn racecheck_replay_begin(
+pub fn racecheck_replay_begin(
     program: &[u8],
     job: &mut [u32],
     space: &mut [u32],
@@ -186,13 +181,7 @@ pub extern "C" fn racecheck_replay_begin(
 }
 
 // `more` of the crate `replay_pieces`, clause by clause.
-#[unsafe(no_mangle)]
-pub extern "C" fn racecheck_replay_more(
-    job: &[u32],
-    space: &mut [u32],
-    run: &mut [u64],
-    piece: &[u8],
-) -> u32
+pub fn racecheck_replay_more(job: &[u32], space: &mut [u32], run: &mut [u64], piece: &[u8]) -> u32
     ensures goes_on { (program trace : List ℕ) → KeptRun program trace job.now space.old run.old → ends_line trace ≡ true → (replayed (length space.old) program trace).report.steps + length piece.now < 18446744073709551616 → KeptRun program (trace ++ piece.now) job.now space.new run.new }
     ensures answer { (program trace : List ℕ) → KeptRun program trace job.now space.old run.old → ends_line trace ≡ true → (replayed (length space.old) program trace).report.steps + length piece.now < 18446744073709551616 → result ≡ answer_number (length space.old) program (trace ++ piece.now) }
     ensures short { roomy job.now run.old ≡ false → (result ≡ 1) × (space.new ≡ space.old) × (run.new ≡ run.old) }
@@ -205,8 +194,7 @@ pub extern "C" fn racecheck_replay_more(
 
 // What `racecheck_replay` says of a program and a trace, of the run of both that the buffers hold: `told` of the crate `replay_pieces`. Of a run
 // that has no room it says what a replay says of a short space.
-#[unsafe(no_mangle)]
-pub extern "C" fn racecheck_replay_told(
+pub fn racecheck_replay_told(
     run: &[u64],
     line: &mut u64,
     condition: &mut u32,
