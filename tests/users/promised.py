@@ -71,9 +71,9 @@ def spoilt(page, promised):
             ("a clause by another name", "| `solvable` |", "| `solved` |"),
             ("a clause that is not there", "| `safe` |", "| `safe`, `sound` |"),
             ("a row without a theorem", row, row.rsplit(" | ", 1)[0] + " | |\n"),
-            ("a theorem that is not there", "`accepted-is-safe`", "`accepted-is-sound`"),
-            ("a theorem in another file", "`accepted-is-safe` (crates/soundness/proofs/Safety.antt)",
-             "`accepted-is-safe` (crates/soundness/proofs/EitherOrder.antt)"),
+            ("a theorem that is not there", "`accepted_is_safe`", "`accepted_is_sound`"),
+            ("a theorem in another file", "`accepted_is_safe` (crates/soundness/proofs/Safety.antt)",
+             "`accepted_is_safe` (crates/soundness/proofs/EitherOrder.antt)"),
             ("a call without a table", "`told` in crates/replay/src/pieces.rt:", "told:"),
             ("a table of no call", "`told` in crates/replay/src/pieces.rt:", "`tell` in crates/replay/src/pieces.rt:")]:
         yield what, page.replace(old, new, 1), promised

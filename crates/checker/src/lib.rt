@@ -49,7 +49,7 @@ fn check_texts(program: &[u8], split: &[u8], work: &mut [u32]) -> Answer
 pub fn check(program: &[u8], split: &[u8], work: &mut [u32]) -> Answer
     ensures answer { returned result ≡ returned (verdict (length work.old) program.now split.now) }
     ensures cleared { work.new ≡ workspace_after work.old }
-    ensures unchanged { (program.now ≡ program.now) × (split.now ≡ split.now) }
+    ensures unchanged { (program.exit.now ≡ program.entry.now) × (split.exit.now ≡ split.entry.now) }
     ensures derivation { workspace_size ≤ length work.old → (returned result ≡ numbers4 0 0 0 0) ↔ Right program.now split.now }
     ensures first_false { on_conditions (returned result).number ≡ true → RefutedBy program.now split.now result }
     ensures safe { returned result ≡ numbers4 0 0 0 0 → SafeText program.now }

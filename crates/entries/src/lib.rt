@@ -1,5 +1,5 @@
-// The offered calls for callers in Rust and C, one entry each: the number is returned, and the other three numbers of an answer
-// are stored.
+// The offered calls with an entry each for callers in Rust and C: the number is returned, and the other three numbers of an answer
+// are stored. The crate `entries_c` exports them to C.
 #![tactic(auto)]
 
 ghost use Rattle.std.specs.Prelude.{◌≡◌, List, [], ◌++◌, true, false, ◌↔◌, ℕ, ◌+◌, ◌≤◌, ◌<◌, length, take, drop};
@@ -31,8 +31,7 @@ use fill::Filled;
 use spec::Answer;
 
 // The answer to a pair of texts: `check` of the crate `checker`, clause by clause.
-#[unsafe(no_mangle)]
-pub extern "C" fn racecheck_check(
+pub fn racecheck_check(
     program: &[u8],
     split: &[u8],
     work: &mut [u32],
@@ -42,7 +41,7 @@ pub extern "C" fn racecheck_check(
 ) -> u32
     ensures answer { numbers4 result line.new condition.new location.new ≡ returned (verdict (length work.old) program.now split.now) }
     ensures cleared { work.new ≡ workspace_after work.old }
-    ensures unchanged { (program.now ≡ program.now) × (split.now ≡ split.now) }
+    ensures unchanged { (program.exit.now ≡ program.entry.now) × (split.exit.now ≡ split.entry.now) }
     ensures derivation { workspace_size ≤ length work.old → (numbers4 result line.new condition.new location.new ≡ numbers4 0 0 0 0) ↔ Right program.now split.now }
     ensures first_false { on_conditions result ≡ true → RefutedAs program.now split.now (numbers4 result line.new condition.new location.new) }
     ensures safe { numbers4 result line.new condition.new location.new ≡ numbers4 0 0 0 0 → SafeText program.now }
@@ -56,8 +55,7 @@ pub extern "C" fn racecheck_check(
 }
 
 // The practice pair of a seed: `drill` of the crate `drill`, clause by clause. On 38 the three numbers stored are 0.
-#[unsafe(no_mangle)]
-pub extern "C" fn racecheck_drill(
+pub fn racecheck_drill(
     seed: u32,
     program: &mut [u8],
     split: &mut [u8],
@@ -91,8 +89,7 @@ pub extern "C" fn racecheck_drill(
 }
 
 // The whole sheet for a pair of texts whose split leaves its after-maps out: `fill` of the crate `fill`, clause by clause.
-#[unsafe(no_mangle)]
-pub extern "C" fn racecheck_fill(
+pub fn racecheck_fill(
     program: &[u8],
     split: &[u8],
     work: &mut [u32],
@@ -104,7 +101,7 @@ pub extern "C" fn racecheck_fill(
     ensures answer { numbers4 result length_or_line.new condition.new location.new ≡ returned_for (filling (length work.old) (length out.old) program.now split.now) }
     ensures written { out.new ≡ buffer_after (filling (length work.old) (length out.old) program.now split.now) out.old }
     ensures cleared { work.new ≡ workspace_after work.old }
-    ensures unchanged { (program.now ≡ program.now) × (split.now ≡ split.now) }
+    ensures unchanged { (program.exit.now ≡ program.entry.now) × (split.exit.now ≡ split.entry.now) }
     ensures solvable { (P : Program) (S : Split) → Fillable (length work.old) program.now split.now P S → (numbers4 result length_or_line.new condition.new location.new ≡ numbers4 41 0 0 0) ↔ ((σ : List Map) → AfterMaps P S σ → ⊥) }
     ensures too_large { (P : Program) (S : Split) → Fillable (length work.old) program.now split.now P S → (numbers4 result length_or_line.new condition.new location.new ≡ numbers4 42 0 0 0) ↔ GreatestOverLimits (length out.old) P S }
     ensures greatest { result ≡ 0 → FilledSheet (length work.old) (length out.old) program.now split.now (take length_or_line.new out.new) }
@@ -129,8 +126,7 @@ pub extern "C" fn racecheck_fill(
 
 // The replay of a program and a trace: `replay` of the crate `replay`, clause by clause. Without a race, the state and the two threads are the largest numbers
 // of their kinds.
-#[unsafe(no_mangle)]
-pub extern "C" fn racecheck_replay(
+pub fn racecheck_replay(
     program: &[u8],
     trace: &[u8],
     space: &mut [u32],
@@ -144,7 +140,7 @@ pub extern "C" fn racecheck_replay(
 ) -> u32
     ensures answer { answer_told result line.new condition.new location.new ≡ ending_numbers (replayed (length space.old) program.now trace.now).ending }
     ensures report { (steps.new ≡ (replayed (length space.old) program.now trace.now).report.steps) × (race_told state.new first.new second.new ≡ race_numbers (replayed (length space.old) program.now trace.now).report.race) }
-    ensures unchanged { (program.now ≡ program.now) × (trace.now ≡ trace.now) }
+    ensures unchanged { (program.exit.now ≡ program.entry.now) × (trace.exit.now ≡ trace.entry.now) }
     ensures kept { length space.old < replay_space → space.new ≡ space.old }
     ensures free { (length space.new ≡ length space.old) × (drop replay_space space.new ≡ drop replay_space space.old) }
     ensures stops { TraceFollowed (length space.old) program.now trace.now steps.new (answer_told result line.new condition.new location.new) }
@@ -168,8 +164,7 @@ pub extern "C" fn racecheck_replay(
 }
 
 // The same of a trace that comes in pieces, all of it kept in three lent buffers: `begin` of the crate `replay_pieces`, clause by clause.
-#[unsafe(no_mangle)]
-pub extern "C" fn racecheck_replay_begin(
+pub fn racecheck_replay_begin(
     program: &[u8],
     job: &mut [u32],
     space: &mut [u32],
@@ -178,7 +173,7 @@ pub extern "C" fn racecheck_replay_begin(
     ensures begun { roomy job.old run.old ≡ true → KeptRun program.now [] job.new space.new run.new }
     ensures answer { roomy job.old run.old ≡ true → result ≡ answer_number (length space.old) program.now [] }
     ensures short { roomy job.old run.old ≡ false → (result ≡ 1) × (job.new ≡ job.old) × (space.new ≡ space.old) × (run.new ≡ run.old) }
-    ensures unchanged { program.now ≡ program.now }
+    ensures unchanged { program.exit.now ≡ program.entry.now }
     ensures kept { length space.old < replay_space → space.new ≡ space.old }
     ensures free { FrontUsed job_size job.old job.new × FrontUsed replay_space space.old space.new × FrontUsed kept_size run.old run.new }
 {
@@ -186,17 +181,11 @@ pub extern "C" fn racecheck_replay_begin(
 }
 
 // `more` of the crate `replay_pieces`, clause by clause.
-#[unsafe(no_mangle)]
-pub extern "C" fn racecheck_replay_more(
-    job: &[u32],
-    space: &mut [u32],
-    run: &mut [u64],
-    piece: &[u8],
-) -> u32
+pub fn racecheck_replay_more(job: &[u32], space: &mut [u32], run: &mut [u64], piece: &[u8]) -> u32
     ensures goes_on { (program trace : List ℕ) → KeptRun program trace job.now space.old run.old → ends_line trace ≡ true → (replayed (length space.old) program trace).report.steps + length piece.now < 18446744073709551616 → KeptRun program (trace ++ piece.now) job.now space.new run.new }
     ensures answer { (program trace : List ℕ) → KeptRun program trace job.now space.old run.old → ends_line trace ≡ true → (replayed (length space.old) program trace).report.steps + length piece.now < 18446744073709551616 → result ≡ answer_number (length space.old) program (trace ++ piece.now) }
     ensures short { roomy job.now run.old ≡ false → (result ≡ 1) × (space.new ≡ space.old) × (run.new ≡ run.old) }
-    ensures unchanged { (job.now ≡ job.now) × (piece.now ≡ piece.now) }
+    ensures unchanged { (job.exit.now ≡ job.entry.now) × (piece.exit.now ≡ piece.entry.now) }
     ensures kept { length space.old < replay_space → space.new ≡ space.old }
     ensures free { FrontUsed replay_space space.old space.new × FrontUsed kept_size run.old run.new }
 {
@@ -205,8 +194,7 @@ pub extern "C" fn racecheck_replay_more(
 
 // What `racecheck_replay` says of a program and a trace, of the run of both that the buffers hold: `told` of the crate `replay_pieces`. Of a run
 // that has no room it says what a replay says of a short space.
-#[unsafe(no_mangle)]
-pub extern "C" fn racecheck_replay_told(
+pub fn racecheck_replay_told(
     run: &[u64],
     line: &mut u64,
     condition: &mut u32,
@@ -219,7 +207,7 @@ pub extern "C" fn racecheck_replay_told(
     ensures answer { (program trace job space : List ℕ) → KeptRun program trace job space run.now → answer_told result line.new condition.new location.new ≡ ending_numbers (replayed (length space) program trace).ending }
     ensures report { (program trace job space : List ℕ) → KeptRun program trace job space run.now → (steps.new ≡ (replayed (length space) program trace).report.steps) × (race_told state.new first.new second.new ≡ race_numbers (replayed (length space) program trace).report.race) }
     ensures short { length run.now < kept_size → (answer_told result line.new condition.new location.new ≡ ending_numbers (refused_by ShortWorkspace).ending) × (steps.new ≡ 0) × (race_told state.new first.new second.new ≡ race_numbers None) }
-    ensures unchanged { run.now ≡ run.now }
+    ensures unchanged { run.exit.now ≡ run.entry.now }
     ensures stops { (program trace job space : List ℕ) → KeptRun program trace job space run.now → TraceFollowed (length space) program trace steps.new (answer_told result line.new condition.new location.new) }
     ensures first_race { (program trace job space : List ℕ) → KeptRun program trace job space run.now → Stored (RaceFound (length space) program trace) state.new first.new second.new }
     ensures safe { (program trace job space : List ℕ) → KeptRun program trace job space run.now → (room : ℕ) (split : List ℕ) → verdict room program split ≡ Accept → race_told state.new first.new second.new ≡ race_numbers None }

@@ -1,5 +1,5 @@
 -- What goes between the programs and their files.
-use Rattle.std.specs.Prelude.{ℕ, ◌+◌, ◌≤◌, ◌≡◌, List, ℤ, pos, negsuc, length, take}
+use Rattle.std.specs.Prelude.{ℕ, ◌+◌, ◌≤◌, ◌≡◌, List, length, take}
 use Rattle.std.proofs.Math.Option.{Option, none, some}
 use Rattle.spec.specs.Text.{bytes}
 use Rattle.spec.specs.Program.{program_limit}
@@ -13,11 +13,6 @@ use Rattle.file_io.specs.declared.making.Making.TheVariants.{Made, Taken, Unwrit
 pub data ReadInto (name : List ℕ) (room : ℕ) : Type 0 where
   program : name ≡ bytes "program.txt" → room ≡ program_limit + 1 → ReadInto name room
   split : name ≡ bytes "split.txt" → room ≡ split_limit + 1 → ReadInto name room
-
--- what opening a file hands back: a descriptor, or -1
-abbrev pub Descriptor : ℤ → Type 0
-Descriptor (pos fd) = Unit {0}
-Descriptor (negsuc k) = k ≡ 0
 
 -- what reading a file leaves: no more bytes than the buffer has
 abbrev pub Within : Contents → ℕ → Type 0

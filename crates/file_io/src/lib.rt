@@ -1,43 +1,45 @@
 // What the programs share of the outside: reading a sheet into a lent buffer, making a file, telling an outcome in one
-// line, writing bytes to a descriptor. No contract of the kit says what a file holds. So what is to go in and out stands in the
+// line, writing bytes to where they are to go. No contract of the kit says what a file holds. So what is to go in and out stands in the
 // `requires` of the functions that meet the outside: which file is read into how much room, which bytes are a line.
 #![tactic(auto)]
 
+mod arguments;
 mod making;
 mod retry;
 
 ghost use Rattle.std.specs.Prelude.{◌≡◌, ◌≤◌, length, take};
 ghost use Rattle.spec.specs.Text.{bytes};
 ghost use Rattle.answers.specs.Line.{output_line};
-ghost use Rattle.file_io.specs.Files.{Descriptor, Within, NoFewer, ReadInto};
+ghost use Rattle.file_io.specs.Files.{Within, NoFewer, ReadInto};
 
 use answers::{Outcome, write_line};
-use libc::STDOUT_FILENO;
+pub use arguments::is_given;
 pub use making::{Making, make_file, remove_file};
 pub use retry::write_all;
+use std::fs::Files;
+use std::io::{Read, Write};
 
 // What reading a file comes to: how many bytes of it stand in the buffer, or that it can't be read.
-#[derive(Drop)]
+#[derive(Clone, Copy)]
 pub enum Contents {
     Bytes(usize),
     Unread,
 }
 
-// Reads from a descriptor behind the bytes that the buffer holds, until the file ends, the buffer is full or a read fails:
+// Reads from a file behind the bytes that the buffer holds, until the file ends, the buffer is full or a read fails:
 // counted: what is handed back is how many bytes it holds now, and no fewer than it held;
 // kept: those that it held stand where they stood.
-pub fn fill(fd: i32, buffer: &mut [u8], held: usize) -> Contents
+pub fn fill<R: Read>(file: &mut R, buffer: &mut [u8], held: usize) -> Contents
     requires { held ≤ length buffer.old }
     ensures counted { Within result (length buffer.new) × NoFewer held result }
     ensures kept { take held buffer.new ≡ take held buffer.old }
 {
     let mut n = held;
     while n < buffer.len() {
-        let got = retry::read(fd, &mut buffer[n..]);
-        if got < 0 {
+        let got = retry::read(file, &mut buffer[n..]);
+        let Some(more) = got else {
             return Contents::Unread;
-        }
-        let more = io::count(got, &buffer[n..]);
+        };
         if more == 0 {
             return Contents::Bytes(n);
         }
@@ -47,61 +49,55 @@ pub fn fill(fd: i32, buffer: &mut [u8], held: usize) -> Contents
 }
 
 // Reads one of the files by its name, into as much room as its text asks for.
-fn read_file(name: &[u8], buffer: &mut [u8]) -> Contents
+fn read_file<R: Files>(rt: &R, name: &str, buffer: &mut [u8]) -> Contents
     requires { ReadInto name.now (length buffer.old) }
     ensures { Within result (length buffer.new) }
 {
-    let fd = retry::open(name);
-    if fd < 0 {
+    let Ok(mut file) = retry::open(rt, name) else {
         return Contents::Unread;
-    }
-    let contents = fill(fd, buffer, 0);
-    libc::close(fd);
-    contents
+    };
+    fill(&mut file, buffer, 0)
 }
 
 // Reads the program sheet. The buffer has room for one byte more than a sheet may have, so that a longer file is seen to be longer,
 // and no more of it is read.
-pub fn read_program(buffer: &mut [u8; 16385]) -> Contents
+pub fn read_program<R: Files>(rt: &R, buffer: &mut [u8; 16385]) -> Contents
     ensures within { Within result (length buffer.new) }
     ensures value { 16385 ≡ length buffer.new }
 {
-    read_file(b"program.txt", buffer)
+    read_file(rt, "program.txt", buffer)
 }
 
 // Reads the split sheet, with the same one byte more.
-pub fn read_split(buffer: &mut [u8; 65537]) -> Contents
+pub fn read_split<R: Files>(rt: &R, buffer: &mut [u8; 65537]) -> Contents
     ensures within { Within result (length buffer.new) }
     ensures value { 65537 ≡ length buffer.new }
 {
-    read_file(b"split.txt", buffer)
+    read_file(rt, "split.txt", buffer)
 }
 
-// Opens a file that is read as it goes, and hands back a descriptor, or -1.
-fn open_file(name: &[u8]) -> i32
+// Opens a file that is read as it goes, and hands it back, or none.
+fn open_file<R: Files>(rt: &R, name: &str) -> Option<R::File>
     requires { name.now ≡ bytes "trace.txt" }
-    ensures { Descriptor result }
 {
-    retry::open(name)
+    retry::open(rt, name).ok()
 }
 
-// Opens the trace, and hands back a descriptor, or -1. A trace has no limit, and `fill` reads it part by part.
-pub fn open_trace() -> i32
-    ensures { Descriptor result }
-{
-    open_file(b"trace.txt")
+// Opens the trace, and hands it back, or none. A trace has no limit, and `fill` reads it part by part.
+pub fn open_trace<R: Files>(rt: &R) -> Option<R::File> {
+    open_file(rt, "trace.txt")
 }
 
 // Writes the line of an outcome to standard output by one call, so that no other program's line comes between its parts.
-fn put_line(line: &[u8], outcome: Outcome)
+fn put_line<W: Write>(out: &mut W, line: &[u8], outcome: Outcome)
     requires { line.now ≡ output_line outcome }
 {
-    write_all(STDOUT_FILENO, line);
+    write_all(out, line);
 }
 
 // Tells an outcome in its line, which is made first.
-pub fn tell(outcome: Outcome) {
+pub fn tell<W: Write>(out: &mut W, outcome: Outcome) {
     let mut line = [0u8; 64];
     let n = write_line(&mut line, outcome);
-    put_line(&line[..n], outcome);
+    put_line(out, &line[..n], outcome);
 }

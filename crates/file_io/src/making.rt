@@ -1,9 +1,12 @@
 // Making a file that is not there yet.
 ghost use Rattle.std.specs.Prelude.{length};
-ghost use Rattle.libc.specs.Io.{Status};
 ghost use Rattle.file_io.specs.Files.{Whole};
 
 use crate::retry;
+use std::env::Env;
+use std::fs::Files;
+use std::io::ErrorKind;
+use std_io::io::last_error;
 
 // What making a file comes to: it is made, and took so many bytes; its name is taken; or it can't be written to its end.
 #[derive(Drop)]
@@ -13,32 +16,38 @@ pub enum Making {
     Unwritten,
 }
 
-// Removes a file, and hands back 0 if it is gone, or -1.
-pub fn remove_file(name: &[u8]) -> i32
-    ensures { Status result }
-{
-    retry::unlink(name)
+// Removes a file, and hands back whether it is gone.
+pub fn remove_file<R: Files>(rt: &R, name: &str) -> bool {
+    retry::unlink(rt, name)
+}
+
+// Closes a file, and hands back whether that went well. The library closes a file where it is dropped, and tells no error of that; the
+// system's number of the last call that failed does. It is set before by a look at the program's own name, to one that no close has.
+fn close<R: Env, F: Drop>(rt: &R, file: F) -> bool {
+    let mut name = [0u8; 1];
+    let _ = rt.arg(0, &mut name);
+    let before = last_error().raw_os_error();
+    drop(file);
+    last_error().raw_os_error() == before
 }
 
 // Makes a new file of a text. One that can't be written to its end is removed again. A file is closed once, whatever comes of it: after
 // a signal it is closed all the same.
-pub fn make_file(name: &[u8], text: &[u8]) -> Making
+pub fn make_file<R: Files + Env>(rt: &R, name: &str, text: &[u8]) -> Making
     ensures { Whole result (length text.now) }
 {
-    let fd = retry::create(name);
-    if fd < 0 {
-        if os::errno() == libc::EEXIST {
-            return Making::Taken;
-        }
-        return Making::Unwritten;
-    }
-    let taken = retry::write_all(fd, text);
-    let closed = libc::close(fd);
+    let mut file = match retry::create(rt, name) {
+        Ok(file) => file,
+        Err(ErrorKind::AlreadyExists) => return Making::Taken,
+        Err(_) => return Making::Unwritten,
+    };
+    let taken = retry::write_all(&mut file, text);
+    let closed = close(rt, file);
     if taken == text.len() {
-        if closed == 0 {
+        if closed {
             return Making::Made(taken);
         }
     }
-    remove_file(name);
+    remove_file(rt, name);
     Making::Unwritten
 }

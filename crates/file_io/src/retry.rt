@@ -1,114 +1,115 @@
 // Calls of the system that are made again when they failed for a reason that passes. Every loop has to end, so a call is made at
 // most a million times; then it counts as one that failed.
-ghost use Rattle.std.specs.Prelude.{◌≤◌, length};
-ghost use Rattle.libc.specs.Io.{Status};
-ghost use Rattle.file_io.specs.Files.{Descriptor};
+ghost use Rattle.std.specs.Prelude.{◌≤◌, IfNone, IfSome, length, take};
+ghost use Rattle.std.specs.Io.KnownBytes.{Appends, Keeps};
+
+use std::fs::{Files, OpenOptions, remove_file};
+use std::io::{Error, ErrorKind, Read, Write};
 
 const TRIES: u32 = 1_000_000;
 
-// Whether a call is not to be made again: it succeeded, or it failed for good. A signal that interrupted it passes, and so
-// does a full pipe that is set not to wait.
-fn is_over(succeeded: bool) -> bool {
-    if succeeded {
-        return true;
+// Whether a call that failed is not to be made again: it failed for good. A signal that interrupted it passes, and so does a full pipe
+// that is set not to wait.
+fn is_over(error: &Error) -> bool {
+    match error.kind() {
+        ErrorKind::Interrupted => false,
+        ErrorKind::WouldBlock => false,
+        _ => true,
     }
-    let error = os::errno();
-    if error == libc::EINTR {
-        return false;
-    }
-    error != libc::EAGAIN
 }
 
-// A descriptor, or -1: no contract of the kit says that a call which fails answers no other number below 0.
-fn descriptor(fd: i32) -> i32
-    ensures { Descriptor result }
+// Opens a file as it is asked, and hands it back, or why it can't be opened.
+fn open_as<R: Files>(rt: &R, how: &OpenOptions, name: &str) -> Result<R::File, ErrorKind> {
+    for _ in 0..TRIES {
+        match how.open(rt, name) {
+            Ok(file) => return Ok(file),
+            Err(error) => {
+                if is_over(&error) {
+                    return Err(error.kind());
+                }
+            }
+        }
+    }
+    Err(ErrorKind::TimedOut)
+}
+
+// Opens a file for reading.
+pub(crate) fn open<R: Files>(rt: &R, name: &str) -> Result<R::File, ErrorKind> {
+    let mut how = OpenOptions::new();
+    how.read(true);
+    open_as(rt, &how, name)
+}
+
+// Makes a file that is not there, open for writing.
+pub(crate) fn create<R: Files>(rt: &R, name: &str) -> Result<R::File, ErrorKind> {
+    let mut how = OpenOptions::new();
+    how.write(true);
+    how.create_new(true);
+    open_as(rt, &how, name)
+}
+
+// Removes a file, and hands back whether it is gone.
+pub(crate) fn unlink<R: Files>(rt: &R, name: &str) -> bool {
+    for _ in 0..TRIES {
+        match remove_file(rt, name) {
+            Ok(()) => return true,
+            Err(error) => {
+                if is_over(&error) {
+                    return false;
+                }
+            }
+        }
+    }
+    false
+}
+
+// Reads once, and hands back how many bytes came, or none if the read fails.
+pub(crate) fn read<R: Read>(file: &mut R, buffer: &mut [u8]) -> Option<usize>
+    ensures { IfSome result (λ n. n ≤ length buffer.new) }
 {
-    if fd < 0 {
-        return -1;
+    for _ in 0..TRIES {
+        match file.read(buffer) {
+            Ok(n) => return Some(n),
+            Err(error) => {
+                if is_over(&error) {
+                    return None;
+                }
+            }
+        }
     }
-    fd
+    None
 }
 
-// Opens a file for reading, and hands back a descriptor, or -1.
-pub(crate) fn open(name: &[u8]) -> i32
-    ensures { Descriptor result }
+// Writes once, and hands back how many bytes went, or none if the write fails.
+fn write<W: Write>(out: &mut W, bytes: &[u8]) -> Option<usize>
+    ensures within { IfSome result (λ n. n ≤ length bytes.now) }
+    ensures appended { IfSome result (λ n. Appends (W.contents out.old) (W.contents out.new) (take n bytes.now)) }
+    ensures kept { IfNone result (Keeps (W.contents out.old) (W.contents out.new)) }
 {
-    let mut tries = TRIES;
-    while 0 < tries {
-        let fd = os::open_read(name);
-        if is_over(0 <= fd) {
-            return descriptor(fd);
+    for _ in 0..TRIES {
+        match out.write(bytes) {
+            Ok(n) => return Some(n),
+            Err(error) => {
+                if is_over(&error) {
+                    return None;
+                }
+            }
         }
-        tries -= 1;
     }
-    -1
-}
-
-// Makes a file that is not there, open for writing, and hands back a descriptor, or -1.
-pub(crate) fn create(name: &[u8]) -> i32
-    ensures { Descriptor result }
-{
-    let mut tries = TRIES;
-    while 0 < tries {
-        let fd = os::create(name);
-        if is_over(0 <= fd) {
-            return descriptor(fd);
-        }
-        tries -= 1;
-    }
-    -1
-}
-
-// Removes a file, and hands back 0, or -1.
-pub(crate) fn unlink(name: &[u8]) -> i32
-    ensures { Status result }
-{
-    let mut tries = TRIES;
-    while 0 < tries {
-        let gone = os::unlink(name);
-        if is_over(gone == 0) {
-            return gone;
-        }
-        tries -= 1;
-    }
-    -1
-}
-
-// Reads once, and hands back how many bytes came, or -1.
-pub(crate) fn read(fd: i32, buffer: &mut [u8]) -> isize {
-    let mut tries = TRIES;
-    while 0 < tries {
-        let got = libc::read(fd, buffer);
-        if is_over(0 <= got) {
-            return got;
-        }
-        tries -= 1;
-    }
-    -1
-}
-
-// Writes once, and hands back how many bytes went, or -1.
-fn write(fd: i32, bytes: &[u8]) -> isize {
-    let mut tries = TRIES;
-    while 0 < tries {
-        let put = libc::write(fd, bytes);
-        if is_over(0 <= put) {
-            return put;
-        }
-        tries -= 1;
-    }
-    -1
+    None
 }
 
 // Writes bytes by one call. If it takes only a part, the rest follows from where it stopped, until a call fails. Hands back how many
 // were taken.
-pub fn write_all(fd: i32, bytes: &[u8]) -> usize
-    ensures { result ≤ length bytes.now }
+pub fn write_all<W: Write>(out: &mut W, bytes: &[u8]) -> usize
+    ensures within { result ≤ length bytes.now }
+    ensures appended { Appends (W.contents out.old) (W.contents out.new) (take result bytes.now) }
 {
     let mut n: usize = 0;
     while n < bytes.len() {
-        let put = write(fd, &bytes[n..]);
-        let more = io::count(put, &bytes[n..]);
+        let Some(more) = write(out, &bytes[n..]) else {
+            return n;
+        };
         if more == 0 {
             return n;
         }

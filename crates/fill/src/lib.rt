@@ -143,7 +143,7 @@ pub fn fill(program: &[u8], split: &[u8], work: &mut [u32], out: &mut [u8]) -> F
     ensures answer { returned_by result ≡ returned_for (filling (length work.old) (length out.old) program.now split.now) }
     ensures written { out.new ≡ buffer_after (filling (length work.old) (length out.old) program.now split.now) out.old }
     ensures cleared { work.new ≡ workspace_after work.old }
-    ensures unchanged { (program.now ≡ program.now) × (split.now ≡ split.now) }
+    ensures unchanged { (program.exit.now ≡ program.entry.now) × (split.exit.now ≡ split.entry.now) }
     ensures solvable { (P : Program) (S : Split) → Fillable (length work.old) program.now split.now P S → (returned_by result ≡ numbers4 41 0 0 0) ↔ ((σ : List Map) → AfterMaps P S σ → ⊥) }
     ensures too_large { (P : Program) (S : Split) → Fillable (length work.old) program.now split.now P S → (returned_by result ≡ numbers4 42 0 0 0) ↔ GreatestOverLimits (length out.old) P S }
     ensures greatest { (returned_by result).number ≡ 0 → FilledSheet (length work.old) (length out.old) program.now split.now (take (returned_by result).line out.new) }

@@ -8,8 +8,8 @@ ghost use Rattle.file_io.specs.Files.{Within, text_in};
 ghost use Rattle.racecheck.specs.Told.{told, told_of};
 
 use answers::Outcome;
-use file_io::{Contents, read_program, read_split, tell, write_all};
-use libc::STDERR_FILENO;
+use file_io::{Contents, is_given, read_program, read_split, tell, write_all};
+use std::fs::Files;
 
 // Judges two texts in a work space of its own.
 fn judge(program: &[u8], split: &[u8]) -> Outcome
@@ -34,23 +34,25 @@ fn outcome_of(program: &[u8], p: Contents, split: &[u8], s: Contents) -> Outcome
 }
 
 // Both files are read before anything is judged.
-fn run() -> Outcome {
+fn run<R: Files>(rt: &R) -> Outcome {
     let mut program = [0u8; 16385];
     let mut split = [0u8; 65537];
-    let p = read_program(&mut program);
-    let s = read_split(&mut split);
+    let p = read_program(rt, &mut program);
+    let s = read_split(rt, &mut split);
     outcome_of(&program, p, &split, s)
 }
 
 // An argument is refused: who names a folder would take the answer for that folder's.
-fn main() {
-    if 1 < os::arg_count() {
+fn main(rt: HostRuntime) {
+    let mut out = rt.stdout();
+    if is_given(&rt, 1) {
+        let mut err = rt.stderr();
         write_all(
-            STDERR_FILENO,
+            &mut err,
             b"usage: racecheck, with no argument, in a folder with program.txt and split.txt\n",
         );
-        tell(Outcome::Unread);
+        tell(&mut out, Outcome::Unread);
         return;
     }
-    tell(run());
+    tell(&mut out, run(&rt));
 }

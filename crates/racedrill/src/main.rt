@@ -7,77 +7,85 @@ mod line;
 mod pair;
 mod seed;
 
-ghost use Rattle.std.specs.Prelude.{◌≡◌};
+ghost use Rattle.std.specs.Prelude.{◌≡◌, ◌≤◌, length};
 ghost use Rattle.spec.specs.Text.{bytes};
 ghost use Rattle.racedrill.specs.Made.{FileOf, TextsOf, LineOf};
 
-use file_io::{Making, make_file, remove_file, write_all};
-use libc::{STDERR_FILENO, STDOUT_FILENO};
+use file_io::{Making, is_given, make_file, remove_file, write_all};
 use line::write_line;
 use pair::{Pair, pair_of};
+use std::env::Env;
+use std::fs::Files;
+use std::io::Write;
 
 // Says on standard error what is wrong with a file.
-fn complain(name: &[u8], what: &[u8]) {
-    write_all(STDERR_FILENO, b"racedrill: ");
-    write_all(STDERR_FILENO, name);
-    write_all(STDERR_FILENO, what);
+fn complain<E: Write>(err: &mut E, name: &str, what: &[u8]) {
+    write_all(err, b"racedrill: ");
+    write_all(err, name.as_bytes());
+    write_all(err, what);
 }
 
-fn write_unmade() {
-    write_all(STDOUT_FILENO, b"UNMADE\n");
+fn write_unmade<W: Write>(out: &mut W) {
+    write_all(out, b"UNMADE\n");
 }
 
 // Tells of the pair that a word asks for. The line is made first and written by one call.
-fn write_drill(word: &[u8], next: u32, program: u32, split: u32)
+fn write_drill<W: Write>(out: &mut W, word: &[u8], next: u32, program: u32, split: u32)
     requires { LineOf word.now next program split }
 {
     let mut line = [0u8; 40];
     let n = write_line(&mut line, next, program, split);
-    write_all(STDOUT_FILENO, &line[..n]);
+    write_all(out, &line[..n]);
 }
 
 // Makes a file of the pair that a word asks for, with its own text, or says why there is none.
-fn make(word: &[u8], name: &[u8], text: &[u8]) -> bool
+fn make<R: Files + Env, E: Write>(rt: &R, err: &mut E, word: &[u8], name: &str, text: &[u8]) -> bool
     requires { FileOf word.now name.now text.now }
 {
-    match make_file(name, text) {
+    match make_file(rt, name, text) {
         Making::Made(_) => true,
         Making::Taken => {
-            complain(name, b" is there already\n");
+            complain(err, name, b" is there already\n");
             false
         }
         Making::Unwritten => {
-            complain(name, b" can't be written\n");
+            complain(err, name, b" can't be written\n");
             false
         }
     }
 }
 
 // Takes back the program sheet, which was made just before. No other file is ever removed.
-fn take_back(name: &[u8])
+fn take_back<R: Files, E: Write>(rt: &R, err: &mut E, name: &str)
     requires { name.now ≡ bytes "program.txt" }
 {
-    if remove_file(name) != 0 {
-        complain(name, b" can't be removed again\n");
+    if !remove_file(rt, name) {
+        complain(err, name, b" can't be removed again\n");
     }
 }
 
 // Makes both files or none.
-fn make_both(word: &[u8], program: &[u8], split: &[u8]) -> bool
+fn make_both<R: Files + Env, E: Write>(
+    rt: &R,
+    err: &mut E,
+    word: &[u8],
+    program: &[u8],
+    split: &[u8],
+) -> bool
     requires { TextsOf word.now program.now split.now }
 {
-    if !make(word, b"program.txt", program) {
+    if !make(rt, err, word, "program.txt", program) {
         return false;
     }
-    if make(word, b"split.txt", split) {
+    if make(rt, err, word, "split.txt", split) {
         return true;
     }
-    take_back(b"program.txt");
+    take_back(rt, err, "program.txt");
     false
 }
 
 // Makes the pair of a word, in buffers that have room for any sheet.
-fn run(word: &[u8]) {
+fn run<R: Files + Env, W: Write, E: Write>(rt: &R, out: &mut W, err: &mut E, word: &[u8]) {
     let mut program = [0u8; 16384];
     let mut split = [0u8; 65536];
     match pair_of(word, &mut program, &mut split) {
@@ -86,33 +94,46 @@ fn run(word: &[u8]) {
             program: p,
             split: s,
         } => {
-            if make_both(word, &program[..p as usize], &split[..s as usize]) {
-                write_drill(word, x, p, s);
+            if make_both(rt, err, word, &program[..p as usize], &split[..s as usize]) {
+                write_drill(out, word, x, p, s);
             } else {
-                write_unmade();
+                write_unmade(out);
             }
         }
         Pair::NoSeed => {
             complain(
-                b"the seed",
+                err,
+                "the seed",
                 b" is a number from 0 to 4294967295, without leading zeros\n",
             );
-            write_unmade();
+            write_unmade(out);
         }
     }
 }
 
-// One argument: the seed. A longer word than ten bytes is no numeral below 2^32, and `os::arg` hands back nothing of it.
-fn main() {
-    if os::arg_count() != 2 {
+// Puts the first argument in front of a buffer, and hands back its length. A longer one than the buffer is handed back as an empty word.
+fn word_in<R: Env>(rt: &R, buffer: &mut [u8]) -> usize
+    ensures { result ≤ length buffer.new }
+{
+    match rt.arg(1, buffer) {
+        Ok(n) => n,
+        Err(_) => 0,
+    }
+}
+
+// One argument: the seed. A longer word than ten bytes is no numeral below 2^32.
+fn main(rt: HostRuntime) {
+    let mut out = rt.stdout();
+    let mut err = rt.stderr();
+    if !is_given(&rt, 1) || is_given(&rt, 2) {
         write_all(
-            STDERR_FILENO,
+            &mut err,
             b"usage: racedrill SEED, in a folder without program.txt and split.txt\n",
         );
-        write_unmade();
+        write_unmade(&mut out);
         return;
     }
     let mut word = [0u8; 10];
-    let n = os::arg(1, &mut word);
-    run(&word[..n]);
+    let n = word_in(&rt, &mut word);
+    run(&rt, &mut out, &mut err, &word[..n]);
 }

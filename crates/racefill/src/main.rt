@@ -11,10 +11,11 @@ ghost use Rattle.file_io.specs.Files.{Within, text_in, InFront};
 ghost use Rattle.racefill.specs.Output.{output_of, output_for};
 
 use answers::{Outcome, write_line};
-use file_io::{Contents, read_program, read_split, tell, write_all};
+use file_io::{Contents, is_given, read_program, read_split, tell, write_all};
 use fill::{Filled, fill};
-use libc::{STDERR_FILENO, STDOUT_FILENO};
 use spec::Answer;
+use std::fs::Files;
+use std::io::Write;
 
 // Makes what is written for two texts, in front of a buffer that has room for any sheet, and hands back its length.
 fn fill_texts(program: &[u8], split: &[u8], out: &mut [u8]) -> usize
@@ -44,37 +45,47 @@ fn output_of(program: &[u8], p: Contents, split: &[u8], s: Contents, out: &mut [
 
 // Writes what was made for the two files, and no other bytes. A sheet or a line that standard output does not take to its end is not
 // to be taken for a whole one.
-fn write_output(program: &[u8], p: Contents, split: &[u8], s: Contents, output: &[u8])
+fn write_output<W: Write, E: Write>(
+    out: &mut W,
+    err: &mut E,
+    program: &[u8],
+    p: Contents,
+    split: &[u8],
+    s: Contents,
+    output: &[u8],
+)
     requires { output.now ≡ output_for (text_in p program.now) (text_in s split.now) }
 {
-    if write_all(STDOUT_FILENO, output) < output.len() {
+    if write_all(out, output) < output.len() {
         write_all(
-            STDERR_FILENO,
+            err,
             b"racefill: standard output did not take all that was written\n",
         );
     }
 }
 
 // Both files are read before anything is filled.
-fn run() {
+fn run<R: Files, W: Write, E: Write>(rt: &R, out: &mut W, err: &mut E) {
     let mut program = [0u8; 16385];
     let mut split = [0u8; 65537];
-    let p = read_program(&mut program);
-    let s = read_split(&mut split);
-    let mut out = [0u8; 65536];
-    let n = output_of(&program, p, &split, s, &mut out);
-    write_output(&program, p, &split, s, &out[..n]);
+    let p = read_program(rt, &mut program);
+    let s = read_split(rt, &mut split);
+    let mut made = [0u8; 65536];
+    let n = output_of(&program, p, &split, s, &mut made);
+    write_output(out, err, &program, p, &split, s, &made[..n]);
 }
 
 // An argument is refused: who names a folder would take the sheet for that folder's.
-fn main() {
-    if 1 < os::arg_count() {
+fn main(rt: HostRuntime) {
+    let mut out = rt.stdout();
+    let mut err = rt.stderr();
+    if is_given(&rt, 1) {
         write_all(
-            STDERR_FILENO,
+            &mut err,
             b"usage: racefill, with no argument, in a folder with program.txt and split.txt\n",
         );
-        tell(Outcome::Unread);
+        tell(&mut out, Outcome::Unread);
         return;
     }
-    run();
+    run(&rt, &mut out, &mut err);
 }

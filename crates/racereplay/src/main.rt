@@ -12,11 +12,12 @@ ghost use Rattle.replay_answers.specs.declared.line.Outcome.TheVariants.{Ran};
 ghost use Rattle.replay.specs.Pieces.{ends_line, RunOf};
 
 use buffered::take_in;
-use file_io::{Contents, fill, open_trace, read_program, write_all};
-use libc::{STDERR_FILENO, STDOUT_FILENO};
+use file_io::{Contents, fill, is_given, open_trace, read_program, write_all};
 use replay::{begin, more, told};
 use replay_answers::{Outcome, write_line};
 use replay_loop::Point;
+use std::fs::Files;
+use std::io::{Read, Write};
 
 // What a run comes to behind the last bytes of its trace.
 fn rest(job: &[u32], space: &mut [u32], run: Point, bytes: &[u8]) -> Outcome
@@ -28,8 +29,8 @@ fn rest(job: &[u32], space: &mut [u32], run: Point, bytes: &[u8]) -> Outcome
 
 // Replays a trace as it is read, through a buffer. A line that fills the buffer is longer than any line of a trace, and what comes behind it is
 // not read. A loop has to end: this one takes a whole buffer a turn, and no disk has so many.
-fn replay_through(
-    fd: i32,
+fn replay_through<R: Read>(
+    trace: &mut R,
     job: &[u32],
     space: &mut [u32],
     start: Point,
@@ -39,7 +40,7 @@ fn replay_through(
     let mut held: usize = 0;
     let mut turns: u64 = 18446744073709551615;
     while 0 < turns {
-        let Contents::Bytes(n) = fill(fd, buffer, held) else {
+        let Contents::Bytes(n) = fill(trace, buffer, held) else {
             return Outcome::Unread;
         };
         if n < buffer.len() {
@@ -58,63 +59,62 @@ fn replay_through(
 }
 
 // The same with a buffer of its own.
-fn replay_file(fd: i32, job: &[u32], space: &mut [u32], start: Point) -> Outcome {
+fn replay_file<R: Read>(trace: &mut R, job: &[u32], space: &mut [u32], start: Point) -> Outcome {
     let mut buffer = [0u8; 65536];
-    replay_through(fd, job, space, start, &mut buffer)
+    replay_through(trace, job, space, start, &mut buffer)
 }
 
 // Replays a program and the trace of a file in a space that is lent as an array, whose length is known: a proof that counts so many numbers
 // runs out of room.
-fn replay_in(program: &[u8], fd: i32, space: &mut [u32; 542_960]) -> Outcome {
+fn replay_in<R: Read>(program: &[u8], trace: &mut R, space: &mut [u32; 542_960]) -> Outcome {
     let mut job = [0u32; 2449];
     let start = begin(program, &mut job, space);
-    replay_file(fd, &job, space, start)
+    replay_file(trace, &job, space, start)
 }
 
 // The same in a space of its own.
-fn replay_here(program: &[u8], fd: i32) -> Outcome {
+fn replay_here<R: Read>(program: &[u8], trace: &mut R) -> Outcome {
     let mut space = [0u32; 542_960];
-    replay_in(program, fd, &mut space)
+    replay_in(program, trace, &mut space)
 }
 
 // The program is read whole, and the trace is replayed as it is read.
-fn run() -> Outcome {
+fn run<R: Files>(rt: &R) -> Outcome {
     let mut program = [0u8; 16385];
-    let Contents::Bytes(p) = read_program(&mut program) else {
+    let Contents::Bytes(p) = read_program(rt, &mut program) else {
         return Outcome::Unread;
     };
-    let fd = open_trace();
-    if fd < 0 {
+    let Some(mut trace) = open_trace(rt) else {
         return Outcome::Unread;
-    }
-    let outcome = replay_here(&program[..p], fd);
-    libc::close(fd);
-    outcome
+    };
+    replay_here(&program[..p], &mut trace)
 }
 
 // Writes the line of an outcome to standard output by one call, so that no other program's line comes between its parts.
-fn put_line(line: &[u8], outcome: Outcome)
+fn put_line<W: Write>(out: &mut W, line: &[u8], outcome: Outcome)
     requires { line.now ≡ output_line outcome }
 {
-    write_all(STDOUT_FILENO, line);
+    write_all(out, line);
 }
 
 // Tells an outcome in its line, which is made first.
-fn tell(outcome: Outcome) {
+fn tell<W: Write>(out: &mut W, outcome: Outcome) {
     let mut line = [0u8; 256];
     let n = write_line(&mut line, outcome);
-    put_line(&line[..n], outcome);
+    put_line(out, &line[..n], outcome);
 }
 
 // An argument is refused: who names a folder would take the answer for that folder's.
-fn main() {
-    if 1 < os::arg_count() {
+fn main(rt: HostRuntime) {
+    let mut out = rt.stdout();
+    if is_given(&rt, 1) {
+        let mut err = rt.stderr();
         write_all(
-            STDERR_FILENO,
+            &mut err,
             b"usage: racereplay, with no argument, in a folder with program.txt and trace.txt\n",
         );
-        tell(Outcome::Unread);
+        tell(&mut out, Outcome::Unread);
         return;
     }
-    tell(run());
+    tell(&mut out, run(&rt));
 }

@@ -29,7 +29,7 @@ pub fn replay(program: &[u8], trace: &[u8], space: &mut [u32]) -> Replayed
     ensures answer { returned_for result.ending ≡ returned_for (replayed (length space.old) program.now trace.now).ending }
     ensures ending { result.ending ≡ (replayed (length space.old) program.now trace.now).ending }
     ensures report { result.report ≡ (replayed (length space.old) program.now trace.now).report }
-    ensures unchanged { (program.now ≡ program.now) × (trace.now ≡ trace.now) }
+    ensures unchanged { (program.exit.now ≡ program.entry.now) × (trace.exit.now ≡ trace.entry.now) }
     ensures kept { length space.old < replay_space → space.new ≡ space.old }
     ensures free { (length space.new ≡ length space.old) × (drop replay_space space.new ≡ drop replay_space space.old) }
     ensures stops { TraceFollowed (length space.old) program.now trace.now result.report.steps (returned_for result.ending) }

@@ -49,7 +49,7 @@ fn go_on(job: &[u32], space: &mut [u32], run: Point, piece: &[u8]) -> Point
 // free: behind the numbers that a replay needs the space is as it was.
 pub fn more(job: &[u32], space: &mut [u32], run: Point, piece: &[u8]) -> Point
     ensures goes_on { (program trace : List ℕ) → RunOf program trace job.now space.old run → ends_line trace ≡ true → run.steps + length piece.now < 18446744073709551616 → RunOf program (trace ++ piece.now) job.now space.new result }
-    ensures unchanged { (job.now ≡ job.now) × (piece.now ≡ piece.now) }
+    ensures unchanged { (job.exit.now ≡ job.entry.now) × (piece.exit.now ≡ piece.entry.now) }
     ensures kept { length space.old < replay_space → space.new ≡ space.old }
     ensures free { (length space.new ≡ length space.old) × (drop replay_space space.new ≡ drop replay_space space.old) }
 {

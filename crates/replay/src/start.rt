@@ -112,7 +112,7 @@ pub fn begin(program: &[u8], job: &mut [u32], space: &mut [u32]) -> Point
     ensures begun { length job.old ≡ job_size → RunOf program.now [] job.new space.new result }
     ensures short { (length job.old ≡ job_size → ⊥) → telling result ≡ refused_by ShortWorkspace }
     ensures at_start { result.steps ≡ 0 }
-    ensures unchanged { program.now ≡ program.now }
+    ensures unchanged { program.exit.now ≡ program.entry.now }
     ensures kept { length space.old < replay_space → space.new ≡ space.old }
     ensures free { (length space.new ≡ length space.old) × (drop replay_space space.new ≡ drop replay_space space.old) }
 {

@@ -47,7 +47,7 @@ pub fn begin(program: &[u8], job: &mut [u32], space: &mut [u32], run: &mut [u64]
     ensures begun { roomy_for job.old run.old ≡ true → KeptRun program.now [] job.new space.new run.new }
     ensures answer { roomy_for job.old run.old ≡ true → result ≡ answer_number (length space.old) program.now [] }
     ensures short { roomy_for job.old run.old ≡ false → (result ≡ 1) × (job.new ≡ job.old) × (space.new ≡ space.old) × (run.new ≡ run.old) }
-    ensures unchanged { program.now ≡ program.now }
+    ensures unchanged { program.exit.now ≡ program.entry.now }
     ensures kept { length space.old < replay_space → space.new ≡ space.old }
     ensures free { FrontUsed job_size job.old job.new × FrontUsed replay_space space.old space.new × FrontUsed kept_size run.old run.new }
 {
@@ -84,7 +84,7 @@ pub fn more(job: &[u32], space: &mut [u32], run: &mut [u64], piece: &[u8]) -> u3
     ensures goes_on { (program trace : List ℕ) → KeptRun program trace job.now space.old run.old → ends_line trace ≡ true → (replayed (length space.old) program trace).report.steps + length piece.now < 18446744073709551616 → KeptRun program (trace ++ piece.now) job.now space.new run.new }
     ensures answer { (program trace : List ℕ) → KeptRun program trace job.now space.old run.old → ends_line trace ≡ true → (replayed (length space.old) program trace).report.steps + length piece.now < 18446744073709551616 → result ≡ answer_number (length space.old) program (trace ++ piece.now) }
     ensures short { roomy_for job.now run.old ≡ false → (result ≡ 1) × (space.new ≡ space.old) × (run.new ≡ run.old) }
-    ensures unchanged { (job.now ≡ job.now) × (piece.now ≡ piece.now) }
+    ensures unchanged { (job.exit.now ≡ job.entry.now) × (piece.exit.now ≡ piece.entry.now) }
     ensures kept { length space.old < replay_space → space.new ≡ space.old }
     ensures free { FrontUsed replay_space space.old space.new × FrontUsed kept_size run.old run.new }
 {
@@ -101,7 +101,7 @@ pub fn more(job: &[u32], space: &mut [u32], run: &mut [u64], piece: &[u8]) -> u3
 pub fn told(run: &[u64]) -> Told
     ensures answer { (program trace job space : List ℕ) → KeptRun program trace job space run.now → result ≡ told_numbers (replayed (length space) program trace) }
     ensures short { length run.now < kept_size → result ≡ told_numbers (refused_by ShortWorkspace) }
-    ensures unchanged { run.now ≡ run.now }
+    ensures unchanged { run.exit.now ≡ run.entry.now }
 {
     if run.len() < KEPT {
         return short_told();

@@ -10,8 +10,8 @@
 
 ghost use Rattle.std.specs.Prelude.{◌≤◌, length};
 
-use libc::{STDIN_FILENO, STDOUT_FILENO};
 use spec::Answer;
+use std::io::Read;
 
 // How many numbers document 01 asks of a work space.
 const SIZE: usize = 16384;
@@ -78,85 +78,96 @@ fn answer_to(line: &[u8], work: &mut [u32]) -> Answer {
     checker::check(&line[0..tab], &line[next..], work)
 }
 
-// The four numbers that an answer returns, parted by commas.
-fn write_numbers(answer: Answer) {
+// The four numbers that an answer returns, parted by commas, and a word behind them, on a line.
+fn write_numbers<P: Print>(rt: &P, answer: Answer, word: &str) {
     let four = answers::numbers_of(answer);
-    io::print_decimal(STDOUT_FILENO, four.number as u64);
-    io::write_all(STDOUT_FILENO, b",");
-    io::print_decimal(STDOUT_FILENO, four.line as u64);
-    io::write_all(STDOUT_FILENO, b",");
-    io::print_decimal(STDOUT_FILENO, four.condition as u64);
-    io::write_all(STDOUT_FILENO, b",");
-    io::print_decimal(STDOUT_FILENO, four.location as u64);
+    let number = four.number;
+    let line = four.line;
+    let condition = four.condition;
+    let location = four.location;
+    let _ = println!(rt; "{number},{line},{condition},{location} {word}");
 }
 
 // An answer and whether the work space was cleared, on a line.
-fn write_cleared(answer: Answer, cleared: bool) {
-    write_numbers(answer);
+fn write_cleared<P: Print>(rt: &P, answer: Answer, cleared: bool) {
     if cleared {
-        io::write_all(STDOUT_FILENO, b" cleared\n");
+        write_numbers(rt, answer, "cleared");
     } else {
-        io::write_all(STDOUT_FILENO, b" not cleared\n");
+        write_numbers(rt, answer, "not cleared");
     }
 }
 
 // An answer and whether the work space is as it was, on a line.
-fn write_kept(answer: Answer, kept: bool) {
-    write_numbers(answer);
+fn write_kept<P: Print>(rt: &P, answer: Answer, kept: bool) {
     if kept {
-        io::write_all(STDOUT_FILENO, b" kept\n");
+        write_numbers(rt, answer, "kept");
     } else {
-        io::write_all(STDOUT_FILENO, b" changed\n");
+        write_numbers(rt, answer, "changed");
     }
 }
 
 // Checks a pair in a work space with 16 numbers more than document 01 asks for.
-fn run_long(line: &[u8]) {
+fn run_long<P: Print>(rt: &P, line: &[u8]) {
     let mut work = [MARK; SIZE + 16];
     let answer = answer_to(line, &mut work);
-    write_cleared(answer, is_cleared(&work));
+    write_cleared(rt, answer, is_cleared(&work));
 }
 
 // Checks a pair in a work space just as long as document 01 asks for.
-fn run_exact(line: &[u8]) {
+fn run_exact<P: Print>(rt: &P, line: &[u8]) {
     let mut work = [MARK; SIZE];
     let answer = answer_to(line, &mut work);
-    write_cleared(answer, is_cleared(&work));
+    write_cleared(rt, answer, is_cleared(&work));
 }
 
 // Checks a pair in a work space with one number less than document 01 asks for.
-fn run_short(line: &[u8]) {
+fn run_short<P: Print>(rt: &P, line: &[u8]) {
     let mut work = [MARK; SIZE - 1];
     let answer = answer_to(line, &mut work);
-    write_kept(answer, all_are(&work, MARK));
+    write_kept(rt, answer, all_are(&work, MARK));
 }
 
 // Checks the pair on a line whose bars are still bars.
-fn run_line(line: &mut [u8]) {
+fn run_line<P: Print>(rt: &P, line: &mut [u8]) {
     unbar(line);
-    run_long(line);
+    run_long(rt, line);
 }
 
 // Checks every pair of the text in turn. A last line with no byte 10 counts too.
-fn run_lines(text: &mut [u8]) {
+fn run_lines<P: Print>(rt: &P, text: &mut [u8]) {
     let mut from = 0;
     while from < text.len() {
         let end = find(text, from, b'\n');
-        run_line(&mut text[from..end]);
+        run_line(rt, &mut text[from..end]);
         from = end + 1;
     }
 }
 
 // Every pair, then the first of them again in a work space just long enough and in one that is too short.
-fn run(text: &mut [u8]) {
+fn run<P: Print>(rt: &P, text: &mut [u8]) {
     let first = find(text, 0, b'\n');
-    run_lines(text);
-    run_exact(&text[0..first]);
-    run_short(&text[0..first]);
+    run_lines(rt, text);
+    run_exact(rt, &text[0..first]);
+    run_short(rt, &text[0..first]);
 }
 
-fn main() {
+// Reads until the buffer is full, the input ends or a read fails, and hands back how many bytes stand in front of the buffer.
+fn read_full<R: Read>(input: &mut R, buffer: &mut [u8]) -> usize
+    ensures { result ≤ length buffer.new }
+{
+    let mut done = 0;
+    while done < buffer.len() {
+        match input.read(&mut buffer[done..]) {
+            Ok(0) => return done,
+            Ok(n) => done += n,
+            Err(_) => return done,
+        }
+    }
+    done
+}
+
+fn main(rt: HostRuntime) {
     let mut input = [0u8; 131072];
-    let n = io::read_full(STDIN_FILENO, &mut input);
-    run(&mut input[..n]);
+    let n = read_full(&mut rt.stdin(), &mut input);
+    run(&rt, &mut input[..n]);
 }

@@ -1,0 +1,184 @@
+// The entries of the crate `entries` as C calls them, clause by clause: include/racecheck.h declares them. A slice is a pointer and a
+// length to C.
+#![tactic(auto)]
+
+ghost use Rattle.std.specs.Prelude.{◌≡◌, List, [], ◌++◌, true, false, ◌↔◌, ℕ, ◌+◌, ◌≤◌, ◌<◌, length, take, drop};
+ghost use Rattle.spec.specs.Program.{Program};
+ghost use Rattle.spec.specs.Split.{Map, Split};
+ghost use Rattle.spec.specs.Accepted.{Right};
+ghost use Rattle.spec.specs.Verdict.{verdict, returned, numbers4, on_conditions};
+ghost use Rattle.spec.specs.Workspace.{workspace_size, workspace_after};
+ghost use Rattle.spec.specs.declared.Answer.TheVariants.{Accept};
+ghost use Rattle.drill_theory.specs.Pair.{program_of, split_of};
+ghost use Rattle.text_theory.specs.Text.{in_front};
+ghost use Rattle.drill.specs.Answer.{drilled_numbers, answer_of};
+ghost use Rattle.soundness.specs.SafeText.{SafeText};
+ghost use Rattle.soundness.specs.EitherOrderText.{EitherOrderText};
+ghost use Rattle.checker.specs.Promise.{RefutedAs};
+ghost use Rattle.fill_theory.specs.AfterMaps.{AfterMaps};
+ghost use Rattle.fill_theory.specs.Answer.{fill as filling, returned_for, buffer_after, Fillable, FilledSheet, GreatestOverLimits};
+ghost use Rattle.replay_theory.specs.declared.FirstRace.TheVariants.{None};
+ghost use Rattle.spec.specs.declared.Refusal.TheVariants.{ShortWorkspace};
+ghost use Rattle.replay_theory.specs.Replay.{replay_space, replay as replayed, refused as refused_by, returned_for as ending_numbers};
+ghost use Rattle.replay_theory.specs.Claim.{TraceFollowed, RaceFound};
+ghost use Rattle.replay_answers.specs.Numbers.{answer_told, race_numbers, race_told, Stored};
+ghost use Rattle.replay.specs.Pieces.{ends_line, job_size};
+ghost use Rattle.replay_kept.specs.Kept.{kept_size};
+ghost use Rattle.replay_pieces.specs.Pieces.{roomy, answer_number, FrontUsed, KeptRun};
+
+// `racecheck_check` of the crate `entries`, clause by clause.
+#[unsafe(no_mangle)]
+pub extern "C" fn racecheck_check(
+    program: &[u8],
+    split: &[u8],
+    work: &mut [u32],
+    line: &mut u32,
+    condition: &mut u32,
+    location: &mut u32,
+) -> u32
+    ensures answer { numbers4 result line.new condition.new location.new ≡ returned (verdict (length work.old) program.now split.now) }
+    ensures cleared { work.new ≡ workspace_after work.old }
+    ensures unchanged { (program.exit.now ≡ program.entry.now) × (split.exit.now ≡ split.entry.now) }
+    ensures derivation { workspace_size ≤ length work.old → (numbers4 result line.new condition.new location.new ≡ numbers4 0 0 0 0) ↔ Right program.now split.now }
+    ensures first_false { on_conditions result ≡ true → RefutedAs program.now split.now (numbers4 result line.new condition.new location.new) }
+    ensures safe { numbers4 result line.new condition.new location.new ≡ numbers4 0 0 0 0 → SafeText program.now }
+    ensures either_order { numbers4 result line.new condition.new location.new ≡ numbers4 0 0 0 0 → EitherOrderText program.now }
+{
+    entries::racecheck_check(program, split, work, line, condition, location)
+}
+
+// `racecheck_drill` of the crate `entries`, clause by clause.
+#[unsafe(no_mangle)]
+pub extern "C" fn racecheck_drill(
+    seed: u32,
+    program: &mut [u8],
+    split: &mut [u8],
+    next: &mut u32,
+    program_length: &mut u32,
+    split_length: &mut u32,
+) -> u32
+    ensures answer { drilled_numbers result next.new program_length.new split_length.new ≡ answer_of seed (length program.old) (length split.old) }
+    ensures written { result ≡ 0 → (program.new ≡ in_front (program_of seed) program.old) × (split.new ≡ in_front (split_of seed) split.old) }
+    ensures unchanged { result ≡ 38 → (program.new ≡ program.old) × (split.new ≡ split.old) }
+    ensures accepted { result ≡ 0 → verdict workspace_size (take program_length.new program.new) (take split_length.new split.new) ≡ Accept }
+{
+    entries::racecheck_drill(seed, program, split, next, program_length, split_length)
+}
+
+// `racecheck_fill` of the crate `entries`, clause by clause.
+#[unsafe(no_mangle)]
+pub extern "C" fn racecheck_fill(
+    program: &[u8],
+    split: &[u8],
+    work: &mut [u32],
+    out: &mut [u8],
+    length_or_line: &mut u32,
+    condition: &mut u32,
+    location: &mut u32,
+) -> u32
+    ensures answer { numbers4 result length_or_line.new condition.new location.new ≡ returned_for (filling (length work.old) (length out.old) program.now split.now) }
+    ensures written { out.new ≡ buffer_after (filling (length work.old) (length out.old) program.now split.now) out.old }
+    ensures cleared { work.new ≡ workspace_after work.old }
+    ensures unchanged { (program.exit.now ≡ program.entry.now) × (split.exit.now ≡ split.entry.now) }
+    ensures solvable { (P : Program) (S : Split) → Fillable (length work.old) program.now split.now P S → (numbers4 result length_or_line.new condition.new location.new ≡ numbers4 41 0 0 0) ↔ ((σ : List Map) → AfterMaps P S σ → ⊥) }
+    ensures too_large { (P : Program) (S : Split) → Fillable (length work.old) program.now split.now P S → (numbers4 result length_or_line.new condition.new location.new ≡ numbers4 42 0 0 0) ↔ GreatestOverLimits (length out.old) P S }
+    ensures greatest { result ≡ 0 → FilledSheet (length work.old) (length out.old) program.now split.now (take length_or_line.new out.new) }
+    ensures accepted { result ≡ 0 → verdict (length work.old) program.now (take length_or_line.new out.new) ≡ Accept }
+{
+    entries::racecheck_fill(
+        program,
+        split,
+        work,
+        out,
+        length_or_line,
+        condition,
+        location,
+    )
+}
+
+// `racecheck_replay` of the crate `entries`, clause by clause.
+#[unsafe(no_mangle)]
+pub extern "C" fn racecheck_replay(
+    program: &[u8],
+    trace: &[u8],
+    space: &mut [u32],
+    line: &mut u64,
+    condition: &mut u32,
+    location: &mut u32,
+    steps: &mut u64,
+    state: &mut u64,
+    first: &mut u32,
+    second: &mut u32,
+) -> u32
+    ensures answer { answer_told result line.new condition.new location.new ≡ ending_numbers (replayed (length space.old) program.now trace.now).ending }
+    ensures report { (steps.new ≡ (replayed (length space.old) program.now trace.now).report.steps) × (race_told state.new first.new second.new ≡ race_numbers (replayed (length space.old) program.now trace.now).report.race) }
+    ensures unchanged { (program.exit.now ≡ program.entry.now) × (trace.exit.now ≡ trace.entry.now) }
+    ensures kept { length space.old < replay_space → space.new ≡ space.old }
+    ensures free { (length space.new ≡ length space.old) × (drop replay_space space.new ≡ drop replay_space space.old) }
+    ensures stops { TraceFollowed (length space.old) program.now trace.now steps.new (answer_told result line.new condition.new location.new) }
+    ensures first_race { Stored (RaceFound (length space.old) program.now trace.now) state.new first.new second.new }
+    ensures safe { (room : ℕ) (split : List ℕ) → verdict room program.now split ≡ Accept → race_told state.new first.new second.new ≡ race_numbers None }
+{
+    entries::racecheck_replay(
+        program, trace, space, line, condition, location, steps, state, first, second,
+    )
+}
+
+// `racecheck_replay_begin` of the crate `entries`, clause by clause.
+#[unsafe(no_mangle)]
+pub extern "C" fn racecheck_replay_begin(
+    program: &[u8],
+    job: &mut [u32],
+    space: &mut [u32],
+    run: &mut [u64],
+) -> u32
+    ensures begun { roomy job.old run.old ≡ true → KeptRun program.now [] job.new space.new run.new }
+    ensures answer { roomy job.old run.old ≡ true → result ≡ answer_number (length space.old) program.now [] }
+    ensures short { roomy job.old run.old ≡ false → (result ≡ 1) × (job.new ≡ job.old) × (space.new ≡ space.old) × (run.new ≡ run.old) }
+    ensures unchanged { program.exit.now ≡ program.entry.now }
+    ensures kept { length space.old < replay_space → space.new ≡ space.old }
+    ensures free { FrontUsed job_size job.old job.new × FrontUsed replay_space space.old space.new × FrontUsed kept_size run.old run.new }
+{
+    entries::racecheck_replay_begin(program, job, space, run)
+}
+
+// `racecheck_replay_more` of the crate `entries`, clause by clause.
+#[unsafe(no_mangle)]
+pub extern "C" fn racecheck_replay_more(
+    job: &[u32],
+    space: &mut [u32],
+    run: &mut [u64],
+    piece: &[u8],
+) -> u32
+    ensures goes_on { (program trace : List ℕ) → KeptRun program trace job.now space.old run.old → ends_line trace ≡ true → (replayed (length space.old) program trace).report.steps + length piece.now < 18446744073709551616 → KeptRun program (trace ++ piece.now) job.now space.new run.new }
+    ensures answer { (program trace : List ℕ) → KeptRun program trace job.now space.old run.old → ends_line trace ≡ true → (replayed (length space.old) program trace).report.steps + length piece.now < 18446744073709551616 → result ≡ answer_number (length space.old) program (trace ++ piece.now) }
+    ensures short { roomy job.now run.old ≡ false → (result ≡ 1) × (space.new ≡ space.old) × (run.new ≡ run.old) }
+    ensures unchanged { (job.exit.now ≡ job.entry.now) × (piece.exit.now ≡ piece.entry.now) }
+    ensures kept { length space.old < replay_space → space.new ≡ space.old }
+    ensures free { FrontUsed replay_space space.old space.new × FrontUsed kept_size run.old run.new }
+{
+    entries::racecheck_replay_more(job, space, run, piece)
+}
+
+// `racecheck_replay_told` of the crate `entries`, clause by clause.
+#[unsafe(no_mangle)]
+pub extern "C" fn racecheck_replay_told(
+    run: &[u64],
+    line: &mut u64,
+    condition: &mut u32,
+    location: &mut u32,
+    steps: &mut u64,
+    state: &mut u64,
+    first: &mut u32,
+    second: &mut u32,
+) -> u32
+    ensures answer { (program trace job space : List ℕ) → KeptRun program trace job space run.now → answer_told result line.new condition.new location.new ≡ ending_numbers (replayed (length space) program trace).ending }
+    ensures report { (program trace job space : List ℕ) → KeptRun program trace job space run.now → (steps.new ≡ (replayed (length space) program trace).report.steps) × (race_told state.new first.new second.new ≡ race_numbers (replayed (length space) program trace).report.race) }
+    ensures short { length run.now < kept_size → (answer_told result line.new condition.new location.new ≡ ending_numbers (refused_by ShortWorkspace).ending) × (steps.new ≡ 0) × (race_told state.new first.new second.new ≡ race_numbers None) }
+    ensures unchanged { run.exit.now ≡ run.entry.now }
+    ensures stops { (program trace job space : List ℕ) → KeptRun program trace job space run.now → TraceFollowed (length space) program trace steps.new (answer_told result line.new condition.new location.new) }
+    ensures first_race { (program trace job space : List ℕ) → KeptRun program trace job space run.now → Stored (RaceFound (length space) program trace) state.new first.new second.new }
+    ensures safe { (program trace job space : List ℕ) → KeptRun program trace job space run.now → (room : ℕ) (split : List ℕ) → verdict room program split ≡ Accept → race_told state.new first.new second.new ≡ race_numbers None }
+{
+    entries::racecheck_replay_told(run, line, condition, location, steps, state, first, second)
+}
