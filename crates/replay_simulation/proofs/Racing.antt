@@ -92,6 +92,14 @@ clash_alike (Read (suc n)) (Write (suc m)) x y h k = eqb_swap m n ∙ told h k
 clash_alike (Write (suc n)) None x y h k = told h k
 clash_alike (Write (suc n)) (Read (suc m)) x y h k = eqb_swap m n ∙ or_none_lem (eqb n m) ∙ told h k
 clash_alike (Write (suc n)) (Write (suc m)) x y h k = ap (λ (b : Bool). when b then true else false) (eqb_swap m n) ∙ or_last (eqb n m) ∙ told h k
+clash_alike None (Read zero) x y h k = elim k [ ]
+clash_alike None (Write zero) x y h k = elim k [ ]
+clash_alike (Read zero) b x y h k = elim h [ ]
+clash_alike (Read (suc n)) (Read zero) x y h k = elim k [ ]
+clash_alike (Read (suc n)) (Write zero) x y h k = elim k [ ]
+clash_alike (Write zero) b x y h k = elim h [ ]
+clash_alike (Write (suc n)) (Read zero) x y h k = elim k [ ]
+clash_alike (Write (suc n)) (Write zero) x y h k = elim k [ ]
 
 -- ------------------------------------------------------------------ all threads
 

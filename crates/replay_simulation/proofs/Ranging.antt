@@ -8,7 +8,7 @@ use borrow.Author.Tests.{leb-true}
 use lib.Dec.{leb}
 use lib.ListN.{length}
 use Rattle.spec.specs.Choice.{when◌then◌else◌}
-use Rattle.spec.specs.Text.{bytes, same, Line, closed, Field, look_up, fields}
+use Rattle.spec.specs.Text.{bytes, same, Line, closed, unclosed, Field, look_up, fields}
 use Rattle.spec.specs.Reading.{LineResult, good, bad, refuse_after, freelock, ◌to◌, in_range, all_in_range, numbers, or_bad_form, nth}
 use Rattle.spec.specs.Expression.{Step, Expr, leaf, unary, binary, Item, step, proc, Procedure}
 use Rattle.spec.specs.Program.{Program, step_of, word_line, proc_of, proc_line, item_line, item_lines}
@@ -121,6 +121,10 @@ lines_low : (h : ProgramHeading) (n k : ℕ) (ls : List Line) (is : List Item) (
 unfolding item_lines
 lines_low h zero k ls [] rest nothing = tt
 lines_low h (suc n) k (closed l ∷ ls) (i ∷ is) rest (line e more) = (line_low h k (fields l) i e, lines_low h n (k + 1) ls is rest more)
+lines_low h zero k ls (i ∷ is) rest p = elim p [ ]
+lines_low h (suc n) k [] is rest p = elim p [ ]
+lines_low h (suc n) k (closed l ∷ ls) [] rest p = elim p [ ]
+lines_low h (suc n) k (unclosed l ∷ ls) is rest p = elim p [ ]
 
 -- ------------------------------------------------------------------ the program
 

@@ -15,7 +15,7 @@ use Rattle.spec.specs.declared.MapNumber.{MapNumber}
 use Rattle.spec.specs.declared.Purpose.{Purpose}
 use Rattle.spec.specs.declared.Word.{Word}
 use Rattle.spec.specs.declared.Word.TheVariants.{Leaf, Unary, Binary}
-use Rattle.workspace.specs.Layout.{words_at, pres_at, work_size, word_of}
+use Rattle.workspace.specs.Layout.{words_at, pres_at, word_of}
 use Rattle.workspace.specs.Region.{ChangedWithin}
 use Rattle.workspace.proofs.Region.{changed_nothing, changed_store, changed_then}
 use Rattle.conditions.specs.Outcome.{both}
@@ -37,12 +37,6 @@ module _ (purpose : Purpose) (locations denominator : ℕ) (w : List ℕ) (k n :
   walk_end h =
       let e : n - k ≡ 0 = omega arith in
       rw e
-
--- the steps from k₀ up to k are walked through, from w₀ to w
-pub record Walking (purpose : Purpose) (locations denominator to : ℕ) (w₀ : List ℕ) (k₀ : ℕ) (w : List ℕ) (k : ℕ) : Type 0 where
-  pub long : length w ≡ work_size
-  pub changed : ChangedWithin pres_at (pres_at + 256) w₀ w
-  pub rest : walk purpose locations denominator w₀ k₀ (to - k₀) ≡ walk purpose locations denominator w k (to - k)
 
 -- the map before a step, for one of the steps before b
 pub put_before : (w : List ℕ) (i b : ℕ) (m : MapNumber) → i < b → ChangedWithin pres_at (pres_at + b) w (put_pre w i m)

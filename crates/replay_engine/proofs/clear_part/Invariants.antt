@@ -1,11 +1,8 @@
 -- The loop's invariant: what is left to clear here comes to what there was to clear at first.
-use mathlib.Core.Path.{◌≡◌, refl, sym, ap, ◌∙◌}
-use Prim.Native.Nat.{ℕ, ◌+◌, ◌-◌}
-use mathlib.Core.List.{List}
+use mathlib.Core.Path.{◌≡◌}
+use Prim.Native.Nat.{◌-◌}
 use lib.ListN.{length}
 use Rattle.replay_engine.specs.Steps.{zeroed}
-use Rattle.replay_engine.proofs.Clearing.{clear_more, clear_end}
-use borrow.Author.Rules.{rules}
 use Rattle.replay_engine.proofs.clear_part.Given as goal
 
 abbrev pub invariant-loop-i : goal.invariant-loop-i

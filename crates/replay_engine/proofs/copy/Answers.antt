@@ -1,11 +1,10 @@
-use mathlib.Core.Path.{◌≡◌, refl, sym, ap, ◌∙◌}
+use mathlib.Core.Path.{refl, sym, ap, ◌∙◌}
 use mathlib.Core.List.{List}
-use Prim.Native.Nat.{ℕ, ◌+◌, ◌-◌, ◌≤◌}
+use Prim.Native.Nat.{ℕ, ◌+◌, ◌-◌}
 use native.Mathlib.Omega.{arith}
 use lib.ListN.{length, length-set}
 use Rattle.replay_engine.specs.Steps.{copied_from, copied}
 use Rattle.replay_engine.proofs.Copying.{copied_more, copied_end}
-use borrow.Author.Rules.{rules}
 use Rattle.replay_engine.proofs.copy.Goals as goal
 
 pub loop-x-init : goal.loop-x-init

@@ -1,12 +1,8 @@
 -- The loop's invariant: copying what is left gives what copying all of it gives.
-use mathlib.Core.Path.{◌≡◌, refl, sym, ap, ◌∙◌}
-use mathlib.Core.List.{List}
-use Prim.Native.Nat.{ℕ, ◌+◌, ◌-◌, ◌≤◌}
-use native.Mathlib.Omega.{arith}
-use lib.ListN.{length, length-set}
-use Rattle.replay_engine.specs.Steps.{copied_from, copied}
-use Rattle.replay_engine.proofs.Copying.{copied_more, copied_end}
-use borrow.Author.Rules.{rules}
+use mathlib.Core.Path.{◌≡◌}
+use Prim.Native.Nat.{◌-◌, ◌≤◌}
+use lib.ListN.{length}
+use Rattle.replay_engine.specs.Steps.{copied_from}
 use Rattle.replay_engine.proofs.copy.Given as goal
 
 abbrev pub invariant-loop-x : goal.invariant-loop-x

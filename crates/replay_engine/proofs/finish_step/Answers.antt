@@ -1,5 +1,4 @@
 use Rattle.replay_engine.specs.Steps.{moved_to, act_step}
-use borrow.Author.Rules.{rules}
 use Rattle.replay_engine.proofs.finish_step.Goals as goal
 
 pub returns-in-Go : goal.returns-in-Go

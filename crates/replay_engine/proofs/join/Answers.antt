@@ -1,6 +1,5 @@
 use mathlib.Core.Path.{sym, ◌∙◌}
 use Rattle.replay_engine.specs.Steps.{moved_to, gives_zero, joined_by, joined_step}
-use borrow.Author.Rules.{rules}
 use Rattle.replay_engine.proofs.join.Goals as goal
 
 pub returns-in-At : goal.returns-in-At

@@ -1,6 +1,5 @@
 use Rattle.replay_engine.specs.Steps.{may_choose}
 use borrow.Author.Tests.{eq-eqb, ne_eqb}
-use borrow.Author.Rules.{rules}
 use Rattle.replay_engine.proofs.may_choose.Goals as goal
 
 pub returns-then-choice-eq0 : goal.returns-then-choice-eq0

@@ -1,7 +1,6 @@
 use Prim.Native.Nat.{◌+◌, ◌*◌}
 use Rattle.replay_engine.specs.Steps.{outcome_of}
 use borrow.Author.Tests.{le-ltb, lt-ltb}
-use borrow.Author.Rules.{rules}
 use Rattle.replay_engine.proofs.moved.Goals as goal
 
 pub returns-then-i-row : goal.returns-then-i-row

@@ -1,5 +1,4 @@
 use Rattle.replay_engine.specs.Steps.{recorded, proceeded}
-use borrow.Author.Rules.{rules}
 use Rattle.replay_engine.proofs.proceed.Goals as goal
 
 pub returns-then-done : goal.returns-then-done

@@ -1,5 +1,4 @@
 use Rattle.replay_engine.specs.Steps.{start_space, start_of}
-use borrow.Author.Rules.{rules}
 use Rattle.replay_engine.proofs.start.Goals as goal
 
 pub returns : goal.returns

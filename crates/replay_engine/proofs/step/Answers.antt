@@ -1,6 +1,5 @@
 use mathlib.Core.Path.{sym, ◌∙◌}
 use Rattle.replay_engine.specs.Steps.{after_act, stepped_from, stepped}
-use borrow.Author.Rules.{rules}
 use Rattle.replay_engine.proofs.step.Goals as goal
 
 pub returns-then-may_choose : goal.returns-then-may_choose

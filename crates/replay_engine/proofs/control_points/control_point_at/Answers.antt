@@ -1,5 +1,4 @@
 use Rattle.replay_engine.specs.ControlPoints.{control_point_at}
-use borrow.Author.Rules.{rules}
 use Rattle.replay_engine.proofs.control_points.control_point_at.Goals as goal
 
 pub returns : goal.returns

@@ -1,6 +1,5 @@
 use mathlib.Core.Path.{ap}
 use Rattle.replay_engine.specs.ControlPoints.{settled, went_on}
-use borrow.Author.Rules.{rules}
 use Rattle.replay_engine.proofs.control_points.go_on.Goals as goal
 
 pub returns : goal.returns

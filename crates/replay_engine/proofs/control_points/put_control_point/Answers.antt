@@ -1,5 +1,4 @@
 use Rattle.replay_engine.specs.ControlPoints.{control_point_put}
-use borrow.Author.Rules.{rules}
 use Rattle.replay_engine.proofs.control_points.put_control_point.Goals as goal
 
 pub returns : goal.returns

@@ -1,6 +1,5 @@
 use Rattle.replay_engine.specs.Races.{access_by}
 use mathlib.Core.Path.{sym, ◌∙◌}
-use borrow.Author.Rules.{rules}
 use Rattle.replay_engine.proofs.races.access_by.Goals as goal
 
 pub returns-then-names_cell : goal.returns-then-names_cell

@@ -1,6 +1,5 @@
 use borrow.Author.Tests.{eq-eqb, ne_eqb}
 use Rattle.replay_engine.specs.Races.{access_at, access_of}
-use borrow.Author.Rules.{rules}
 use Rattle.replay_engine.proofs.races.access_of.Goals as goal
 
 pub returns-then-f-eq-READY : goal.returns-then-f-eq-READY

@@ -1,9 +1,7 @@
-use mathlib.Core.Path.{◌≡◌, sym, ap, ◌∙◌}
-use Prim.Native.Nat.{◌-◌}
+use mathlib.Core.Path.{sym, ap, ◌∙◌}
 use native.Mathlib.Omega.{arith}
 use Rattle.replay_engine.specs.Races.{any_writes}
 use Rattle.replay_engine.proofs.Writing.{write_here, write_past, write_end}
-use borrow.Author.Rules.{rules}
 use Rattle.replay_engine.proofs.races.any_writes.Goals as goal
 
 pub loop-i-init : goal.loop-i-init

@@ -1,10 +1,7 @@
 -- The loop's invariant: the threads from here on tell what all of them tell.
-use mathlib.Core.Path.{◌≡◌, sym, ap, ◌∙◌}
+use mathlib.Core.Path.{◌≡◌}
 use Prim.Native.Nat.{◌-◌}
-use native.Mathlib.Omega.{arith}
 use Rattle.replay_engine.specs.Races.{any_writes}
-use Rattle.replay_engine.proofs.Writing.{write_here, write_past, write_end}
-use borrow.Author.Rules.{rules}
 use Rattle.replay_engine.proofs.races.any_writes.Given as goal
 
 abbrev pub invariant-loop-i : goal.invariant-loop-i

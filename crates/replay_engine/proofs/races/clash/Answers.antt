@@ -1,6 +1,5 @@
 use mathlib.Core.Path.{sym, ◌∙◌}
 use Rattle.replay_engine.specs.Races.{clash}
-use borrow.Author.Rules.{rules}
 use Rattle.replay_engine.proofs.races.clash.Goals as goal
 
 pub returns-then-writes : goal.returns-then-writes

@@ -1,5 +1,4 @@
 use Rattle.replay_engine.specs.Races.{is_write}
-use borrow.Author.Rules.{rules}
 use Rattle.replay_engine.proofs.races.is_write.Goals as goal
 
 pub returns-in-None : goal.returns-in-None

@@ -1,7 +1,6 @@
 -- By whether any thread is about to write.
 use mathlib.Core.Path.{sym, ◌∙◌}
 use Rattle.replay_engine.proofs.Writing.{none_writes}
-use borrow.Author.Rules.{rules}
 use Rattle.replay_engine.proofs.races.lowest_pair.Goals as goal
 
 pub returns-then-any_writes : goal.returns-then-any_writes

@@ -1,5 +1,4 @@
 use Rattle.replay_engine.specs.Races.{names_cell}
-use borrow.Author.Rules.{rules}
 use Rattle.replay_engine.proofs.races.names_cell.Goals as goal
 
 pub returns : goal.returns

@@ -1,9 +1,7 @@
-use mathlib.Core.Path.{◌≡◌, sym, ap, ◌∙◌}
-use Prim.Native.Nat.{◌-◌}
+use mathlib.Core.Path.{sym, ap, ◌∙◌}
 use native.Mathlib.Omega.{arith}
 use Rattle.replay_engine.specs.Races.{pair_of, lowest_pair}
 use Rattle.replay_engine.proofs.Pairing.{pair_here, pair_past, pair_end}
-use borrow.Author.Rules.{rules}
 use Rattle.replay_engine.proofs.races.pair_among.Goals as goal
 
 pub loop-i-init : goal.loop-i-init

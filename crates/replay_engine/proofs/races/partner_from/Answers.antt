@@ -1,8 +1,6 @@
-use mathlib.Core.Path.{◌≡◌, refl, sym, ◌∙◌}
-use Prim.Native.Nat.{◌-◌}
-use Rattle.replay_engine.specs.Races.{partner_of, partner_from}
+use mathlib.Core.Path.{refl, sym, ◌∙◌}
+use Rattle.replay_engine.specs.Races.{partner_from}
 use Rattle.replay_engine.proofs.Pairing.{partner_here, partner_past, partner_end}
-use borrow.Author.Rules.{rules}
 use Rattle.replay_engine.proofs.races.partner_from.Goals as goal
 
 pub loop-j-init : goal.loop-j-init

@@ -1,9 +1,7 @@
 -- The loop's invariant: the search from here finds what the search from the start finds.
-use mathlib.Core.Path.{◌≡◌, refl, sym, ◌∙◌}
+use mathlib.Core.Path.{◌≡◌}
 use Prim.Native.Nat.{◌-◌}
-use Rattle.replay_engine.specs.Races.{partner_of, partner_from}
-use Rattle.replay_engine.proofs.Pairing.{partner_here, partner_past, partner_end}
-use borrow.Author.Rules.{rules}
+use Rattle.replay_engine.specs.Races.{partner_of}
 use Rattle.replay_engine.proofs.races.partner_from.Given as goal
 
 abbrev pub invariant-loop-j : goal.invariant-loop-j

@@ -1,5 +1,4 @@
 use Rattle.replay_engine.specs.Races.{reads}
-use borrow.Author.Rules.{rules}
 use Rattle.replay_engine.proofs.races.reads.Goals as goal
 
 pub returns-in-None : goal.returns-in-None
