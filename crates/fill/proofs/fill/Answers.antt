@@ -7,7 +7,6 @@ use Rattle.fill_theory.proofs.Reasons.{short_workspace}
 use Rattle.spec.specs.declared.Refusal.TheVariants.{ShortWorkspace}
 use Rattle.fill.proofs.Sound.{refusal_sound, told_as}
 use Rattle.fill.proofs.Promises.{room_enough, promises_kept}
-use borrow.Author.Rules.{rules}
 use Rattle.fill.proofs.fill.Goals as goal
 
 pub returns-then-work-lt-SIZE : goal.returns-then-work-lt-SIZE

@@ -1,6 +1,5 @@
 -- By what the maps came to: none, one too large, or all found, and then the sheet with them is written.
 use Rattle.fill.proofs.Stages.{nothing_sound, large_sound, some_filled, maps_filled}
-use borrow.Author.Rules.{rules}
 use Rattle.fill.proofs.fill_held.Goals as goal
 
 pub fill_maps-requires : goal.fill_maps-requires

@@ -1,6 +1,5 @@
 -- 43 first, then the rules; they leave the sheets as they stand, so the maps are found for the same ones.
 use Rattle.fill.proofs.Stages.{many_sound, maps_kept, rule_refused, rules_met}
-use borrow.Author.Rules.{rules}
 use Rattle.fill.proofs.fill_sheets.Goals as goal
 
 pub returns-then-header-gt-GIVEN_LIMIT : goal.returns-then-header-gt-GIVEN_LIMIT

@@ -1,7 +1,6 @@
 -- By what was read: a refusal is told, else the sheets are filled.
 use mathlib.Core.Path.{◌∙◌}
 use Rattle.fill.proofs.Stages.{sheet_refused, sheets_given, sheets_filled}
-use borrow.Author.Rules.{rules}
 use Rattle.fill.proofs.fill_texts.Goals as goal
 
 pub fill_sheets-requires : goal.fill_sheets-requires

@@ -1,6 +1,5 @@
 use mathlib.Core.Path.{refl}
 use Rattle.fill.specs.Stages.{grown_by}
-use borrow.Author.Rules.{rules}
 use Rattle.fill.proofs.grown.Goals as goal
 
 pub returns : goal.returns

@@ -3,7 +3,6 @@ use mathlib.Core.Path.{refl, sym}
 use native.Mathlib.Omega.{arith}
 use Rattle.fill.proofs.Column.{front_long, column_fillable, column_room, column_nothing, column_large, column_maps}
 use borrow.Author.Rules.{rules}
-use borrow.Author.Tests.{not-true, not-false}
 use Rattle.fill.proofs.maps.fill_column.Goals as goal
 
 pub overflow_cast-given : goal.overflow_cast-given

@@ -1,9 +1,6 @@
 use mathlib.Core.Path.{◌∙◌}
-use mathlib.Core.Logic.{⊎_elim}
-use Prim.Native.Nat.{◌≤◌, ◌-◌}
 use native.Mathlib.Omega.{arith}
-use borrow.Author.Rules.{rules}
-use Rattle.fill.proofs.SoFar.{SoFar, none_so_far, given_still, large_again, maps_again}
+use Rattle.fill.proofs.SoFar.{none_so_far, given_still, large_again, maps_again}
 use Rattle.fill.proofs.Whole.{filled_nothing, filled_large, filled_maps}
 use Rattle.fill.proofs.maps.fill_maps.Goals as goal
 use Rattle.fill.proofs.maps.fill_maps.Goals.{in-Large, in-Maps}

@@ -1,9 +1,5 @@
-use mathlib.Core.Path.{◌≡◌, refl, sym, ◌∙◌}
-use Prim.Native.Nat.{◌≤◌, ◌-◌}
+use mathlib.Core.Path.{refl, sym, ◌∙◌}
 use native.Mathlib.Omega.{arith}
-use borrow.Author.Rules.{rules}
-use lib.ListN.{length, drop}
-use Rattle.fill_theory.specs.Answer.{number_limit, map_at_most}
 use Rattle.fill.proofs.Fits.{fits_on, fits_out, fits_end}
 use Rattle.fill.proofs.maps.posts_fit.Goals as goal
 

@@ -1,11 +1,8 @@
 -- The loop's invariant: whether all posts fit is whether those from i on do.
-use mathlib.Core.Path.{◌≡◌, refl, sym, ◌∙◌}
+use mathlib.Core.Path.{◌≡◌}
 use Prim.Native.Nat.{◌≤◌, ◌-◌}
-use native.Mathlib.Omega.{arith}
-use borrow.Author.Rules.{rules}
 use lib.ListN.{length, drop}
 use Rattle.fill_theory.specs.Answer.{number_limit, map_at_most}
-use Rattle.fill.proofs.Fits.{fits_on, fits_out, fits_end}
 use Rattle.fill.proofs.maps.posts_fit.Given as goal
 
 abbrev pub invariant-loop-i : goal.invariant-loop-i

@@ -1,8 +1,5 @@
 use mathlib.Core.Path.{refl, ◌∙◌}
-use Prim.Native.Nat.{◌≤◌, ◌-◌}
 use native.Mathlib.Omega.{arith}
-use borrow.Author.Rules.{rules}
-use Rattle.fill.specs.Columns.{PostsShown}
 use Rattle.fill.proofs.Stores.{none_shown, shown_again}
 use Rattle.fill.proofs.maps.show_maps.Goals as goal
 

@@ -1,11 +1,7 @@
 use mathlib.Core.Path.{refl, ◌∙◌}
-use Prim.Native.Nat.{◌≤◌, ◌-◌}
 use native.Mathlib.Omega.{arith}
-use borrow.Author.Rules.{rules}
-use lib.ListN.{length}
-use Rattle.fill.specs.Columns.{OneColumn}
 use Rattle.fill.proofs.Fits.{fits_each}
-use Rattle.fill.proofs.Stores.{StoredTo, none_stored, column_again, stored_again}
+use Rattle.fill.proofs.Stores.{none_stored, column_again, stored_again}
 use Rattle.fill.proofs.maps.store_column.Goals as goal
 
 pub loop-i-init : goal.loop-i-init

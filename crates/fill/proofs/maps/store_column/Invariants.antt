@@ -1,12 +1,8 @@
 -- The loop's invariant: the posts of the steps below i are stored, and nothing else is changed.
-use mathlib.Core.Path.{refl, ◌∙◌}
 use Prim.Native.Nat.{◌≤◌, ◌-◌}
-use native.Mathlib.Omega.{arith}
-use borrow.Author.Rules.{rules}
 use lib.ListN.{length}
 use Rattle.fill.specs.Columns.{OneColumn}
-use Rattle.fill.proofs.Fits.{fits_each}
-use Rattle.fill.proofs.Stores.{StoredTo, none_stored, column_again, stored_again}
+use Rattle.fill.proofs.Stores.{StoredTo}
 use Rattle.fill.proofs.maps.store_column.Given as goal
 
 abbrev pub invariant-loop-i : goal.invariant-loop-i

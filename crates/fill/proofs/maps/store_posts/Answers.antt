@@ -1,5 +1,4 @@
 use mathlib.Core.Path.{sym, ◌∙◌}
-use borrow.Author.Rules.{rules}
 use Rattle.fill.proofs.Stores.{nothing_stored}
 use Rattle.fill.proofs.maps.store_posts.Goals as goal
 
