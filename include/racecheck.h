@@ -1,7 +1,7 @@
 /* racecheck for callers in C: a proved checker of race freedom, practice pairs for it, the filling in of splits, and the replay
  * of recorded orders.
  *
- * Built by `rt staticlib entries` as target/staticlib/libentries.a, installed by tools/install as libracecheck.a and, linked
+ * Built by `./build entries` as target/staticlib/libentries.a, installed by tools/install as libracecheck.a and, linked
  * anew, as libracecheck.so; `pkg-config --cflags --libs racecheck` has the words for the compiler, docs/PYTHON.md the module for
  * Python. It is for x86-64 and needs nothing but the C library's memset and memcpy. What each call promises is proved; the
  * promises stand in full in crates/entries/src/lib.rt and are told in docs/PROMISES.md.

@@ -1,4 +1,4 @@
-"""include/racecheck.h: its calls are those of crates/entries, and a program in C that is linked by it gets what it says."""
+"""include/racecheck.h: its calls are those of crates/entries_c, and a program in C that is linked by it gets what it says."""
 import os
 import re
 import shutil
@@ -11,7 +11,7 @@ from installation.shared import COMPILERS, make_shared
 from racecheck.finding import NAME
 
 HEADER = ROOT / "include" / "racecheck.h"
-ENTRIES = ROOT / "crates" / "entries" / "src" / "lib.rt"
+ENTRIES = ROOT / "crates" / "entries_c" / "src" / "lib.rt"
 C_TYPES = {
     "u32": "uint32_t {0}", "&mut u32": "uint32_t *{0}", "&mut u64": "uint64_t *{0}",
     "&[u8]": "const uint8_t *{0}, size_t {0}_len", "&mut [u8]": "uint8_t *{0}, size_t {0}_len",

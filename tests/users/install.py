@@ -193,7 +193,7 @@ def check_again(repository, prefix):
     check("something else is spared", (prefix / "bin" / "fill").read_text(), "somebody else's")
     (repository / "target" / "bin" / "racefill").unlink()
     done = install(repository, prefix)
-    check("a program that is not built", (done.returncode, "not built: target/bin/racefill (rt check" in done.stderr), (2, True))
+    check("a program that is not built", (done.returncode, "not built: target/bin/racefill (./build" in done.stderr), (2, True))
 
 
 def check_install(programs):

@@ -6,7 +6,7 @@ from checks import ROOT, check
 from where import named_in_row
 
 # The crates of the offered calls, and that of the entries for C.
-CRATES = ["checker", "drill", "fill", "replay", "replay_pieces", "entries"]
+CRATES = ["checker", "drill", "fill", "replay", "replay_pieces", "entries", "entries_c"]
 # What an entry for C leaves out, since it hands out numbers alone; and what it says beside, as that of a whole replay does.
 LEFT_OUT = {"racecheck_replay": {"ending"}}
 BESIDE = {"racecheck_replay_told": {"report", "stops", "first_race", "safe"}}
@@ -49,8 +49,8 @@ def theorem_faults(cells):
 
 
 def entry_faults(promised):
-    entries = {call: set(clauses) for (_, call), clauses in promised.items() if call.startswith("racecheck_")}
-    return [f"{entry} has other clauses than the call behind it" for entry, clauses in entries.items()
+    entries = [(call, set(clauses)) for (_, call), clauses in promised.items() if call.startswith("racecheck_")]
+    return [f"{entry} has other clauses than the call behind it" for entry, clauses in entries
             if clauses != behind(entry, promised) - LEFT_OUT.get(entry, set()) | BESIDE.get(entry, set())]
 
 

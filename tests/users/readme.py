@@ -32,7 +32,7 @@ def check_order():
             wanted = set(re.findall(r"target/bin/(\w+)", line))
             wanted.update(one for tool in re.findall(r"tools/([\w-]+)", line) for one in RUNS[tool])
             early += [line] * (not wanted <= built)
-        for words in re.findall(r"rt (?:check|staticlib) ([a-z ]+)", line):
+        for words in re.findall(r"\./build ([a-z ]+)", line):
             built |= set(words.split())
     check("README.md: commands that come too early", early, [])
 

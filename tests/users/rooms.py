@@ -11,7 +11,7 @@ def rooms():
     """Each room of crates.txt: its name, and its crates with those that they stand on."""
     for part in (ROOT / "crates.txt").read_text().split("\n\n# ")[1:]:
         heading, *lines = part.strip().split("\n")
-        yield re.split(r"[:,]", heading)[0], [line.split(":") for line in lines]
+        yield re.split(r"[:,]", heading)[0], [[re.sub(r" .*", "", words) for words in line.split(":")[:1]] + line.split(":")[1:] for line in lines]
 
 
 def rows(heading):

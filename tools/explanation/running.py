@@ -50,7 +50,7 @@ def find_program(name):
     own = [path for path in (repository / "target" / "bin" / name, repository / "bin" / name) if os.access(path, os.X_OK)]
     chosen = os.environ.get(variable) or (own[0] if own else shutil.which(name))
     if chosen is None:
-        raise Failure(f"{name} is not built (rt check {name}) and not on the PATH; set {variable} to its path")
+        raise Failure(f"{name} is not built (./build {name}) and not on the PATH; set {variable} to its path")
     if not (os.path.isfile(chosen) and os.access(chosen, os.X_OK)):
         raise Failure(f"no {name} that can be run at: {chosen}")
     return os.path.abspath(chosen)

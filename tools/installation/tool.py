@@ -90,7 +90,7 @@ def _install(prefix, programs):
 def _find_all(paths):
     missing = [str(path.relative_to(ROOT)) for path in (*paths, ARCHIVE) if not path.is_file()]
     if missing:
-        raise Failure(f"not built: {', '.join(missing)} (rt check {' '.join(PROGRAMS)} && rt staticlib entries)")
+        raise Failure(f"not built: {', '.join(missing)} (./build {' '.join((*PROGRAMS, 'entries'))})")
 
 
 def _spare_others(prefix):
