@@ -30,9 +30,6 @@ plain_count-requires c =
       spelled = heading_plain _ (marks _ _ c.field-field.result _ _ c.field-field.ensures c.same.ensures ∙ c.if-same.true);
     }
 
-pub returns-then-same : goal.returns-then-same
-returns-then-same c = c.plain_count.ensures
-
 pub slice_bounds-same-count-2 : goal.slice_bounds-same-count-2
 slice_bounds-same-count-2 c = (span_le _ _ c.field-field.result c.field-field.ensures (placed_top _ _ c.start-top.ensures c.requires)).0
 
@@ -50,9 +47,6 @@ full_count-requires c =
       here = record { placed = placed_top _ _ c.start-top.ensures c.requires; left = sym c.at_end.ensures ∙ c.if-at_end.false; field = c.field-field.ensures };
       spelled = heading_full _ (marks _ _ c.field-field.result _ _ c.field-field.ensures c.same.ensures ∙ c.if-same.false) (marks _ _ c.field-field.result _ _ c.field-field.ensures c.same-2.ensures ∙ c.if-same-2.true);
     }
-
-pub returns-then-same-2 : goal.returns-then-same-2
-returns-then-same-2 c = c.full_count.ensures
 
 pub returns : goal.returns
 unfolding bytes

@@ -30,9 +30,6 @@ freelock_line-requires c =
       freelock = marked _ _ c.field-field.result _ _ c.field-field.ensures c.same.ensures ∙ c.if-same.true;
     }
 
-pub returns-then-same : goal.returns-then-same
-returns-then-same c = c.freelock_line.ensures
-
 pub slice_bounds-same-count-2 : goal.slice_bounds-same-count-2
 slice_bounds-same-count-2 c = (span_le _ _ c.field-field.result c.field-field.ensures c.requires).0
 
@@ -50,9 +47,6 @@ proc_line-requires c =
       other = marked _ _ c.field-field.result _ _ c.field-field.ensures c.same.ensures ∙ c.if-same.false;
       proc = marked _ _ c.field-field.result _ _ c.field-field.ensures c.same-2.ensures ∙ c.if-same-2.true;
     }
-
-pub returns-then-same-2 : goal.returns-then-same-2
-returns-then-same-2 c = c.proc_line.ensures
 
 pub slice_bounds-word_under-count : goal.slice_bounds-word_under-count
 slice_bounds-word_under-count c = (span_le _ _ c.field-field.result c.field-field.ensures c.requires).0
@@ -84,6 +78,3 @@ word_line-requires c =
       };
       spelled = span_known _ _ _ c.field-field.result c.field-field.ensures _ (sym c.word_under.ensures ∙ c.in-Known.is);
     }
-
-pub returns : goal.returns
-returns c = c.word_line.ensures
