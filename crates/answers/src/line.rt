@@ -9,7 +9,7 @@ use spec::Answer;
 use writer::{write_bytes, write_numbers};
 
 // What a run comes to: the answer to the pair of sheets, or that they can't be read.
-#[derive(Drop)]
+#[derive(Clone, Copy)]
 pub enum Outcome {
     Answered(Answer),
     Unread,

@@ -8,7 +8,7 @@ use native.Mathlib.Omega.{arith}
 use lib.Dec.{eqb, ltb}
 use lib.ListN.{length, replicate}
 use borrow.Author.Tests.{ltb-true, lt-ltb, le-leb}
-use Rattle.spec.specs.Choice.{if◌then◌else◌}
+use Rattle.spec.specs.Choice.{when◌then◌else◌}
 use Rattle.spec.specs.Text.{bytes, Line, closed, unclosed, lines, Field, on_field, fields, digit_limit, digits, leading_zero, value, numeral}
 use Rattle.spec.specs.Reading.{Result, refuse, ok, ◌>>=◌, LineResult, good, bad, bad_range, seen, below, in_range, all_in_range, with_numeral, numerals, numbers, split_sheet, Place, passed, next_line, read_line, read_lines, begin, end, or_bad_form}
 use Rattle.spec.specs.Words.{takes_start, keeps_back}
@@ -61,8 +61,8 @@ zero_in_range types maps t m = ap (ltb t types &&◌) (by_map (ltb m maps) refl)
     by_map false h = rw h
 
 judged_alike : (t m : ℕ) (b : Bool)
-    → seen (row_of (some (record { 0 = 0 }))) (if b then good (t ∷ m ∷ []) else bad bad_range)
-    ≡ seen (λ ns. row_of (some (nth_map 2 ns)) ns) (if b then good (t ∷ m ∷ 0 ∷ []) else bad bad_range)
+    → seen (row_of (some (record { 0 = 0 }))) (when b then good (t ∷ m ∷ []) else bad bad_range)
+    ≡ seen (λ ns. row_of (some (nth_map 2 ns)) ns) (when b then good (t ∷ m ∷ 0 ∷ []) else bad bad_range)
 unfolding seen row_of
 judged_alike t m true = refl
 judged_alike t m false = refl

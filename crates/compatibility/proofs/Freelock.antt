@@ -7,7 +7,7 @@ use native.Mathlib.Omega.{arith}
 use lib.Dec.{leb}
 use lib.ListN.{length, drop, length-append, length-drop, length-map}
 use borrow.Author.Tests.{leb-true, le-leb}
-use Rattle.spec.specs.Choice.{if◌then◌else◌}
+use Rattle.spec.specs.Choice.{when◌then◌else◌}
 use Rattle.spec.specs.Text.{bytes, same, Line, closed, unclosed, lines, Field, fields, look_up}
 use Rattle.spec.specs.Reading.{Result, refuse, ok, ◌>>=◌, require, LineResult, good, bad, or_bad_form, program_sheet, Place, passed, next_line, read_line, read_lines, begin, end}
 use Rattle.spec.specs.Words.{leaf_words, cell_words, lock_words, unary_words, words, words_under}
@@ -48,13 +48,13 @@ unfolding lock_instead freelock_first
 changed_alike read read' empty gone other l = by_fields (fields l) refl
   where
     by_word : (f : Field) (fs : List Field) → fields l ≡ f ∷ fs → (b : Bool) → same f (bytes "freelock") ≡ b
-        → read (f ∷ fs) ≡ read' (fields (if b then drop 4 l else l))
+        → read (f ∷ fs) ≡ read' (fields (when b then drop 4 l else l))
     by_word f fs e true w =
         let is : f ≡ bytes "freelock" = same_equal f (bytes "freelock") w in
         ap (λ (x : Field). read (x ∷ fs)) is ∙ gone fs ∙ sym (ap read' (lock_behind l fs (e ∙ ap (◌∷ fs) is)))
     by_word f fs e false w = other f fs w ∙ sym (ap read' e)
 
-    by_fields : (fs : List Field) → fields l ≡ fs → read fs ≡ read' (fields (if freelock_first fs then drop 4 l else l))
+    by_fields : (fs : List Field) → fields l ≡ fs → read fs ≡ read' (fields (when freelock_first fs then drop 4 l else l))
     by_fields [] e = empty ∙ sym (ap read' e)
     by_fields (f ∷ fs) e = by_word f fs e (same f (bytes "freelock")) refl
 
@@ -169,7 +169,7 @@ line_instead : (l : List ℕ) → OneLine l → OneLine (lock_instead l)
 unfolding lock_instead
 line_instead l one = by_word (freelock_first (fields l))
   where
-    by_word : (b : Bool) → OneLine (if b then drop 4 l else l)
+    by_word : (b : Bool) → OneLine (when b then drop 4 l else l)
     by_word true = drop_one_line 4 l one
     by_word false = one
 
@@ -187,7 +187,7 @@ line_no_longer : (l : List ℕ) → length (lock_instead l) ≤ length l
 unfolding lock_instead
 line_no_longer l = by_word (freelock_first (fields l))
   where
-    by_word : (b : Bool) → length (if b then drop 4 l else l) ≤ length l
+    by_word : (b : Bool) → length (when b then drop 4 l else l) ≤ length l
     by_word true = omega (arith, length-drop 4 l)
     by_word false = omega arith
 

@@ -10,7 +10,7 @@ use native.Mathlib.Omega.{arith}
 use lib.Dec.{ltb}
 use lib.ListN.{length}
 use borrow.Author.Tests.{le-leb}
-use Rattle.spec.specs.Choice.{if◌then◌else◌}
+use Rattle.spec.specs.Choice.{when◌then◌else◌}
 use Rattle.spec.specs.Text.{bytes, same, Line, closed, lines, Field, look_up, numeral}
 use Rattle.spec.specs.Reading.{ok, ◌>>=◌, good, bad, bad_range, seen, ◌to◌, below, in_range, all_in_range, with_numeral, numerals, numbers, or_bad_form}
 use Rattle.spec.specs.Expression.{Step}
@@ -42,8 +42,8 @@ module _ (maps : ℕ) where
   out_numbers (some k) none x h = wrong_is_not_right h
   out_numbers (some k) (some z) x h = in_range_lem (ltb k maps) (in_range (0 to 0) z && true) h
     where
-      in_range_lem : (a b : Bool) → seen (lock_of C2) (if a && b then good (k ∷ z ∷ []) else bad bad_range) ≡ good x
-          → seen (lock_of C3) (if a && (a && true) then good (k ∷ k ∷ []) else bad bad_range) ≡ good x
+      in_range_lem : (a b : Bool) → seen (lock_of C2) (when a && b then good (k ∷ z ∷ []) else bad bad_range) ≡ good x
+          → seen (lock_of C3) (when a && (a && true) then good (k ∷ k ∷ []) else bad bad_range) ≡ good x
       in_range_lem true true h = h
       in_range_lem true false h = wrong_is_not_right h
       in_range_lem false b h = wrong_is_not_right h
@@ -86,7 +86,7 @@ module _ (H : Header) (second : H.heading ≡ C2) where
   type_written own [] x h = absurd (no_fields own x h)
   type_written own (f ∷ fs) x h = by_word (same f (bytes "lock")) refl
     where
-      by_word : (b : Bool) → same f (bytes "lock") ≡ b → type_line H' own (if b then f ∷ second_too fs else f ∷ fs) ≡ good x
+      by_word : (b : Bool) → same f (bytes "lock") ≡ b → type_line H' own (when b then f ∷ second_too fs else f ∷ fs) ≡ good x
       by_word true w =
           let is_lock : f ≡ bytes "lock" = same_equal f (bytes "lock") w in
           rw is_lock (lock_written own fs x (rw is_lock at h))

@@ -5,7 +5,7 @@ use mathlib.Core.Bool.{Bool, ◌&&◌}
 use mathlib.Core.Option.{Option, none, some}
 use Prim.Native.Nat.{ℕ, ◌+◌}
 use lib.ListN.{get_or}
-use Rattle.spec.specs.Choice.{if◌then◌else◌}
+use Rattle.spec.specs.Choice.{when◌then◌else◌}
 use Rattle.spec.specs.Reading.{Result, ◌>>=◌, require}
 use Rattle.spec.specs.Words.{role, binding, pre_of_part, pre_of_second}
 use Rattle.spec.specs.Expression.{Expr, leaf, unary, binary, Procedure}
@@ -71,7 +71,7 @@ module _ (h : Heading) (S : Split) where
   same_may_show : (t u : TypeNumber) → may_show (under h S) t u ≡ may_show S t u
   unfolding may_show looser_lock type_at map_at under
   same_may_show t u =
-      ap (λ (x : Bool). if is lock (type_at S t) && is lock (type_at S u) then looser_lock S (type_at S t) (type_at S u) else x) (same_agree t u)
+      ap (λ (x : Bool). when is lock (type_at S t) && is lock (type_at S u) then looser_lock S (type_at S t) (type_at S u) else x) (same_agree t u)
 
   same_enough : (x : TypeLine) → takes_enough (under h S) x ≡ takes_enough S x
   unfolding takes_enough map_at under

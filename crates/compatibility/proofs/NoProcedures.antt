@@ -8,7 +8,7 @@ use Prim.Native.Nat.{ℕ, zero, suc, ◌+◌, ◌≤◌}
 use native.Mathlib.Omega.{arith}
 use lib.ListN.{length, length-append}
 use borrow.Author.Tests.{le-leb, ne_eqb}
-use Rattle.spec.specs.Choice.{if◌then◌else◌}
+use Rattle.spec.specs.Choice.{when◌then◌else◌}
 use Rattle.spec.specs.Text.{bytes, same, Line, closed, unclosed, lines, Field, on_field, fields, look_up}
 use Rattle.spec.specs.Reading.{Result, ok, ◌>>=◌, program_sheet, LineResult, good, bad, bad_range, freelock, seen, refuse_after, ◌to◌, in_range, all_in_range, numerals, numbers, Place, passed, next_line, read_line, read_lines, or_bad_form}
 use Rattle.spec.specs.Words.{words, words_under}
@@ -42,8 +42,8 @@ judged none = refl
 judged (some []) = refl
 judged (some (n ∷ [])) = go (all_in_range (count_ranges P) (n ∷ []))
   where
-    go : (x : Bool) → seen (counts_of P2) (if x then good (n ∷ 0 ∷ []) else bad bad_range)
-        ≡ seen under_p2 (seen (counts_of P) (if x then good (n ∷ []) else bad bad_range))
+    go : (x : Bool) → seen (counts_of P2) (when x then good (n ∷ 0 ∷ []) else bad bad_range)
+        ≡ seen under_p2 (seen (counts_of P) (when x then good (n ∷ []) else bad bad_range))
     go true = refl
     go false = refl
 judged (some (n ∷ k ∷ ns)) =
@@ -79,10 +79,10 @@ item_same k [] h = refl
 item_same k (f ∷ fs) h = by_word (same f (bytes "proc")) (same (bytes "call") f) h
   where
     by_word : (b c : Bool) → (b || c) ≡ false
-        → (if same f (bytes "freelock") then refuse_after freelock (numbers ((0 to 0) ∷ []) fs)
-        else if b then proc_line P2 k fs else or_bad_form (if c then some (Unary Call) else look_up words f) λ w. word_line k w fs)
-        ≡ (if same f (bytes "freelock") then refuse_after freelock (numbers ((0 to 0) ∷ []) fs)
-        else if b then proc_line P k fs else or_bad_form (look_up words f) λ w. word_line k w fs)
+        → (when same f (bytes "freelock") then refuse_after freelock (numbers ((0 to 0) ∷ []) fs)
+        else when b then proc_line P2 k fs else or_bad_form (when c then some (Unary Call) else look_up words f) λ w. word_line k w fs)
+        ≡ (when same f (bytes "freelock") then refuse_after freelock (numbers ((0 to 0) ∷ []) fs)
+        else when b then proc_line P k fs else or_bad_form (look_up words f) λ w. word_line k w fs)
     by_word true c h = true_is_not_false h
     by_word false true h = true_is_not_false h
     by_word false false h = refl

@@ -4,7 +4,7 @@ use mathlib.Core.List.{List, [], ◌∷◌}
 use mathlib.Core.Bool.{Bool, true, false}
 use mathlib.Core.Option.{Option, some}
 use Prim.Native.Nat.{ℕ, zero, suc, ◌+◌}
-use Rattle.spec.specs.Choice.{if◌then◌else◌}
+use Rattle.spec.specs.Choice.{when◌then◌else◌}
 use Rattle.spec.specs.Text.{bytes, same as same_bytes, Line, closed, unclosed, lines, Field, fields, look_up}
 use Rattle.spec.specs.Reading.{Result, ◌>>=◌, Fault, bad_form, LineResult, good, bad, freelock, refuse_after, ◌to◌, numbers, program_sheet, form, faulty, passed, next_line, read_line, begin, or_bad_form, seen}
 use Rattle.spec.specs.Words.{leaf_words, unary_words, cell_words, lock_words, hold_words, binary_words, words, words_under}
@@ -30,11 +30,11 @@ use Rattle.compatibility.proofs.ProgramStages.{after_count, after_items}
 item_alike : (k : ℕ) (fs : List Field) → plain_item_line k fs ≡ item_line P k fs
 unfolding plain_item_line item_line words_under
 item_alike k [] = refl
-item_alike k (f ∷ fs) = ap (λ (x : LineResult Item). if same_bytes f (bytes "freelock") then refuse_after freelock (numbers ((0 to 0) ∷ []) fs) else x)
+item_alike k (f ∷ fs) = ap (λ (x : LineResult Item). when same_bytes f (bytes "freelock") then refuse_after freelock (numbers ((0 to 0) ∷ []) fs) else x)
     (by_word (same_bytes f (bytes "proc")) refl)
   where
     by_word : (b : Bool) → same_bytes f (bytes "proc") ≡ b
-        → or_bad_form (look_up words f) (λ w. word_line k w fs) ≡ (if b then proc_line P k fs else or_bad_form (look_up words f) λ w. word_line k w fs)
+        → or_bad_form (look_up words f) (λ w. word_line k w fs) ≡ (when b then proc_line P k fs else or_bad_form (look_up words f) λ w. word_line k w fs)
     by_word true e =
         let is : f ≡ bytes "proc" = same_equal f (bytes "proc") e in
         rw is (unfold proc_line or_bad_form look_up words leaf_words unary_words cell_words lock_words hold_words binary_words same_bytes bytes in refl)
@@ -67,8 +67,8 @@ count_alike (f ∷ fs) = by_heading (same_bytes (bytes "P") f) _
         let (ns, _, is) = seen_right _ e in
         plain_read N (sym (ap (λ (x : Counts). x.heading) is))
 
-    by_heading : (b : Bool) (other : Option ProgramHeading) → CountAlike (if b then seen (counts_of P) (numbers (count_ranges P) fs) else bad bad_form)
-        (or_bad_form (if b then some P else other) λ h. seen (counts_of h) (numbers (count_ranges h) fs))
+    by_heading : (b : Bool) (other : Option ProgramHeading) → CountAlike (when b then seen (counts_of P) (numbers (count_ranges P) fs) else bad bad_form)
+        (or_bad_form (when b then some P else other) λ h. seen (counts_of h) (numbers (count_ranges h) fs))
     by_heading true other = headed _ refl
     by_heading false other = refused _
 

@@ -4,7 +4,7 @@ use mathlib.Core.List.{List}
 use mathlib.Core.Bool.{Bool, true, false}
 use Prim.Native.Nat.{ℕ}
 use lib.ListN.{length}
-use Rattle.spec.specs.Choice.{if◌then◌else◌}
+use Rattle.spec.specs.Choice.{when◌then◌else◌}
 use Rattle.spec.specs.Text.{Field}
 use Rattle.spec.specs.Reading.{Result, Fault, bad_form, bad_range, LineResult, good, bad, program_sheet, split_sheet, SheetName, form, outside, faulty}
 use Rattle.spec.specs.Program.{Program, program, count_line, item_lines}
@@ -44,7 +44,7 @@ module _ (sheet : SheetName) {A : Type 0} where
   unfolding by_seven
   by_seven_alike read fs = by_length (over_seven fs)
     where
-      by_length : (b : Bool) → Alike (if b then bad bad_form else read fs) (read fs)
+      by_length : (b : Bool) → Alike (when b then bad bad_form else read fs) (read fs)
       by_length true = lost lost_form
       by_length false = same_seen
 
@@ -54,7 +54,7 @@ module _ (sheet : SheetName) {A : Type 0} where
   narrowed_alike test (same_seen {x = bad w}) = same_seen
   narrowed_alike test (same_seen {x = good a}) = by_test (test a)
     where
-      by_test : (b : Bool) → Alike (if b then good a else bad bad_range) (good a)
+      by_test : (b : Bool) → Alike (when b then good a else bad bad_range) (good a)
       by_test true = same_seen
       by_test false = lost lost_range
 

@@ -10,7 +10,7 @@ use native.Mathlib.Omega.{arith}
 use lib.Dec.{leb}
 use lib.ListN.{length, replicate, length-append}
 use borrow.Author.Tests.{le-leb, ne_eqb}
-use Rattle.spec.specs.Choice.{if◌then◌else◌}
+use Rattle.spec.specs.Choice.{when◌then◌else◌}
 use Rattle.spec.specs.Text.{bytes, same, Line, closed, unclosed, lines, Field, on_field, fields, look_up}
 use Rattle.spec.specs.Reading.{split_sheet, Result, refuse, ok, ◌>>=◌, require, no_start, LineResult, good, bad, bad_range, seen, ensure, all_in_range, numerals, numbers, faulty, passed, next_line, read_line, read_lines, begin, end, Place, or_bad_form}
 use Rattle.spec.specs.Expression.{Step}
@@ -47,11 +47,11 @@ judged (some (d ∷ [])) = refl
 judged (some (d ∷ l ∷ [])) = refl
 judged (some (d ∷ l ∷ t ∷ [])) = refl
 judged (some (d ∷ l ∷ t ∷ m ∷ [])) =
-    ap (λ (x : Bool). seen (header_of C2) (if x then good (d ∷ l ∷ t ∷ m ∷ 0 ∷ []) else bad bad_range)) (sym (first_map_fits d l t m))
+    ap (λ (x : Bool). seen (header_of C2) (when x then good (d ∷ l ∷ t ∷ m ∷ 0 ∷ []) else bad bad_range)) (sym (first_map_fits d l t m))
     ∙ go (all_in_range (header_ranges C m) (d ∷ l ∷ t ∷ m ∷ []))
   where
-    go : (x : Bool) → seen (header_of C2) (if x then good (d ∷ l ∷ t ∷ m ∷ 0 ∷ []) else bad bad_range)
-        ≡ seen (headed_as C2) (seen (header_of C) (if x then good (d ∷ l ∷ t ∷ m ∷ []) else bad bad_range))
+    go : (x : Bool) → seen (header_of C2) (when x then good (d ∷ l ∷ t ∷ m ∷ 0 ∷ []) else bad bad_range)
+        ≡ seen (headed_as C2) (seen (header_of C) (when x then good (d ∷ l ∷ t ∷ m ∷ []) else bad bad_range))
     go true = refl
     go false = refl
 judged (some (d ∷ l ∷ t ∷ m ∷ r ∷ ns)) =

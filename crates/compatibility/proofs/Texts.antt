@@ -7,7 +7,7 @@ use native.Mathlib.Omega.{arith}
 use lib.Dec.{eqb}
 use lib.ListN.{length}
 use borrow.Author.Tests.{ne_eqb, eqb-true, eqb-false}
-use Rattle.spec.specs.Choice.{if◌then◌else◌}
+use Rattle.spec.specs.Choice.{when◌then◌else◌}
 use Rattle.spec.specs.Text.{Line, closed, unclosed, on_line, lines, Field, on_field, fields}
 use Rattle.compatibility.specs.Texts.{OneLine, ◌above◌, joined}
 
@@ -29,7 +29,7 @@ unfolding lines on_line
 text_lined [] = no_line
 text_lined (b ∷ t) = by_byte (eqb b 10) refl (text_lined t)
   where
-    by_byte : {ls : List Line} (x : Bool) → eqb b 10 ≡ x → Lined ls → Lined (if x then closed [] ∷ ls else on_line b ls)
+    by_byte : {ls : List Line} (x : Bool) → eqb b 10 ≡ x → Lined ls → Lined (when x then closed [] ∷ ls else on_line b ls)
     by_byte true e w = closed_line tt w
     by_byte false e no_line = last_line {b = b} {l = []} (eqb-false b 10 e, tt)
     by_byte false e (closed_line {l = l} one w) = closed_line {l = b ∷ l} (eqb-false b 10 e, one) w
@@ -51,7 +51,7 @@ unfolding joined lines on_line ◌above◌
 joined_lines [] = refl
 joined_lines (b ∷ t) = by_byte (eqb b 10) refl (lines t) (joined_lines t)
   where
-    by_byte : (x : Bool) → eqb b 10 ≡ x → (ls : List Line) → joined ls ≡ t → joined (if x then closed [] ∷ ls else on_line b ls) ≡ b ∷ t
+    by_byte : (x : Bool) → eqb b 10 ≡ x → (ls : List Line) → joined ls ≡ t → joined (when x then closed [] ∷ ls else on_line b ls) ≡ b ∷ t
     by_byte true e ls h = rw (eqb-true b 10 e) (ap (10 ∷◌) h)
     by_byte false e [] h = ap (b ∷◌) h
     by_byte false e (closed l ∷ ls) h = ap (b ∷◌) h
@@ -64,7 +64,7 @@ unfolding fields on_field
 some_fields [] = omega arith
 some_fields (b ∷ l) = go (eqb b 44) (fields l)
   where
-    go : (x : Bool) (fs : List Field) → 0 < length (if x then [] ∷ fs else on_field b fs)
+    go : (x : Bool) (fs : List Field) → 0 < length (when x then [] ∷ fs else on_field b fs)
     go true fs = omega arith
     go false [] = omega arith
     go false (f ∷ fs) = omega arith
@@ -75,7 +75,7 @@ fields_append [] k = refl
 fields_append (b ∷ l) k = rw (fields_append l k) (go (eqb b 44) (fields l) (some_fields l))
   where
     go : (x : Bool) (fs : List Field) → 0 < length fs
-        → (if x then [] ∷ (fs ++ fields k) else on_field b (fs ++ fields k)) ≡ (if x then [] ∷ fs else on_field b fs) ++ fields k
+        → (when x then [] ∷ (fs ++ fields k) else on_field b (fs ++ fields k)) ≡ (when x then [] ∷ fs else on_field b fs) ++ fields k
     go true fs h = refl
     go false [] h = absurd (omega arith)
     go false (f ∷ fs) h = refl
@@ -87,7 +87,7 @@ unfolding fields on_field
 field_byte c f fs [] h = let clash : ◌≡◌ {A = ℕ} 0 1 = cc in absurd (omega arith)
 field_byte c f fs (b ∷ l) h = by_byte (eqb b 44) (fields l) refl (some_fields l) h
   where
-    by_byte : (x : Bool) (gs : List Field) → fields l ≡ gs → 0 < length gs → (if x then [] ∷ gs else on_field b gs) ≡ (c ∷ f) ∷ fs
+    by_byte : (x : Bool) (gs : List Field) → fields l ≡ gs → 0 < length gs → (when x then [] ∷ gs else on_field b gs) ≡ (c ∷ f) ∷ fs
         → (k : List ℕ) × (b ∷ l ≡ c ∷ k) × (fields k ≡ f ∷ fs)
     by_byte true gs e some h = let clash : ◌≡◌ {A = ℕ} 0 1 = cc in absurd (omega arith)
     by_byte false [] e some h = absurd (omega (arith, some))

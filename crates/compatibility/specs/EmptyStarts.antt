@@ -1,7 +1,7 @@
 -- Request (vii), "A spawn with no start given". Before it an empty start meant map 0.
 use Rattle.std.specs.Prelude.{◌≡◌, List, [], ◌∷◌, ◌++◌, map, Bool, false, ◌&&◌, not, ℕ, ◌≤◌, length, replicate, take}
 use Rattle.std.proofs.Math.Option.{some}
-use Rattle.spec.specs.Choice.{if◌then◌else◌}
+use Rattle.spec.specs.Choice.{when◌then◌else◌}
 use Rattle.spec.specs.Text.{bytes, Line, closed, unclosed, lines, Field, fields}
 use Rattle.spec.specs.Reading.{ok, LineResult, good, bad, seen, below, numbers}
 use Rattle.spec.specs.Words.{takes_start, keeps_back}
@@ -29,7 +29,7 @@ start_left s (t ∷ m ∷ f ∷ g ∷ fs) = false
 -- "On a spawn, an empty s means map 0", under each heading; other lines are read as they are now
 unfoldable pub row_line_with_map_zero : Header → Step → List Field → LineResult Row
 row_line_with_map_zero H s fs =
-    if start_left s fs
+    when start_left s fs
     then seen (row_of (some (record { 0 = 0 }))) (numbers (below H.types ∷ below H.maps ∷ []) (take 2 fs))
     else row_line Check H s fs
 
@@ -49,7 +49,7 @@ verdict_with_map_zero = verdict_by program (split_by lines_with_map_zero) condit
 
 -- on the line of a step: `t,m,` of a spawn becomes `t,m,0`
 unfoldable pub write_zero : Step → List ℕ → List ℕ
-write_zero s l = if start_left s (fields l) then l ++ bytes "0" else l
+write_zero s l = when start_left s (fields l) then l ++ bytes "0" else l
 
 unfoldable pub as_it_was : List ℕ → List ℕ
 as_it_was l = l

@@ -1,6 +1,6 @@
 -- Request (x), "Freelock goes". Before it `freelock` was a word with the conditions of `lock`.
 use Rattle.std.specs.Prelude.{◌≡◌, List, [], ◌∷◌, map, Bool, true, false, ◌&&◌, ◌||◌, ℕ, zero, suc, ◌+◌, eqb, leb, drop}
-use Rattle.spec.specs.Choice.{if◌then◌else◌}
+use Rattle.spec.specs.Choice.{when◌then◌else◌}
 use Rattle.spec.specs.Text.{bytes, same, lines, Field, fields}
 use Rattle.spec.specs.Reading.{Result, LineResult}
 use Rattle.spec.specs.Expression.{Item}
@@ -20,7 +20,7 @@ use Rattle.compatibility.specs.Judging.{program_by, verdict_by}
 -- `freelock,v` was read as `lock,v`; other lines are read as they are now
 unfoldable pub item_line_with_freelock : ProgramHeading → (line : ℕ) → List Field → LineResult Item
 item_line_with_freelock h k [] = item_line h k []
-item_line_with_freelock h k (f ∷ fs) = if same f (bytes "freelock") then word_line k (Unary Lock) fs else item_line h k (f ∷ fs)
+item_line_with_freelock h k (f ∷ fs) = when same f (bytes "freelock") then word_line k (Unary Lock) fs else item_line h k (f ∷ fs)
 
 unfoldable pub item_lines_with_freelock : ProgramHeading → (line n : ℕ) → List (List Field → LineResult Item)
 item_lines_with_freelock h k zero = []
@@ -40,7 +40,7 @@ freelock_first (f ∷ fs) = same f (bytes "freelock")
 
 -- a line whose word is `freelock` loses its first four bytes
 unfoldable pub lock_instead : List ℕ → List ℕ
-lock_instead l = if freelock_first (fields l) then drop 4 l else l
+lock_instead l = when freelock_first (fields l) then drop 4 l else l
 
 -- a text with each word `freelock` changed to `lock`
 unfoldable pub locks_instead : List ℕ → List ℕ

@@ -1,6 +1,6 @@
 -- Request (ix), "Locks that take more than they give". Before it a lock line was `lock,k,0`.
 use Rattle.std.specs.Prelude.{◌≡◌, List, [], ◌∷◌, ℕ, zero, suc, ◌≤◌, length}
-use Rattle.spec.specs.Choice.{if◌then◌else◌}
+use Rattle.spec.specs.Choice.{when◌then◌else◌}
 use Rattle.spec.specs.Text.{bytes, same, Line, closed, lines, Field, fields}
 use Rattle.spec.specs.Reading.{ok}
 use Rattle.spec.specs.Program.{Program, program}
@@ -18,7 +18,7 @@ second_too (k ∷ z ∷ f ∷ fs) = k ∷ z ∷ f ∷ fs
 -- the fields of a type line: those of a lock line change
 unfoldable pub out_written : List Field → List Field
 out_written [] = []
-out_written (f ∷ fs) = if same f (bytes "lock") then f ∷ second_too fs else f ∷ fs
+out_written (f ∷ fs) = when same f (bytes "lock") then f ∷ second_too fs else f ∷ fs
 
 -- n type lines are changed so; the lines behind them stay
 pub data OutsWritten : (n : ℕ) → List Line → List Line → Type 0 where

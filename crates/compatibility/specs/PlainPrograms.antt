@@ -1,6 +1,6 @@
 -- Request (xiv), "Procedures". Before it a program sheet had the heading `P`, and neither `proc` nor `call` was a word.
 use Rattle.std.specs.Prelude.{◌≡◌, List, [], ◌∷◌, ◌++◌, Bool, false, ◌||◌, ℕ, zero, suc, ◌+◌, ◌≤◌, length}
-use Rattle.spec.specs.Choice.{if◌then◌else◌}
+use Rattle.spec.specs.Choice.{when◌then◌else◌}
 use Rattle.spec.specs.Text.{bytes, same, Line, closed, unclosed, lines, Field, fields, look_up}
 use Rattle.spec.specs.Reading.{Result, LineResult, bad, bad_form, freelock, seen, refuse_after, ◌to◌, numbers, or_bad_form}
 use Rattle.spec.specs.Words.{words}
@@ -21,12 +21,12 @@ use Rattle.compatibility.specs.Judging.{program_by, verdict_by}
 
 unfoldable pub plain_count_line : List Field → LineResult Counts
 plain_count_line [] = bad bad_form
-plain_count_line (f ∷ fs) = if same (bytes "P") f then seen (counts_of P) (numbers (count_ranges P) fs) else bad bad_form
+plain_count_line (f ∷ fs) = when same (bytes "P") f then seen (counts_of P) (numbers (count_ranges P) fs) else bad bad_form
 
 unfoldable pub plain_item_line : (line : ℕ) → List Field → LineResult Item
 plain_item_line k [] = bad bad_form
 plain_item_line k (f ∷ fs) =
-    if same f (bytes "freelock") then refuse_after freelock (numbers ((0 to 0) ∷ []) fs) else or_bad_form (look_up words f) λ w. word_line k w fs
+    when same f (bytes "freelock") then refuse_after freelock (numbers ((0 to 0) ∷ []) fs) else or_bad_form (look_up words f) λ w. word_line k w fs
 
 unfoldable pub plain_item_lines : ProgramHeading → (line n : ℕ) → List (List Field → LineResult Item)
 plain_item_lines h k zero = []

@@ -1,6 +1,6 @@
 -- Request (iii), "Finer fractions". Before it a numeral had up to 7 digits, and D and the numbers of map lines went to 1,000,000.
 use Rattle.std.specs.Prelude.{◌≡◌, List, [], ◌∷◌, map, Bool, true, false, ◌&&◌, ◌||◌, ℕ, leb, ltb, length}
-use Rattle.spec.specs.Choice.{if◌then◌else◌}
+use Rattle.spec.specs.Choice.{when◌then◌else◌}
 use Rattle.spec.specs.Text.{Field, digits}
 use Rattle.spec.specs.Reading.{Result, LineResult, good, bad, bad_form, bad_range}
 use Rattle.spec.specs.Program.{count_line, item_lines, Program}
@@ -20,12 +20,12 @@ over_seven (f ∷ fs) = (digits f && ltb 7 (length f)) || over_seven fs
 
 -- such a field was no numeral, so its line was of the wrong form; other lines are read as they are now
 unfoldable pub by_seven : {A : Type 0} → (List Field → LineResult A) → List Field → LineResult A
-by_seven read fs = if over_seven fs then bad bad_form else read fs
+by_seven read fs = when over_seven fs then bad bad_form else read fs
 
 -- a range that ended earlier
 unfoldable pub narrowed : {A : Type 0} → (A → Bool) → LineResult A → LineResult A
 narrowed test (bad w) = bad w
-narrowed test (good a) = if test a then good a else bad bad_range
+narrowed test (good a) = when test a then good a else bad bad_range
 
 unfoldable pub million_at_most : Map → Bool
 million_at_most [] = true

@@ -8,7 +8,7 @@ use native.Mathlib.Omega.{arith}
 use lib.Dec.{eqb, ltb}
 use lib.ListN.{length, get_or}
 use borrow.Author.Tests.{eq-eqb, eqb-true, ne_eqb, lt-ltb, le-ltb, ltb-true}
-use Rattle.spec.specs.Choice.{if◌then◌else◌}
+use Rattle.spec.specs.Choice.{when◌then◌else◌}
 use Rattle.spec.specs.Program.{Program}
 use Rattle.spec.specs.Split.{Split, type_at, map_at}
 use Rattle.spec.specs.Maps.{holds_everywhere, same_numbers, ◌≥ᵐ◌}
@@ -125,10 +125,10 @@ one_agrees S t u e =
     let one : t ≡ u = λ i. record { 0 = e i } in
     rw (← one) (agree_reflexive S t)
 
-one_or_two : (S : Split) (t u : TypeNumber) (b : Bool) → b ≡ agree S t u → (if eqb t.0 u.0 then true else b) ≡ agree S t u
+one_or_two : (S : Split) (t u : TypeNumber) (b : Bool) → b ≡ agree S t u → (when eqb t.0 u.0 then true else b) ≡ agree S t u
 one_or_two S t u b h = either (eqb t.0 u.0) refl
   where
-    either : (one : Bool) → eqb t.0 u.0 ≡ one → (if one then true else b) ≡ agree S t u
+    either : (one : Bool) → eqb t.0 u.0 ≡ one → (when one then true else b) ≡ agree S t u
     either true e = sym (one_agrees S t u (eqb-true _ _ e))
     either false e = h
 
@@ -160,10 +160,10 @@ module _ (w : List ℕ) (S : Split) (P : Program) (H : HoldsSplit w S) (R : InRa
   lines_shown all f x y i j h = by_kind (is ref x) (is ref y) refl refl
     where
       by_kind : (a b : Bool) → is ref x ≡ a → is ref y ≡ b
-          → (is (kind_of x) y && (if a then eqb (ref_location x).0 (ref_location y).0 && f (content x) (content y) else maps_agree w n (maps x) (maps y)))
+          → (is (kind_of x) y && (when a then eqb (ref_location x).0 (ref_location y).0 && f (content x) (content y) else maps_agree w n (maps x) (maps y)))
           ≡ same_tree
-          (if a then ref_to (ref_location x) (get_or all (content x).0 (plain int [])) else plain (kind_of x) (map (map_at S) (maps x)))
-          (if b then ref_to (ref_location y) (get_or all (content y).0 (plain int [])) else plain (kind_of y) (map (map_at S) (maps y)))
+          (when a then ref_to (ref_location x) (get_or all (content x).0 (plain int [])) else plain (kind_of x) (map (map_at S) (maps x)))
+          (when b then ref_to (ref_location y) (get_or all (content y).0 (plain int [])) else plain (kind_of y) (map (map_at S) (maps y)))
       by_kind true true e g = rw (kind_is ref x e, g, h _ _ _ _ (is_of ref x e) (is_of ref y g))
       by_kind true false e g = rw (kind_is ref x e, g)
       by_kind false true e g = rw (is_turned x y, kind_is ref y g, e)

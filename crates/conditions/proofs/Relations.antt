@@ -8,7 +8,7 @@ use native.Mathlib.Omega.{arith}
 use lib.Dec.{leb, ltb}
 use lib.ListN.{length}
 use borrow.Author.Tests.{eqb-true, eq-eqb, ltb-true, ltb-false, lt-ltb, le-ltb, lt-leb, le-leb, leb-true}
-use Rattle.spec.specs.Choice.{if◌then◌else◌}
+use Rattle.spec.specs.Choice.{when◌then◌else◌}
 use Rattle.spec.specs.Maps.{lowest, at_least, ◌+ᵐ◌, ◌×ᵐ◌, over_whole, holds_everywhere}
 use Rattle.spec.specs.Reading.{ok}
 use Rattle.spec.specs.Conditions.{F}
@@ -27,7 +27,7 @@ left l n h = omega arith
 
 module _ (w : List ℕ) where
   one_more : (r : Relation) (l n : ℕ)
-      → fails_from w r l (suc n) ≡ (if holds_at w r l then fails_from w r (l + 1) n else some l)
+      → fails_from w r l (suc n) ≡ (when holds_at w r l then fails_from w r (l + 1) n else some l)
   unfolding fails_from holds_at map_from lowest at_least ◌+ᵐ◌ ◌×ᵐ◌ over_whole
   one_more (Equal a b) l n = refl
   one_more (AtLeast a b) l n = refl
@@ -97,7 +97,7 @@ module _ (w : List ℕ) where
   unfolding held
   held_within m l n = either (leb (maps_at + stride * m.0 + n) (length w)) refl
     where
-      either : (b : Bool) → leb (maps_at + stride * m.0 + n) (length w) ≡ b → l < (if b then n else 0) → (l < n) × HasCell w m l
+      either : (b : Bool) → leb (maps_at + stride * m.0 + n) (length w) ≡ b → l < (when b then n else 0) → (l < n) × HasCell w m l
       either true e h =
           let below : l < n = h in
           (below, omega (arith, leb-true (maps_at + stride * m.0 + n) (length w) e))

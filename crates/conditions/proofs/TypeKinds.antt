@@ -1,49 +1,39 @@
 -- What the else of a `let .. else` on a type is told, that it is of another kind, in terms of the definitions.
-use mathlib.Core.Path.{◌≡◌, refl, sym, subst, ◌∙◌}
-use mathlib.Core.Bool.{Bool, false}
-use mathlib.Core.List.{List, [], ◌∷◌}
-use Prim.Native.Nat.{ℕ}
-use borrow.Author.Tests.{ne_eqb}
-use types.Run.{OneOf, miss}
-use denote.Enum.Declared.{tag_of}
-use Rattle.spec.specs.contracts.TypeLine as line
-use Rattle.spec.specs.Kinds.{Kind, int, ref, lock, tid, sem, rwlock, code, kind_of, same_kind, is}
+use mathlib.Core.Path.{◌≡◌, refl}
+use mathlib.Core.Bool.{Bool, true, false}
+use Rattle.spec.specs.Kinds.{Kind, int, ref, lock, tid, sem, rwlock, is}
 use Rattle.spec.specs.Conditions.{contains}
+use Rattle.spec.specs.declared.Location.{Location}
+use Rattle.spec.specs.declared.MapNumber.{MapNumber}
 use Rattle.spec.specs.declared.TypeNumber.{TypeNumber}
 use Rattle.spec.specs.declared.TypeLine.{TypeLine}
 use Rattle.spec.specs.declared.TypeLine.TheVariants.{Int, Ref, Lock, Tid, Sem, Rwlock}
+use Rattle.spec.proofs.TypeKinds.{As, is_of}
 
--- the codes of the other kinds
-abbrev pub others : Kind → List ℕ
-others int = 1 ∷ 2 ∷ 3 ∷ 4 ∷ 5 ∷ []
-others ref = 0 ∷ 2 ∷ 3 ∷ 4 ∷ 5 ∷ []
-others lock = 0 ∷ 1 ∷ 3 ∷ 4 ∷ 5 ∷ []
-others tid = 0 ∷ 1 ∷ 2 ∷ 4 ∷ 5 ∷ []
-others sem = 0 ∷ 1 ∷ 2 ∷ 3 ∷ 5 ∷ []
-others rwlock = 0 ∷ 1 ∷ 2 ∷ 3 ∷ 4 ∷ []
+-- no line of the kind is the type
+abbrev pub IsNot : Kind → TypeLine → Type 0
+IsNot int t = t ≡ Int → ⊥
+IsNot ref t = (p : Location) (c : TypeNumber) → t ≡ Ref p c → ⊥
+IsNot lock t = (i o : MapNumber) → t ≡ Lock i o → ⊥
+IsNot tid t = (k : MapNumber) → t ≡ Tid k → ⊥
+IsNot sem t = (k : MapNumber) → t ≡ Sem k → ⊥
+IsNot rwlock t = (r w : MapNumber) → t ≡ Rwlock r w → ⊥
 
-not_among : (k : Kind) → OneOf (others k) (code k) → ⊥
-not_among int h = miss (others int) 0 tt h
-not_among ref h = miss (others ref) 1 tt h
-not_among lock h = miss (others lock) 2 tt h
-not_among tid h = miss (others tid) 3 tt h
-not_among sem h = miss (others sem) 4 tt h
-not_among rwlock h = miss (others rwlock) 5 tt h
+not_as : (k : Kind) (t : TypeLine) → IsNot k t → t ≡ As k t → ⊥
+not_as int t h e = h e
+not_as ref t h e = h _ _ e
+not_as lock t h e = h _ _ e
+not_as tid t h e = h _ e
+not_as sem t h e = h _ e
+not_as rwlock t h e = h _ _ e
 
--- the tag of a line is the code of its kind
-tag_code : (t : TypeLine) → tag_of line.the_type t ≡ code (kind_of t)
-tag_code Int = refl
-tag_code (Ref p c) = refl
-tag_code (Lock i o) = refl
-tag_code (Tid k) = refl
-tag_code (Sem k) = refl
-tag_code (Rwlock r w) = refl
+pub not_of : (k : Kind) (t : TypeLine) → IsNot k t → is k t ≡ false
+not_of k t h = either (is k t) refl
+  where
+    either : (b : Bool) → is k t ≡ b → b ≡ false
+    either true e = absurd (not_as k t h (is_of k t e))
+    either false e = refl
 
-pub not_of : (k : Kind) (t : TypeLine) → OneOf (others k) (tag_of line.the_type t) → is k t ≡ false
-unfolding is same_kind
-not_of k t h = ne_eqb (code k) (code (kind_of t)) (λ e. not_among k (subst (OneOf (others k)) (tag_code t ∙ sym e) h))
-
-pub not_contains : (agrees : TypeNumber → TypeNumber → Bool) (t : TypeLine) (u : TypeNumber) → OneOf (others ref) (tag_of line.the_type t)
-    → contains agrees t u ≡ false
+pub not_contains : (agrees : TypeNumber → TypeNumber → Bool) (t : TypeLine) (u : TypeNumber) → IsNot ref t → contains agrees t u ≡ false
 unfolding contains
 not_contains agrees t u h = rw (not_of ref t h)

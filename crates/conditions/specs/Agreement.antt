@@ -1,7 +1,7 @@
 -- Agreement of types and loads of locks, by what the work space w holds of types and of maps of n locations. proofs/Agreement.antt shows that it
 -- is document 02's for the split that the work space holds.
 use Rattle.std.specs.Prelude.{Bool, true, false, ◌&&◌, List, [], ◌∷◌, ℕ, zero, suc, eqb, ltb}
-use Rattle.spec.specs.Choice.{if◌then◌else◌}
+use Rattle.spec.specs.Choice.{when◌then◌else◌}
 use Rattle.spec.specs.Kinds.{ref, lock, kind_of, is, ref_location, content, maps, first_map, second_map}
 use Rattle.spec.specs.declared.MapNumber.{MapNumber}
 use Rattle.spec.specs.declared.TypeNumber.{TypeNumber}
@@ -27,7 +27,7 @@ module _ (w : List ℕ) (n : ℕ) where
   unfoldable pub lines_agree : (contents : TypeNumber → TypeNumber → Bool) → TypeLine → TypeLine → Bool
   lines_agree contents x y =
       is (kind_of x) y
-      && (if is ref x
+      && (when is ref x
       then eqb (ref_location x).0 (ref_location y).0 && contents (content x) (content y)
       else maps_agree (maps x) (maps y))
 
@@ -36,7 +36,7 @@ module _ (w : List ℕ) (n : ℕ) where
   unfoldable pub agree_below : (bound : ℕ) → TypeNumber → TypeNumber → Bool
   agree_below zero t u = false
   agree_below (suc bound) t u =
-      if eqb t.0 u.0
+      when eqb t.0 u.0
       then true
       else lines_agree (λ c d. ltb c.0 t.0 && agree_below bound c d) (type_at w t) (type_at w u)
 
@@ -48,10 +48,10 @@ module _ (w : List ℕ) (n : ℕ) where
   may_show_in t u =
       let x = type_at w t in
       let y = type_at w u in
-      if is lock x && is lock y
+      when is lock x && is lock y
       then everywhere (AtLeast (first_map y) (first_map x)) && everywhere (AtLeast (second_map x) (second_map y))
       else agree_in t u
 
   -- 44: out of a lock type is nowhere below in
   unfoldable pub takes_enough_in : TypeLine → Bool
-  takes_enough_in x = if is lock x then everywhere (AtLeast (second_map x) (first_map x)) else true
+  takes_enough_in x = when is lock x then everywhere (AtLeast (second_map x) (first_map x)) else true

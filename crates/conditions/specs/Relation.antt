@@ -1,7 +1,7 @@
 -- Relations between maps that stand in the work space, location by location, and access to one location.
 use Rattle.std.specs.Prelude.{Bool, false, List, ℕ, ◌+◌, ◌*◌, ◌<◌, eqb, leb, ltb, length}
 use Rattle.std.proofs.Math.Option.{Option, none, some}
-use Rattle.spec.specs.Choice.{if◌then◌else◌}
+use Rattle.spec.specs.Choice.{when◌then◌else◌}
 use Rattle.spec.specs.Maps.{lowest, at_least, ◌+ᵐ◌, ◌×ᵐ◌, over_whole, holds_everywhere}
 use Rattle.spec.specs.Conditions.{Condition, A}
 use Rattle.spec.specs.declared.Location.{Location}
@@ -39,7 +39,7 @@ fails_from w (Within a d) l n = over_whole d l (map_from w a l n)
 
 -- how many of n locations a map is asked about: all of them if the work space has as many of its numbers, and else none
 unfoldable pub held : (w : List ℕ) → MapNumber → (n : ℕ) → ℕ
-held w m n = if leb (maps_at + stride * m.0 + n) (length w) then n else 0
+held w m n = when leb (maps_at + stride * m.0 + n) (length w) then n else 0
 
 -- how many of n locations a relation is asked about
 unfoldable pub asked : (w : List ℕ) → Relation → (n : ℕ) → ℕ
@@ -55,7 +55,7 @@ fails w n r = fails_from w r 0 (asked w r n)
 
 -- that location as the code hands it back: one of n, or none
 unfoldable pub below : (n : ℕ) → Location → Option ℕ
-below n p = if ltb p.0 n then some p.0 else none
+below n p = when ltb p.0 n then some p.0 else none
 
 -- whether a relation that each map has to itself is asked of a map and itself
 unfoldable pub of_itself : Relation → Bool

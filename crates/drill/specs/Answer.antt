@@ -1,6 +1,6 @@
 -- What a drill returns.
 use Rattle.std.specs.Prelude.{Bool, ◌&&◌, ℕ, leb, length}
-use Rattle.spec.specs.Choice.{if◌then◌else◌}
+use Rattle.spec.specs.Choice.{when◌then◌else◌}
 use Rattle.drill_theory.specs.Draw.{drawn}
 use Rattle.drill_theory.specs.Pair.{program_of, split_of}
 use Rattle.drill.specs.declared.Drilled.{Drilled}
@@ -29,6 +29,6 @@ roomy seed program split = leb (length (program_of seed)) program && leb (length
 -- is shorter than its text"
 unfoldable pub answer_of : (seed program split : ℕ) → Numbers
 answer_of seed program split =
-    if roomy seed program split
+    when roomy seed program split
     then drilled_numbers 0 (drawn seed) (length (program_of seed)) (length (split_of seed))
     else drilled_numbers 38 0 0 0

@@ -8,7 +8,7 @@ use lib.Dec.{leb, eqb}
 use borrow.Author.Tests.{leb-true, le-leb, eqb-true, eq-eqb}
 use Rattle.spec.proofs.Clashes.{none_is_not_some}
 use Rattle.spec.proofs.Tests.{both_true}
-use Rattle.spec.specs.Choice.{if◌then◌else◌}
+use Rattle.spec.specs.Choice.{when◌then◌else◌}
 use Rattle.fill_theory.specs.Found.{◌>>=◌, require}
 use Rattle.fill_theory.specs.Flow.{Applies}
 use Rattle.fill_theory.specs.Pass.{apply, forth}
@@ -52,7 +52,7 @@ pub met_exact : (m n : ℕ) → m ≡ n → require (eqb m n) ≡ some tt
 unfolding require
 met_exact m n h = rw (eq-eqb m n h)
 
-chosen : {A : Type 0} {a : A} (b : Bool) (x : A) → (if b then some x else none) ≡ some a → (b ≡ true) × (x ≡ a)
+chosen : {A : Type 0} {a : A} (b : Bool) (x : A) → (when b then some x else none) ≡ some a → (b ≡ true) × (x ≡ a)
 chosen true x h = (refl, some_injective h)
 chosen false x h = none_is_not_some h
 

@@ -8,7 +8,7 @@ use Prim.Native.Nat.{ℕ, zero, suc, ◌+◌, ◌<◌}
 use native.Mathlib.Omega.{arith}
 use lib.ListN.{length, get_or, get_or-append}
 use lib.Seq.{get_or-append-add}
-use Rattle.spec.specs.Choice.{if◌then◌else◌}
+use Rattle.spec.specs.Choice.{when◌then◌else◌}
 use Rattle.spec.specs.Expression.{Expr, index_of}
 use Rattle.spec.specs.Program.{Program}
 use Rattle.spec.specs.Split.{Map, Row, no_row, Split, type_at, map_at}
@@ -157,9 +157,9 @@ module _ {P : Program} {S : Split} (R : InRange P S) where
     pub may_show_kept : (t u : TypeNumber) → may_show (filled S σ) t u ≡ may_show S t u
     unfolding may_show type_at filled
     may_show_kept t u =
-        ap (λ (x : Bool). if is lock (type_at S t) && is lock (type_at S u) then x else agree (filled S σ) t u)
+        ap (λ (x : Bool). when is lock (type_at S t) && is lock (type_at S u) then x else agree (filled S σ) t u)
         (looser_kept (type_at S t) (type_at S u) (maps_fit R t) (maps_fit R u))
-        ∙ ap (λ (x : Bool). if is lock (type_at S t) && is lock (type_at S u) then looser_lock S (type_at S t) (type_at S u) else x) (agree_kept t u)
+        ∙ ap (λ (x : Bool). when is lock (type_at S t) && is lock (type_at S u) then looser_lock S (type_at S t) (type_at S u) else x) (agree_kept t u)
 
     -- ------------------------------------------------------------------ 44
 

@@ -11,7 +11,7 @@ use lib.Dec.{eqb}
 use lib.ListN.{length, get_or}
 use lib.Seq.{ext_get_or}
 use borrow.Author.Tests.{eqb-true, eq-eqb}
-use Rattle.spec.specs.Choice.{if◌then◌else◌}
+use Rattle.spec.specs.Choice.{when◌then◌else◌}
 use Rattle.spec.specs.Split.{Map}
 use Rattle.spec.specs.Maps.{◌=ᵐ◌, ◌≥ᵐ◌, ◌+ᵐ◌, ◌×ᵐ◌, share}
 use Rattle.spec.specs.Figure5.{◌⊒◌, none as none⊒, more as more⊒}
@@ -63,7 +63,7 @@ asks_met : (here q : Location) (d : ℕ) (m : Map) → d ≤ share m q → asks 
 unfolding asks share
 asks_met here q d m h = go (eqb q.0 here.0) refl
   where
-    go : (b : Bool) → eqb q.0 here.0 ≡ b → (if b then d else 0) ≤ get_or m here.0 0
+    go : (b : Bool) → eqb q.0 here.0 ≡ b → (when b then d else 0) ≤ get_or m here.0 0
     go true e = let same : q.0 ≡ here.0 = eqb-true q.0 here.0 e in rw (← same) h
     go false e = omega arith
 

@@ -1,7 +1,7 @@
 -- The flow of an expression at a location: what the entries on flow (F) and access (A) of its word's line in document 01's table say there;
 -- and the flows of a program, its procedures' bodies and its root.
 use Rattle.std.specs.Prelude.{Bool, true, false, List, [], ◌∷◌, ℕ, ◌+◌, ◌*◌, eqb}
-use Rattle.spec.specs.Choice.{if◌then◌else◌}
+use Rattle.spec.specs.Choice.{when◌then◌else◌}
 use Rattle.spec.specs.Words.{calls}
 use Rattle.spec.specs.Expression.{Expr, leaf, unary, binary, Procedure}
 use Rattle.spec.specs.Program.{Program}
@@ -25,7 +25,7 @@ use Rattle.fill_theory.specs.Flow.{unchanged, Flow, alone, unary_flow, binary_fl
 
 -- an access to the location p that needs d there needs nothing elsewhere
 unfoldable pub asks : (here p : Location) → (d : ℕ) → ℕ
-asks here p d = if eqb p.0 here.0 then d else 0
+asks here p d = when eqb p.0 here.0 then d else 0
 
 -- ------------------------------------------------------------------ a line of the table
 
@@ -74,7 +74,7 @@ module _ (g : Given) where
 
   -- the way of a step with one part that calls no procedure, and of one with two parts
   unfoldable pub part_transfer : UnaryWord → UnaryTransfer
-  part_transfer x = if loops x then transfer.Loop else transfer.After (effect_of (table (Unary x)))
+  part_transfer x = when loops x then transfer.Loop else transfer.After (effect_of (table (Unary x)))
 
   unfoldable pub binary_transfer : BinaryWord → BinaryTransfer
   binary_transfer Let = InTurn (effect_of (table (Binary Let)))
@@ -120,7 +120,7 @@ module _ (S : Split) (here : Location) where
 
   unfoldable pub flow_of : Expr → Flow
   flow_of (leaf x k v) = alone (effect_of (given_here (leaf x k v) (leaf x k v)) (table (Leaf x)))
-  flow_of (unary x k v e₁) = let e = unary x k v e₁ in unary_flow (if calls x then call_here e else part_transfer (given_here e e₁) x) (flow_of e₁)
+  flow_of (unary x k v e₁) = let e = unary x k v e₁ in unary_flow (when calls x then call_here e else part_transfer (given_here e e₁) x) (flow_of e₁)
   flow_of (binary x k v e₁ e₂) = binary_flow (binary_transfer (given_here (binary x k v e₁ e₂) e₁) x) (flow_of e₁) (flow_of e₂)
 
   -- the procedures from number f on, each from its before to at least its after; then the root, from the start

@@ -2,7 +2,7 @@
 -- have to leave less than it could. So the pass is told the most that its own post may be, and takes that into its minimum there.
 use Rattle.std.specs.Prelude.{◌&&◌, List, [], ◌∷◌, ◌++◌, ℕ, ◌+◌, ◌-◌, min, leb, eqb, get_or}
 use Rattle.std.proofs.Math.Option.{Option, none, some}
-use Rattle.spec.specs.Choice.{if◌then◌else◌}
+use Rattle.spec.specs.Choice.{when◌then◌else◌}
 use Rattle.fill_theory.specs.Found.{◌>>=◌, require}
 use Rattle.fill_theory.specs.Flow.{taking, Flow, alone, after, in_turn, branch, loop, fork, call, Root}
 use Rattle.fill_theory.specs.declared.Effect.{Effect}
@@ -19,7 +19,7 @@ back E c = c + E.takes - E.gives
 -- the number after a step, if there is one
 unfoldable pub apply : Effect → (before : ℕ) → Option ℕ
 apply E before =
-    if leb (E.takes + E.needs) (before + E.gives) && leb E.lends E.takes
+    when leb (E.takes + E.needs) (before + E.gives) && leb E.lends E.takes
     then some (forth E before)
     else none
 

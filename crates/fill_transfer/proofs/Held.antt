@@ -5,7 +5,7 @@ use mathlib.Core.List.{List}
 use Prim.Native.Nat.{ℕ, ◌+◌, ◌≤◌, ◌<◌}
 use native.Mathlib.Omega.{arith}
 use lib.ListN.{length, get_or}
-use Rattle.spec.specs.Choice.{if◌then◌else◌}
+use Rattle.spec.specs.Choice.{when◌then◌else◌}
 use Rattle.spec.specs.Words.{calls}
 use Rattle.spec.specs.Expression.{Expr, leaf, unary, binary, size, Position, index_of}
 use Rattle.spec.specs.Program.{Program}
@@ -131,8 +131,8 @@ module _ (w : List ℕ) (column : Column) (P : Program) (S : Split) (H : HoldsSp
     -- a step with parts, with what it is given
     unary_transfer : (x : UnaryWord) (l : Position) (v : ℕ) (e₁ : Expr) → Here w count k inside vars (unary x l v e₁) → count ≤ length S.signatures
         → k < length S.rows → given_in w column k (k + 1) ≡ given_here S p (unary x l v e₁) e₁ → (b : Bool) → calls x ≡ b
-        → (if b then calling_in w column k else part_transfer (given_in w column k (k + 1)) x)
-        ≡ (if b then call_here S p (unary x l v e₁) else part_transfer (given_here S p (unary x l v e₁) e₁) x)
+        → (when b then calling_in w column k else part_transfer (given_in w column k (k + 1)) x)
+        ≡ (when b then call_here S p (unary x l v e₁) else part_transfer (given_here S p (unary x l v e₁) e₁) x)
     unary_transfer x l v e₁ C few h same true q =
         call_held (unary x l v e₁) k (here_index (unary x l v e₁) C) h (unary_number_lem x l v e₁ C) (omega (arith, here_called x l v e₁ q C))
     unary_transfer x l v e₁ C few h same false q = ap (λ (g : Given). part_transfer g x) same

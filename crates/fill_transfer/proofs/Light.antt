@@ -5,7 +5,7 @@ use mathlib.Core.List.{List, [], ◌∷◌}
 use Prim.Native.Nat.{ℕ, ◌+◌, ◌<◌}
 use native.Mathlib.Omega.{arith}
 use lib.ListN.{get_or}
-use Rattle.spec.specs.Choice.{if◌then◌else◌}
+use Rattle.spec.specs.Choice.{when◌then◌else◌}
 use Rattle.spec.specs.Words.{calls}
 use Rattle.spec.specs.Table as entry
 use Rattle.spec.specs.Table.{MapTerm, pre, s, post_of, K, «in», out, r, before, after, Entry, ◌a◌, ◌is◌, ◌shows◌, ◌is_c_of◌, ◌＝◌, ◌≧◌, N×◌≦◌, ◌⊕◌＝◌, ◌＝◌⊕◌, post_at_p＞0, post_at_p≧D, table}
@@ -64,7 +64,7 @@ module _ (g : Given) (fits : (t : MapTerm) → g.has t < 4294967296) where
   unfolding moved part_transfer
   part_light x = by_loop (loops x)
     where
-      by_loop : (b : Bool) → Light (Unary (if b then Loop else After (effect_of g (table (word.Unary x)))))
+      by_loop : (b : Bool) → Light (Unary (when b then Loop else After (effect_of g (table (word.Unary x)))))
       by_loop true = omega arith
       by_loop false = effect_light (table (word.Unary x))
 
@@ -98,7 +98,7 @@ module _ (w : List ℕ) (column : Column) (fits : (i : ℕ) → get_or w i 0 < 4
   word_light (word.Leaf x) k = effect_light (given_in w column k k) (has_fits k k) (table (word.Leaf x))
   word_light (word.Unary x) k = by_call (calls x)
     where
-      by_call : (b : Bool) → Light (Unary (if b then calling_in w column k else part_transfer (given_in w column k (k + 1)) x))
+      by_call : (b : Bool) → Light (Unary (when b then calling_in w column k else part_transfer (given_in w column k (k + 1)) x))
       by_call true = call_light k
       by_call false = part_light (given_in w column k (k + 1)) (has_fits k (k + 1)) x
   word_light (word.Binary x) k = binary_light (given_in w column k (k + 1)) (has_fits k (k + 1)) x

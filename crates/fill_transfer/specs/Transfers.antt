@@ -1,7 +1,7 @@
 -- The transfer function of a step at a location, as the work space shows it: spec's table read there, as `fill_theory`
 -- reads it over the sheet.
 use Rattle.std.specs.Prelude.{List, ℕ, ◌+◌, ◌*◌, get_or}
-use Rattle.spec.specs.Choice.{if◌then◌else◌}
+use Rattle.spec.specs.Choice.{when◌then◌else◌}
 use Rattle.spec.specs.Words.{calls}
 use Rattle.spec.specs.Kinds.{ref_location, first_map, second_map}
 use Rattle.spec.specs.Table as entry
@@ -85,7 +85,7 @@ given_in w column k h = record {
 -- the way of a word at step k: a first part stands just behind its step
 unfoldable pub transfer_of : Word → List ℕ → Column → (k : ℕ) → Transfer
 transfer_of (Leaf x) w column k = transfer.Leaf (effect_of (given_in w column k k) (table (Leaf x)))
-transfer_of (Unary x) w column k = transfer.Unary (if calls x then calling_in w column k else part_transfer (given_in w column k (k + 1)) x)
+transfer_of (Unary x) w column k = transfer.Unary (when calls x then calling_in w column k else part_transfer (given_in w column k (k + 1)) x)
 transfer_of (Binary x) w column k = transfer.Binary (binary_transfer (given_in w column k (k + 1)) x)
 
 -- the transfer function of step k

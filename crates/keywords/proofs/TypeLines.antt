@@ -3,7 +3,7 @@ use mathlib.Core.Path.{◌≡◌, refl}
 use mathlib.Core.List.{List, [], ◌∷◌}
 use mathlib.Core.Bool.{Bool, true, false}
 use Prim.Native.Nat.{ℕ}
-use Rattle.spec.specs.Choice.{if◌then◌else◌}
+use Rattle.spec.specs.Choice.{when◌then◌else◌}
 use Rattle.spec.specs.Text.{bytes, same, Field}
 use Rattle.spec.specs.Reading.{LineResult, bad, bad_form, seen, ◌to◌, below, numbers}
 use Rattle.spec.specs.Split.{lock_of, out_range, type_line, nth_map, nth_type, nth_location}
@@ -30,9 +30,9 @@ type_line_lem H own f fs =
     go (same f (bytes "int")) (same f (bytes "ref")) (same f (bytes "lock")) (same f (bytes "tid")) (same f (bytes "sem")) (same f (bytes "rwlock"))
   where
     go : (a b c d e g : Bool)
-        → (if a then of_kind H own fs Int else if b then of_kind H own fs Ref else if c then of_kind H own fs Lock else if d then of_kind H own fs Tid
-        else if e then of_kind H own fs Sem else if g then of_kind H own fs Rwlock else bad bad_form)
-        ≡ of_kind H own fs (if a then Int else if b then Ref else if c then Lock else if d then Tid else if e then Sem else if g then Rwlock
+        → (when a then of_kind H own fs Int else when b then of_kind H own fs Ref else when c then of_kind H own fs Lock else when d then of_kind H own fs Tid
+        else when e then of_kind H own fs Sem else when g then of_kind H own fs Rwlock else bad bad_form)
+        ≡ of_kind H own fs (when a then Int else when b then Ref else when c then Lock else when d then Tid else when e then Sem else when g then Rwlock
         else Unknown)
     go true b c d e g = refl
     go false true c d e g = refl

@@ -4,7 +4,7 @@ use mathlib.Core.List.{List, [], ◌∷◌, ◌++◌}
 use mathlib.Core.Bool.{Bool, true, false}
 use mathlib.Core.Option.{Option, none, some}
 use Prim.Native.Nat.{ℕ}
-use Rattle.spec.specs.Choice.{if◌then◌else◌}
+use Rattle.spec.specs.Choice.{when◌then◌else◌}
 use Rattle.spec.specs.Text.{same, Field, look_up}
 use Rattle.spec.specs.declared.Word.{Word}
 use Rattle.keywords.specs.Words.{found_of, spelled_or, either_of}
@@ -28,7 +28,7 @@ unfolding either_of
 first_unknown r e = rw e refl
 
 -- one word of a table, in front of the words behind it
-spelled_found : (b : Bool) (w : Word) (o : Option Word) → spelled_or b w (found_of o) ≡ found_of (if b then some w else o)
+spelled_found : (b : Bool) (w : Word) (o : Option Word) → spelled_or b w (found_of o) ≡ found_of (when b then some w else o)
 unfolding spelled_or found_of
 spelled_found true w o = refl
 spelled_found false w o = refl
@@ -49,7 +49,7 @@ either_found [] ws f = refl
 either_found (v ∷ vs) ws f = by_test (either_found vs ws f) (same v.0 f)
   where
     by_test : found_of (look_up (vs ++ ws) f) ≡ either_of (found_of (look_up vs f)) (found_of (look_up ws f)) → (x : Bool)
-        → found_of (if x then some v.1 else look_up (vs ++ ws) f) ≡ either_of (found_of (if x then some v.1 else look_up vs f)) (found_of (look_up ws f))
+        → found_of (when x then some v.1 else look_up (vs ++ ws) f) ≡ either_of (found_of (when x then some v.1 else look_up vs f)) (found_of (look_up ws f))
     by_test e true = refl
     by_test e false = e
 

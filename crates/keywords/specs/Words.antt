@@ -1,7 +1,7 @@
 -- What a field spells, as the shapes that the code hands back.
 use Rattle.std.specs.Prelude.{Bool, true, false}
 use Rattle.std.proofs.Math.Option.{Option, none, some}
-use Rattle.spec.specs.Choice.{if◌then◌else◌}
+use Rattle.spec.specs.Choice.{when◌then◌else◌}
 use Rattle.spec.specs.Text.{bytes, same, Field}
 use Rattle.spec.specs.declared.Word.{Word}
 use Rattle.keywords.specs.declared.FoundWord.{FoundWord}
@@ -26,10 +26,10 @@ either_of Unknown r = r
 -- the kind that a type line names
 unfoldable pub type_word_of : Field → TypeWord
 type_word_of f =
-    if same f (bytes "int") then kind.Int
-    else if same f (bytes "ref") then kind.Ref
-    else if same f (bytes "lock") then kind.Lock
-    else if same f (bytes "tid") then kind.Tid
-    else if same f (bytes "sem") then kind.Sem
-    else if same f (bytes "rwlock") then kind.Rwlock
+    when same f (bytes "int") then kind.Int
+    else when same f (bytes "ref") then kind.Ref
+    else when same f (bytes "lock") then kind.Lock
+    else when same f (bytes "tid") then kind.Tid
+    else when same f (bytes "sem") then kind.Sem
+    else when same f (bytes "rwlock") then kind.Rwlock
     else kind.Unknown

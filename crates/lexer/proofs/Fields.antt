@@ -10,7 +10,7 @@ use lib.Dec.{eqb}
 use lib.ListN.{length, get_or, take, drop, drop_of_length-le}
 use lib.Seq.{drop-cons}
 use borrow.Author.Tests.{eq-eqb, ne_eqb}
-use Rattle.spec.specs.Choice.{if◌then◌else◌}
+use Rattle.spec.specs.Choice.{when◌then◌else◌}
 use Rattle.spec.specs.Text.{Field, on_field}
 use Rattle.lexer.specs.Views.{width, end_of, first_field, behind, with_field, with_byte, line_at}
 use Rattle.lexer.specs.declared.FieldEnd.{FieldEnd}
@@ -19,11 +19,11 @@ use Rattle.lexer.specs.declared.FieldEnd.TheVariants.{Comma, Newline, Text}
 -- ------------------------------------------------------------------ the first field, at a place of a text
 
 module _ (s : List ℕ) (i : ℕ) where
-  width_at : i < length s → width (drop i s) ≡ (if eqb (get_or s i 0) 44 then 0 else if eqb (get_or s i 0) 10 then 0 else suc (width (drop (i + 1) s)))
+  width_at : i < length s → width (drop i s) ≡ (when eqb (get_or s i 0) 44 then 0 else when eqb (get_or s i 0) 10 then 0 else suc (width (drop (i + 1) s)))
   unfolding width
   width_at h = simp (add-one, drop-cons s i 0 h)
 
-  end_at_lem : i < length s → end_of (drop i s) ≡ (if eqb (get_or s i 0) 44 then Comma else if eqb (get_or s i 0) 10 then Newline else end_of (drop (i + 1) s))
+  end_at_lem : i < length s → end_of (drop i s) ≡ (when eqb (get_or s i 0) 44 then Comma else when eqb (get_or s i 0) 10 then Newline else end_of (drop (i + 1) s))
   unfolding end_of
   end_at_lem h = simp (add-one, drop-cons s i 0 h)
 
@@ -80,10 +80,10 @@ by_field [] = refl
 by_field (b ∷ t) = go (eqb b 44) (eqb b 10) (by_field t)
   where
     go : (x y : Bool) → ByField (end_of t) (first_field t) (behind t) (line_at t)
-        → ByField (if x then Comma else if y then Newline else end_of t)
-        (take (if x then 0 else if y then 0 else suc (width t)) (b ∷ t))
-        (drop (suc (if x then 0 else if y then 0 else suc (width t))) (b ∷ t))
-        (if x then with_field [] (line_at t) else if y then some ([] ∷ [], t) else with_byte b (line_at t))
+        → ByField (when x then Comma else when y then Newline else end_of t)
+        (take (when x then 0 else when y then 0 else suc (width t)) (b ∷ t))
+        (drop (suc (when x then 0 else when y then 0 else suc (width t))) (b ∷ t))
+        (when x then with_field [] (line_at t) else when y then some ([] ∷ [], t) else with_byte b (line_at t))
     go true y h = refl
     go false true h = refl
     go false false h = with_byte_lem b (end_of t) (first_field t) (behind t) (line_at t) h
@@ -124,7 +124,7 @@ unfolding line_at
 full_line [] = tt
 full_line (b ∷ t) = go (eqb b 44) (eqb b 10)
   where
-    go : (x y : Bool) → Full (if x then with_field [] (line_at t) else if y then some ([] ∷ [], t) else with_byte b (line_at t))
+    go : (x y : Bool) → Full (when x then with_field [] (line_at t) else when y then some ([] ∷ [], t) else with_byte b (line_at t))
     go true y = full_field [] (line_at t)
     go false true = omega arith
     go false false = full_byte b (line_at t)

@@ -11,7 +11,7 @@ use lib.Dec.{eqb, leb, ltb}
 use lib.ListN.{length, get_or, take, drop, drop_of_length-le}
 use lib.Seq.{drop-cons, length-take-le, get_or-take, get_or-drop}
 use borrow.Author.Tests.{ne_eqb, le-leb, lt-leb, lt-ltb, ltb-true, ltb-false}
-use Rattle.spec.specs.Choice.{if◌then◌else◌}
+use Rattle.spec.specs.Choice.{when◌then◌else◌}
 use Rattle.spec.specs.Text.{digit_limit, digits, value, leading_zero, numeral}
 use Rattle.lexer.specs.Views.{width, end_of, first_field}
 use Rattle.lexer.specs.Cursors.{rest, past, behind_field}
@@ -118,7 +118,7 @@ unfolding digit_first first_field width
 no_digits [] e = unfold numeral in refl
 no_digits (b ∷ t) e = go (eqb b 44) (eqb b 10)
   where
-    go : (x y : Bool) → numeral (take (if x then 0 else if y then 0 else suc (width t)) (b ∷ t)) ≡ none
+    go : (x y : Bool) → numeral (take (when x then 0 else when y then 0 else suc (width t)) (b ∷ t)) ≡ none
     go true y = unfold numeral in refl
     go false true = unfold numeral in refl
     go false false = not_digits (b ∷ take (width t) t) (spoilt b (take (width t) t) e)

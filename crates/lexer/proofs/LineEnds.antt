@@ -9,7 +9,7 @@ use lib.Dec.{eqb}
 use lib.ListN.{length, drop, length-drop}
 use lib.Seq.{drop-drop}
 use borrow.Author.Tests.{eqb-true}
-use Rattle.spec.specs.Choice.{if◌then◌else◌}
+use Rattle.spec.specs.Choice.{when◌then◌else◌}
 use Rattle.spec.specs.Text.{Field}
 use Rattle.spec.specs.Reading.{numerals}
 use Rattle.lexer.specs.Views.{with_field, with_byte, line_at}
@@ -50,7 +50,7 @@ behind_line_lem [] = tt
 behind_line_lem (b ∷ t) = go (eqb b 44) (eqb b 10) (behind_line_lem t)
   where
     go : (x y : Bool) → BehindLine t (line_at t)
-        → BehindLine (b ∷ t) (if x then with_field [] (line_at t) else if y then some ([] ∷ [], t) else with_byte b (line_at t))
+        → BehindLine (b ∷ t) (when x then with_field [] (line_at t) else when y then some ([] ∷ [], t) else with_byte b (line_at t))
     go true y h = behind_field_lem b t [] (line_at t) h
     go false true h = record { by = 1; some_by = omega arith; by_le = omega arith; left = refl }
     go false false h = behind_byte b t (line_at t) h
@@ -84,7 +84,7 @@ module _ (n : ℕ) (ns r : List ℕ) where
   counted_parts none r' e = let z : ◌≡◌ {A = ℕ} 0 1 = cc in absurd (omega arith)
   counted_parts (some ms) r' e = go (eqb (length (map stored ms)) n) refl e
     where
-      go : (x : Bool) → eqb (length (map stored ms)) n ≡ x → if◌then◌else◌ {A = Option (List ℕ × List ℕ)} x (some (map stored ms, r')) none ≡ some (ns, r) → (r' ≡ r) × (length ns ≡ n)
+      go : (x : Bool) → eqb (length (map stored ms)) n ≡ x → when◌then◌else◌ {A = Option (List ℕ × List ℕ)} x (some (map stored ms, r')) none ≡ some (ns, r) → (r' ≡ r) × (length ns ≡ n)
       go true q e =
           let p : ◌≡◌ {A = List ℕ × List ℕ} (map stored ms, r') (ns, r) = cc in
           (ap (λ (q : List ℕ × List ℕ). q.1) p, sym (ap (λ (q : List ℕ × List ℕ). length q.0) p) ∙ eqb-true (length (map stored ms)) n q)

@@ -8,7 +8,7 @@ use native.Mathlib.Omega.{arith}
 use lib.Dec.{eqb}
 use lib.ListN.{length}
 use borrow.Author.Tests.{eqb-true, ne_eqb}
-use Rattle.spec.specs.Choice.{if◌then◌else◌}
+use Rattle.spec.specs.Choice.{when◌then◌else◌}
 use Rattle.spec.specs.Text.{Line, closed, unclosed, on_line, lines, Field, fields}
 use Rattle.spec.specs.Reading.{SheetName, refuse, ok, LineResult, form, miscounted, passed, next_line, begin, require, end}
 use Rattle.lexer.specs.Views.{with_field, with_byte, line_at}
@@ -54,8 +54,8 @@ line_first [] = refl
 line_first (b ∷ t) = go (eqb b 44) refl (eqb b 10) refl (line_first t)
   where
     go : (x : Bool) → eqb b 44 ≡ x → (y : Bool) → eqb b 10 ≡ y → first_line (lines t) ≡ rest_lines (line_at t)
-        → first_line (if y then closed [] ∷ lines t else on_line b (lines t))
-        ≡ rest_lines (if x then with_field [] (line_at t) else if y then some ([] ∷ [], t) else with_byte b (line_at t))
+        → first_line (when y then closed [] ∷ lines t else on_line b (lines t))
+        ≡ rest_lines (when x then with_field [] (line_at t) else when y then some ([] ∷ [], t) else with_byte b (line_at t))
     go true e true f h = let p = eqb-true b 44 e in let q = eqb-true b 10 f in absurd (omega arith)
     go true e false f h = rw (eqb-true b 44 e) (comma_lines (lines t) ∙ ap (with_field []) h ∙ comma_rest (line_at t))
     go false e true f h = refl
@@ -71,7 +71,7 @@ some_lines : (b : ℕ) (t : List ℕ) → lines (b ∷ t) ≡ [] → ⊥
 unfolding lines
 some_lines b t = go (eqb b 10)
   where
-    go : (y : Bool) → (if y then closed [] ∷ lines t else on_line b (lines t)) ≡ [] → ⊥
+    go : (y : Bool) → (when y then closed [] ∷ lines t else on_line b (lines t)) ≡ [] → ⊥
     go true e = let z : ◌≡◌ {A = ℕ} 0 1 = cc in omega arith
     go false e = on_some b (lines t) e
 

@@ -4,7 +4,7 @@ use mathlib.Core.List.{List, [], ◌∷◌}
 use mathlib.Core.Bool.{Bool, true, false}
 use Prim.Native.Nat.{ℕ, zero, suc, ◌+◌, ◌-◌, ◌≤◌, ◌<◌}
 use native.Mathlib.Omega.{arith}
-use Rattle.spec.specs.Choice.{if◌then◌else◌}
+use Rattle.spec.specs.Choice.{when◌then◌else◌}
 use lib.Dec.{eqb, leb, leb-suc-suc}
 use borrow.Author.Tests.{le-leb, lt-leb}
 use lib.ListN.{length, take, drop, drop_of_length-le, length-drop}
@@ -53,7 +53,7 @@ field_fits [] = refl
 field_fits (b ∷ t) = go (eqb b 44) (eqb b 10) (field_fits t)
   where
     go : (x y : Bool) → Fits (end_of t) (width t) (length t)
-        → Fits (if x then Comma else if y then Newline else end_of t) (if x then 0 else if y then 0 else suc (width t)) (suc (length t))
+        → Fits (when x then Comma else when y then Newline else end_of t) (when x then 0 else when y then 0 else suc (width t)) (suc (length t))
     go true y h = omega arith
     go false true h = omega arith
     go false false h = fits_more (end_of t) (width t) (length t) h

@@ -10,7 +10,7 @@ use lib.Dec.{eqb}
 use lib.ListN.{length, get_or, drop, drop_of_length-le, length-map}
 use lib.Seq.{drop-cons}
 use borrow.Author.Tests.{eqb-true}
-use Rattle.spec.specs.Choice.{if◌then◌else◌}
+use Rattle.spec.specs.Choice.{when◌then◌else◌}
 use Rattle.spec.specs.Text.{lines, Field}
 use Rattle.spec.specs.Reading.{SheetName, refuse, LineResult, good, bad, bad_form, bad_range, Range, all_in_range, numerals, numbers, form, faulty, passed, next_line, or_bad_form}
 use Rattle.spec.proofs.Seen.{ranged}
@@ -26,7 +26,7 @@ use Rattle.lexer.proofs.Stored.{AllNarrow, stored_judged}
 -- what n numerals come to by f; anything else is bad
 unfoldable pub many : {A : Type 0} → (n : ℕ) → (List ℕ → LineResult A) → (otherwise : LineResult A) → Option (List ℕ) → LineResult A
 many n f otherwise none = otherwise
-many n f otherwise (some ns) = if eqb (length ns) n then f ns else otherwise
+many n f otherwise (some ns) = when eqb (length ns) n then f ns else otherwise
 
 -- n numbers come to the same as what is stored of them
 abbrev pub ByStored : {A : Type 0} → (n : ℕ) → (List ℕ → LineResult A) → Type 0
@@ -38,7 +38,7 @@ module _ {A : Type 0} (n : ℕ) (f : List ℕ → LineResult A) (otherwise : Lin
   many_none none e = refl
   many_none (some ns) e = go (eqb (length ns) n) (rw (length-map ns stored) at e)
     where
-      go : (x : Bool) → if◌then◌else◌ {A = Option (List ℕ × List ℕ)} x (some (map stored ns, r)) none ≡ none → (if x then f ns else otherwise) ≡ otherwise
+      go : (x : Bool) → when◌then◌else◌ {A = Option (List ℕ × List ℕ)} x (some (map stored ns, r)) none ≡ none → (when x then f ns else otherwise) ≡ otherwise
       go true e = cc
       go false e = refl
 
@@ -47,8 +47,8 @@ module _ {A : Type 0} (n : ℕ) (f : List ℕ → LineResult A) (otherwise : Lin
   many_some same none ns r' e = let z : ◌≡◌ {A = ℕ} 0 1 = cc in absurd (omega arith)
   many_some same (some ms) ns r' e = go (eqb (length ms) n) refl (rw (length-map ms stored) at e)
     where
-      go : (x : Bool) → eqb (length ms) n ≡ x → if◌then◌else◌ {A = Option (List ℕ × List ℕ)} x (some (map stored ms, r)) none ≡ some (ns, r')
-          → ((if x then f ms else otherwise) ≡ f ns) × (length ns ≡ n) × (r ≡ r')
+      go : (x : Bool) → eqb (length ms) n ≡ x → when◌then◌else◌ {A = Option (List ℕ × List ℕ)} x (some (map stored ms, r)) none ≡ some (ns, r')
+          → ((when x then f ms else otherwise) ≡ f ns) × (length ns ≡ n) × (r ≡ r')
       go true q e =
           let p : ◌≡◌ {A = List ℕ × List ℕ} (map stored ms, r) (ns, r') = cc in
           let l = eqb-true (length ms) n q in (
@@ -61,13 +61,13 @@ module _ {A : Type 0} (n : ℕ) (f : List ℕ → LineResult A) (otherwise : Lin
 -- as many numbers as ranges
 module _ {A : Type 0} (rs : List Range) (g : LineResult (List ℕ) → LineResult A) where
   abbrev judged : List ℕ → LineResult A
-  judged ns = g (if all_in_range rs ns then good ns else bad bad_range)
+  judged ns = g (when all_in_range rs ns then good ns else bad bad_range)
 
   judged_many : (fs : List Field) → g (numbers rs fs) ≡ many (length rs) judged (g (bad bad_form)) (numerals fs)
   unfolding numbers or_bad_form many
   judged_many fs = go (numerals fs)
     where
-      counts : (x : Bool) (ns : List ℕ) → g (if x then (if all_in_range rs ns then good ns else bad bad_range) else bad bad_form) ≡ (if x then judged ns else g (bad bad_form))
+      counts : (x : Bool) (ns : List ℕ) → g (when x then (when all_in_range rs ns then good ns else bad bad_range) else bad bad_form) ≡ (when x then judged ns else g (bad bad_form))
       counts true ns = refl
       counts false ns = refl
 
@@ -168,7 +168,7 @@ module _
       numerals_form = line_form sheet read k (length rs) (judged rs g) (g (bad bad_form)) (rest text c) (λ fs. fs) (line_at (rest text c)) (onto_all (line_at (rest text c))) (λ fs. shows fs ∙ judged_many rs g fs)
 
       pub numerals_read : AllNarrow rs → (ns r : List ℕ) → numbers_at text c (length rs) ≡ some (ns, r)
-          → next_line sheet read k (lines (rest text c)) ≡ passed sheet (k + 1) (lines r) (g (if all_in_range rs ns then good ns else bad bad_range))
+          → next_line sheet read k (lines (rest text c)) ≡ passed sheet (k + 1) (lines r) (g (when all_in_range rs ns then good ns else bad bad_range))
       unfolding numbers_at
       numerals_read narrow ns r m =
           (line_read sheet read k (length rs) (judged rs g) (g (bad bad_form)) (rest text c) (λ fs. fs) (line_at (rest text c)) (onto_all (line_at (rest text c))) (λ fs. shows fs ∙ judged_many rs g fs)
@@ -179,6 +179,6 @@ module _
       tail_form = many_form sheet read k (length rs) (judged rs g) (g (bad bad_form)) text c f d comma (λ fs. shows fs ∙ judged_many rs g fs)
 
       pub tail_read : AllNarrow rs → (ns r : List ℕ) → numbers_at text d (length rs) ≡ some (ns, r)
-          → next_line sheet read k (lines (rest text c)) ≡ passed sheet (k + 1) (lines r) (g (if all_in_range rs ns then good ns else bad bad_range))
+          → next_line sheet read k (lines (rest text c)) ≡ passed sheet (k + 1) (lines r) (g (when all_in_range rs ns then good ns else bad bad_range))
       tail_read narrow ns r m =
           (many_read sheet read k (length rs) (judged rs g) (g (bad bad_form)) text c f d comma (λ fs. shows fs ∙ judged_many rs g fs) (judged_by_stored rs g narrow) ns r m).0

@@ -7,7 +7,7 @@ use native.Mathlib.Omega.{arith}
 use lib.Dec.{leb}
 use lib.ListN.{length}
 use borrow.Author.Tests.{leb-false, lt-leb, le-ltb}
-use Rattle.spec.specs.Choice.{if◌then◌else◌}
+use Rattle.spec.specs.Choice.{when◌then◌else◌}
 use Rattle.spec.specs.Reading.{good, bad, bad_range, Range, ◌to◌, below, in_range, all_in_range}
 use Rattle.lexer.specs.Numbers.{stored}
 use Rattle.lexer.proofs.Digits.{both_true}
@@ -76,9 +76,9 @@ all_same (r ∷ rs) narrow (n ∷ ns) l h =
 
 -- as many numbers as ranges, judged as they are stored
 pub stored_judged : (rs : List Range) → AllNarrow rs → (ns : List ℕ) → length ns ≡ length rs
-    → (if all_in_range rs ns then good ns else bad bad_range) ≡ (if all_in_range rs (map stored ns) then good (map stored ns) else bad bad_range)
-stored_judged rs narrow ns l = go (all_in_range rs ns) refl ∙ ap (λ (x : Bool). if x then good (map stored ns) else bad bad_range) (sym (all_ranged rs narrow ns))
+    → (when all_in_range rs ns then good ns else bad bad_range) ≡ (when all_in_range rs (map stored ns) then good (map stored ns) else bad bad_range)
+stored_judged rs narrow ns l = go (all_in_range rs ns) refl ∙ ap (λ (x : Bool). when x then good (map stored ns) else bad bad_range) (sym (all_ranged rs narrow ns))
   where
-    go : (x : Bool) → all_in_range rs ns ≡ x → (if x then good ns else bad bad_range) ≡ (if x then good (map stored ns) else bad bad_range)
+    go : (x : Bool) → all_in_range rs ns ≡ x → (when x then good ns else bad bad_range) ≡ (when x then good (map stored ns) else bad bad_range)
     go true e = ap good (sym (all_same rs narrow ns l e))
     go false e = refl

@@ -3,16 +3,13 @@ use mathlib.Core.Path.{◌≡◌, refl, sym, ap, subst, ◌∙◌}
 use mathlib.Core.List.{List, [], ◌∷◌}
 use mathlib.Core.Bool.{true, false}
 use mathlib.Core.Option.{Option, none, some}
-use Prim.Native.Nat.{ℕ, ◌+◌, ◌-◌, ◌<◌}
+use Prim.Native.Nat.{ℕ, ◌+◌, ◌<◌}
 use native.Mathlib.Omega.{arith}
 use lib.ListN.{length}
 use Rattle.spec.specs.Text.{lines, Field, numeral}
 use Rattle.spec.specs.Reading.{SheetName, refuse, LineResult, bad, bad_form, form, faulty, passed, next_line}
 use Rattle.lexer.specs.Views.{end_of, first_field, behind, text_ended, with_field, line_at}
 use Rattle.lexer.specs.Cursors.{Placed, start, rest, behind_field, span_to, span_at}
-use types.Run.{OneOf, miss}
-use denote.Enum.Declared.{tag_of}
-use Rattle.lexer.specs.contracts.FieldEnd as field_end
 use Rattle.lexer.specs.declared.Cursor.{Cursor}
 use Rattle.lexer.specs.declared.Span.{Span}
 use Rattle.lexer.specs.declared.FieldEnd.{FieldEnd}
@@ -90,12 +87,6 @@ module _ (text : List ℕ) (c : Cursor) (n : ℕ) (e : FieldEnd) (d : Cursor) (i
 
     pub number_newline : e ≡ Newline → line_at (rest text c) ≡ some (first_field (rest text c) ∷ [], rest text d)
     number_newline f = rw (← number_behind) (line_newline (rest text c) (number_end ∙ f))
-
--- a field that a comma does not end, as a `let FieldEnd::Comma = end else` leaves it; likewise byte 10
-pub not_comma : (e : FieldEnd) → OneOf (1 ∷ 2 ∷ []) (tag_of field_end.the_type e) → e ≡ Comma → ⊥
-not_comma Comma h p = miss (1 ∷ 2 ∷ []) 0 tt h
-not_comma Newline h p = let z : ◌≡◌ {A = ℕ} 0 1 = cc in omega arith
-not_comma Text h p = let z : ◌≡◌ {A = ℕ} 0 1 = cc in omega arith
 
 -- whether something is left
 pub left_none : (t : List ℕ) → text_ended t ≡ true → t ≡ []

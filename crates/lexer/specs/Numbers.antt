@@ -1,7 +1,7 @@
 -- Numerals at a cursor, as the shapes that the code hands back.
 use Rattle.std.specs.Prelude.{List, [], ◌∷◌, map, Bool, false, ◌&&◌, ◌≡◌, ℕ, ◌+◌, ◌-◌, ◌≤◌, ◌<◌, eqb, leb, ltb, length, drop}
 use Rattle.std.proofs.Math.Option.{Option, none, some}
-use Rattle.spec.specs.Choice.{if◌then◌else◌}
+use Rattle.spec.specs.Choice.{when◌then◌else◌}
 use Rattle.spec.specs.Text.{Field, digit_limit, digits, value as value_of, numeral}
 use Rattle.spec.specs.Reading.{numerals}
 use Rattle.lexer.specs.Views.{width, end_of, first_field, line_at}
@@ -60,7 +60,7 @@ pub record DigitsTaken (text : List ℕ) (c : Cursor) (d : Taken) : Type 0 where
 
 -- a number as it is stored, in 32 bits: itself, or the largest that they hold
 unfoldable pub stored : ℕ → ℕ
-stored n = if leb n 4294967295 then n else 4294967295
+stored n = when leb n 4294967295 then n else 4294967295
 
 -- the field is a numeral, and its number is stored as n
 abbrev pub Spells : Field → ℕ → Type 0
@@ -80,7 +80,7 @@ numbers_in (some line) = with_rest (numerals line.0) line.1
 -- so many of them
 unfoldable pub counted : ℕ → Option (List ℕ × List ℕ) → Option (List ℕ × List ℕ)
 counted n none = none
-counted n (some found) = if eqb (length found.0) n then some found else none
+counted n (some found) = when eqb (length found.0) n then some found else none
 
 -- the line at a cursor, if it is of so many numerals
 unfoldable pub numbers_at : List ℕ → Cursor → ℕ → Option (List ℕ × List ℕ)

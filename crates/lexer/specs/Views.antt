@@ -1,7 +1,7 @@
 -- What is left of a text, seen by its first field and by its first line.
 use Rattle.std.specs.Prelude.{List, [], ◌∷◌, Bool, true, false, ℕ, suc, eqb, take, drop}
 use Rattle.std.proofs.Math.Option.{Option, none, some}
-use Rattle.spec.specs.Choice.{if◌then◌else◌}
+use Rattle.spec.specs.Choice.{when◌then◌else◌}
 use Rattle.spec.specs.Text.{Field, on_field}
 use Rattle.lexer.specs.declared.FieldEnd.{FieldEnd}
 use Rattle.lexer.specs.declared.FieldEnd.TheVariants.{Comma, Newline, Text}
@@ -11,12 +11,12 @@ use Rattle.lexer.specs.declared.FieldEnd.TheVariants.{Comma, Newline, Text}
 -- how many bytes stand in front of the first comma or byte 10
 unfoldable pub width : List ℕ → ℕ
 width [] = 0
-width (b ∷ t) = if eqb b 44 then 0 else if eqb b 10 then 0 else suc (width t)
+width (b ∷ t) = when eqb b 44 then 0 else when eqb b 10 then 0 else suc (width t)
 
 -- which of the two comes first; the end of the text, if none does
 unfoldable pub end_of : List ℕ → FieldEnd
 end_of [] = Text
-end_of (b ∷ t) = if eqb b 44 then Comma else if eqb b 10 then Newline else end_of t
+end_of (b ∷ t) = when eqb b 44 then Comma else when eqb b 10 then Newline else end_of t
 
 unfoldable pub first_field : List ℕ → Field
 first_field t = take (width t) t
@@ -45,6 +45,6 @@ with_byte b (some line) = some (on_field b line.0, line.1)
 unfoldable pub line_at : List ℕ → Option (List Field × List ℕ)
 line_at [] = none
 line_at (b ∷ t) =
-    if eqb b 44 then with_field [] (line_at t)
-    else if eqb b 10 then some ([] ∷ [], t)
+    when eqb b 44 then with_field [] (line_at t)
+    else when eqb b 10 then some ([] ∷ [], t)
     else with_byte b (line_at t)

@@ -16,7 +16,7 @@ use Rattle.lexer.specs.Cursors.{Placed, place_at}
 use Rattle.lexer.specs.declared.Cursor.{Cursor}
 use Rattle.lexer.proofs.LoopSteps.{numbered, LoopStep, first_loop_step, loop_step_on, loop_step_stops, loop_steps_done}
 use Rattle.workspace.specs.Layout.{words_at, values_at, lines_at, proc_lines_at, proc_vars_at, proc_firsts_at, row_types_at, step_room, code_of, work_size}
-use Rattle.workspace.specs.Region.{Region, ChangedWithin}
+use Rattle.workspace.specs.Region.{ChangedWithin}
 use Rattle.workspace.specs.Holds.{HoldsSteps}
 use Rattle.workspace.proofs.Region.{region_empty, region_apart, region_kept, column_push, changed_nothing, changed_store, changed_then}
 use Rattle.workspace.proofs.Steps.{steps_push}

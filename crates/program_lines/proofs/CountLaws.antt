@@ -3,11 +3,11 @@ use mathlib.Core.Path.{◌≡◌, refl, sym, ap, ◌∙◌}
 use mathlib.Core.Bool.{true, false, ◌&&◌, and-true}
 use mathlib.Core.List.{List, [], ◌∷◌}
 use mathlib.Core.Option.{some}
-use Prim.Native.Nat.{ℕ, ◌+◌, ◌-◌, ◌<◌, ◌≤◌}
+use Prim.Native.Nat.{ℕ, ◌+◌, ◌<◌, ◌≤◌}
 use native.Mathlib.Omega.{arith}
 use lib.ListN.{length}
 use borrow.Author.Tests.{le-leb, lt-leb}
-use Rattle.spec.specs.Choice.{if◌then◌else◌}
+use Rattle.spec.specs.Choice.{when◌then◌else◌}
 use Rattle.spec.specs.Text.{bytes, same, lines, Field, look_up}
 use Rattle.spec.specs.Reading.{program_sheet, ◌>>=◌, good, bad, bad_form, bad_range, seen, Range, ◌to◌, in_range, all_in_range, numerals, numbers, form, outside, faulty, passed, next_line, or_bad_form}
 use Rattle.spec.specs.Program.{program_headings, count_ranges, procedures_of, counts_of, count_line}
@@ -80,7 +80,7 @@ module _ (text : List ℕ) (c : Cursor) (s : Span) (f : HeadedAt text c s P) whe
 
   module _ (n : ℕ) (d : Cursor) (t : TailShown text s.next s.end (Value n d)) where
     plain_reads : count_at text
-        ≡ passed program_sheet (c.line + 1) (lines (rest text d)) (seen (counts_of P) (if in_range (1 to 256) n then good (n ∷ []) else bad bad_range))
+        ≡ passed program_sheet (c.line + 1) (lines (rest text d)) (seen (counts_of P) (when in_range (1 to 256) n then good (n ∷ []) else bad bad_range))
     unfolding seen
     plain_reads =
         counts text c f.top f.here.left
@@ -122,12 +122,12 @@ module _ (text : List ℕ) (c : Cursor) (s : Span) (f : HeadedAt text c s P2) wh
 
   module _ (n k : ℕ) (d : Cursor) (t : PairShown text s.next s.end (pair.Values n k d)) where
     full_reads : count_at text
-        ≡ passed program_sheet (c.line + 1) (lines (rest text d)) (seen (counts_of P2) (if in_range (1 to 256) n && in_range (0 to 16) k then good (n ∷ k ∷ []) else bad bad_range))
+        ≡ passed program_sheet (c.line + 1) (lines (rest text d)) (seen (counts_of P2) (when in_range (1 to 256) n && in_range (0 to 16) k then good (n ∷ k ∷ []) else bad bad_range))
     unfolding seen all_in_range
     full_reads =
         counts text c f.top f.here.left
         ∙ many_shows count_line (seen (counts_of P2)) refl full_ranges two_ranges text c s f.here.field f.here.placed (left_some (rest text c) f.here.left) full_shows (omega arith, (omega arith, tt)) (n ∷ k ∷ []) d t.0 t.1
-        ∙ ap (λ b. passed program_sheet (c.line + 1) (lines (rest text d)) (seen (counts_of P2) (if in_range (1 to 256) n && b then good (n ∷ k ∷ []) else bad bad_range))) (and-true (in_range (0 to 16) k))
+        ∙ ap (λ b. passed program_sheet (c.line + 1) (lines (rest text d)) (seen (counts_of P2) (when in_range (1 to 256) n && b then good (n ∷ k ∷ []) else bad bad_range))) (and-true (in_range (0 to 16) k))
 
     pub full_none : n < 1 → CountShown text (count.Refused (ProgramRange 1))
     unfolding faulty passed seen outside in_range

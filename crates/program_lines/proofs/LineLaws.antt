@@ -7,7 +7,7 @@ use Prim.Native.Nat.{ℕ, ◌+◌, ◌-◌, ◌<◌, ◌≤◌}
 use native.Mathlib.Omega.{arith}
 use lib.ListN.{length, take, drop}
 use borrow.Author.Tests.{le-leb, lt-leb}
-use Rattle.spec.specs.Choice.{if◌then◌else◌}
+use Rattle.spec.specs.Choice.{when◌then◌else◌}
 use Rattle.spec.specs.Text.{lines, Field, look_up}
 use Rattle.spec.specs.Reading.{program_sheet, refuse, ok, good, bad, bad_range, freelock, seen, refuse_after, ◌to◌, in_range, numbers, form, outside, miscounted, faulty, passed, read_line, or_bad_form}
 use Rattle.spec.specs.Expression.{Step, step, proc}
@@ -66,7 +66,7 @@ module _ (text : List ℕ) (h : ProgramHeading) (c : Cursor) (s : Span) (f : Fre
 
   module _ (v : ℕ) (d : Cursor) (t : TailShown text s.next s.end (Value v d)) where
     freelock_reads : item_at text h c
-        ≡ passed program_sheet (c.line + 1) (lines (rest text d)) (refuse_after freelock (if in_range (0 to 0) v then good (v ∷ []) else bad bad_range))
+        ≡ passed program_sheet (c.line + 1) (lines (rest text d)) (refuse_after freelock (when in_range (0 to 0) v then good (v ∷ []) else bad bad_range))
     unfolding item_at read_line place_at refuse_after
     freelock_reads =
         tail_shows (item_line h (c.line + 1)) (refuse_after freelock) refl (0 to 0) text c s f.here.field f.here.placed some_line freelock_shows (omega arith) v d t
@@ -91,7 +91,7 @@ value_narrow (Leaf Newsem) = omega arith
 value_narrow (Leaf Newrwlock) = omega arith
 value_narrow (Unary w) = go (calls w)
   where
-    go : (b : Bool) → (if b then 15 else 0) < 4294967295
+    go : (b : Bool) → (when b then 15 else 0) < 4294967295
     go true = omega arith
     go false = omega arith
 value_narrow (Binary Let) = omega arith
@@ -137,7 +137,7 @@ module _ (text : List ℕ) (h : ProgramHeading) (c : Cursor) (s : Span) (w : Wor
 
   module _ (v : ℕ) (d : Cursor) (t : TailShown text s.next s.end (Value v d)) where
     step_reads : item_at text h c
-        ≡ passed program_sheet (c.line + 1) (lines (rest text d)) (seen (step_of (c.line + 1) w) (if in_range (value_range w) v then good (v ∷ []) else bad bad_range))
+        ≡ passed program_sheet (c.line + 1) (lines (rest text d)) (seen (step_of (c.line + 1) w) (when in_range (value_range w) v then good (v ∷ []) else bad bad_range))
     unfolding item_at read_line place_at seen
     step_reads =
         tail_shows (item_line h (c.line + 1)) (seen (step_of (c.line + 1) w)) refl (value_range w) text c s f.step.here.field f.step.here.placed
@@ -188,7 +188,7 @@ module _ (text : List ℕ) (c : Cursor) (s : Span) (f : ProcAt text c s) where
 
     module _ (x : ℕ) (d : Cursor) (t : TailShown text s.next s.end (Value x d)) where
       proc_reads : item_at text h c
-          ≡ passed program_sheet (c.line + 1) (lines (rest text d)) (seen (proc_of (c.line + 1)) (if in_range (0 to 255) x then good (x ∷ []) else bad bad_range))
+          ≡ passed program_sheet (c.line + 1) (lines (rest text d)) (seen (proc_of (c.line + 1)) (when in_range (0 to 255) x then good (x ∷ []) else bad bad_range))
       unfolding item_at read_line place_at seen
       proc_reads =
           tail_shows (item_line h (c.line + 1)) (seen (proc_of (c.line + 1))) refl (0 to 255) text c s f.here.field f.here.placed

@@ -6,7 +6,7 @@ use mathlib.Core.Option.{none, some}
 use Prim.Native.Nat.{ℕ, ◌+◌, ◌-◌, ◌<◌}
 use native.Mathlib.Omega.{arith}
 use lib.ListN.{length, get_or, take, drop, length-drop}
-use Rattle.spec.specs.Choice.{if◌then◌else◌}
+use Rattle.spec.specs.Choice.{when◌then◌else◌}
 use Rattle.spec.specs.Text.{same, lines, Field}
 use Rattle.spec.specs.Reading.{program_sheet, refuse, LineResult, good, bad, bad_form, bad_range, Range, in_range, all_in_range, numerals, numbers, form, passed, next_line, or_bad_form}
 use Rattle.spec.specs.declared.Refusal.TheVariants.{ProgramForm}
@@ -113,7 +113,7 @@ module _
 
     pub many_shows : AllNarrow rs → (ns : List ℕ) (d : Cursor) → s.end ≡ Comma → numbers_at text s.next (length rs) ≡ some (ns, rest text d)
         → next_line program_sheet read c.line (lines (rest text c))
-        ≡ passed program_sheet (c.line + 1) (lines (rest text d)) (g (if all_in_range rs ns then good ns else bad bad_range))
+        ≡ passed program_sheet (c.line + 1) (lines (rest text d)) (g (when all_in_range rs ns then good ns else bad bad_range))
     many_shows narrow ns d comma h =
         tail_read program_sheet read c.line rs g text c (first_field (rest text c)) s.next (span_comma text c s is p comma) shows narrow ns (rest text d) h
 
@@ -142,11 +142,11 @@ module _
 
     module _ (narrow : Narrow range) (v : ℕ) (d : Cursor) (h : TailShown text s.next s.end (Value v d)) where
       pub tail_shows : next_line program_sheet read c.line (lines (rest text c))
-          ≡ passed program_sheet (c.line + 1) (lines (rest text d)) (g (if in_range range v then good (v ∷ []) else bad bad_range))
+          ≡ passed program_sheet (c.line + 1) (lines (rest text d)) (g (when in_range range v then good (v ∷ []) else bad bad_range))
       unfolding all_in_range
       tail_shows =
           many_shows read g otherwise (range ∷ []) one_range text c s is p left shows (narrow, tt) (v ∷ []) d h.0 h.1
-          ∙ ap (λ b. passed program_sheet (c.line + 1) (lines (rest text d)) (g (if b then good (v ∷ []) else bad bad_range))) (and-true (in_range range v))
+          ∙ ap (λ b. passed program_sheet (c.line + 1) (lines (rest text d)) (g (when b then good (v ∷ []) else bad bad_range))) (and-true (in_range range v))
 
 -- the number of a line can be counted
 pub line_fits : (text : List ℕ) (c : Cursor) → Placed text c → text_ended (rest text c) ≡ false → c.line + 1 < 4294967296

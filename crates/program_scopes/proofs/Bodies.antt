@@ -8,7 +8,7 @@ use Prim.Native.Nat.{ℕ, suc, ◌+◌, ◌-◌, ◌<◌, ◌≤◌}
 use native.Mathlib.Omega.{arith}
 use lib.Dec.{ltb}
 use lib.ListN.{length, get_or, set, length-map}
-use Rattle.spec.specs.Choice.{if◌then◌else◌}
+use Rattle.spec.specs.Choice.{when◌then◌else◌}
 use Rattle.spec.specs.Reading.{Result, refuse, ok, ◌>>=◌}
 use Rattle.spec.specs.Expression.{Step, Expr, size, steps_among, Procedure, among, scope_step, scope, scopes}
 use Rattle.spec.specs.WellFormed.{prefix, listing, NumberedFrom}
@@ -116,7 +116,7 @@ module _ (w : List ℕ) (n count m f k : ℕ) (p : Procedure) (ps : List Procedu
       → AllWalked w n count m (f + 1) (k + size p.body) ps root x.table (more b))
       → (y : Bool) → among p.parameter bound ≡ y
       → AllWalked w n count (suc m) f k (p ∷ ps) root t
-      ((if y then refuse (Rebound p.line) else ok (p.parameter ∷ bound)) >>= λ b. o b >>= more)
+      ((when y then refuse (Rebound p.line) else ok (p.parameter ∷ bound)) >>= λ b. o b >>= more)
   unfolding scopes_behind followed ◌>>=◌
   body_walked o more x₁ x₂ true e = rw (rebound e) refl
   body_walked o more x₁ x₂ false e = body_then w n count m f k p ps root t (fresh e) (o (p.parameter ∷ bound)) more (x₁ e) (x₂ e)

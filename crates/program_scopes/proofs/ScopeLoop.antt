@@ -9,7 +9,7 @@ use native.Mathlib.Nat.{sub-zero}
 use lib.Dec.{ltb}
 use lib.ListN.{length, get_or, set, length-set, length-append}
 use borrow.Author.Tests.{le-ltb, lt-ltb}
-use Rattle.spec.specs.Choice.{if◌then◌else◌}
+use Rattle.spec.specs.Choice.{when◌then◌else◌}
 use Rattle.spec.specs.Reading.{Result, refuse, ok}
 use Rattle.spec.specs.declared.Refusal.{Refusal}
 use Rattle.spec.specs.declared.Refusal.TheVariants.{Rebound}
@@ -118,7 +118,7 @@ body_kept w w' c count f t h l =
     )
     refl
 
-sized_choice : (m : ℕ) (b : Bool) (r : Refusal) (o : Result Passing) → Sized m o → Sized m (if b then refuse r else o)
+sized_choice : (m : ℕ) (b : Bool) (r : Refusal) (o : Result Passing) → Sized m o → Sized m (when b then refuse r else o)
 sized_choice m true r o s = tt
 sized_choice m false r o s = s
 

@@ -9,7 +9,7 @@ use native.Mathlib.Omega.{arith}
 use lib.Dec.{leb, ltb}
 use lib.ListN.{length, get_or, set}
 use borrow.Author.Tests.{le-leb, lt-leb, lt-ltb, le-ltb, ltb-true, ltb-false}
-use Rattle.spec.specs.Choice.{if◌then◌else◌}
+use Rattle.spec.specs.Choice.{when◌then◌else◌}
 use Rattle.spec.specs.Reading.{Result, refuse, ok, ◌>>=◌}
 use Rattle.spec.specs.Expression.{Position, Expr, leaf, unary, binary, size, among, scope_step, scope}
 use Rattle.spec.specs.Words.{calls, role, binding, largest_value}
@@ -57,7 +57,7 @@ module _ (count : ℕ) where
   -- ------------------------------------------------------------------ one step
 
   one_of : {A : Type 0} (r s : A) (x y z : Bool) → (x ≡ true) ⊎ ((y ≡ true) ⊎ (z ≡ true))
-      → (if x then r else if y then r else if z then r else s) ≡ r
+      → (when x then r else when y then r else when z then r else s) ≡ r
   one_of r s true y z o = refl
   one_of r s false true z o = refl
   one_of r s false false true o = refl
@@ -117,7 +117,7 @@ module _ (count : ℕ) where
           (ap (judge_var w k) (sym q) ∙ var_refused w k b o ∙ ap (λ i. Refused (Unbound i)) h.line)
 
       walk_use : (y : Bool) → Right w k hi y (let_in ins v) (get_or t v no_mark)
-          → Walked w m k 1 (let_in ins v ∷ []) t (if y then ok bound else refuse (Unbound l.line))
+          → Walked w m k 1 (let_in ins v ∷ []) t (when y then ok bound else refuse (Unbound l.line))
       unfolding after
       walk_use true r = record {
         table = t;
@@ -186,7 +186,7 @@ module _ (count : ℕ) where
         → (among v bound ≡ false → Walked w (s₂ + m) (k + 1) s₁ ls₁ (set t v k) (o₁ (v ∷ bound)))
         → (among v bound ≡ false → (b₁ : List ℕ) (x₁ : Gone w (s₂ + m) (k + 1) s₁ ls₁ (set t v k) b₁) → Walked w m (k + 1 + s₁) s₂ ls₂ x₁.table (more b₁))
         → (y : Bool) → among v bound ≡ y
-        → Walked w m k (suc (s₁ + s₂)) (0 ∷ (ls₁ ++ ls₂)) t ((if y then refuse (Rebound l.line) else ok (v ∷ bound)) >>= λ b. o₁ b >>= more)
+        → Walked w m k (suc (s₁ + s₂)) (0 ∷ (ls₁ ++ ls₂)) t ((when y then refuse (Rebound l.line) else ok (v ∷ bound)) >>= λ b. o₁ b >>= more)
     unfolding continued judge_let step_line_at ◌>>=◌
     walk_let x₀ o₁ more x₁ x₂ true e =
         let low : get_or t v no_mark < no_mark = ltb-true (get_or t v no_mark) no_mark (sym (bind v small) ∙ e) in
@@ -233,7 +233,7 @@ module _ (count : ℕ) where
         rw q (step w (s + m) k t h ∙ ap (λ r. continued (λ u. scopes_from w count (s + m) (k + 1) u) k t v (judge_by w count k (get_or t v no_mark) r)) e)
 
     walk_call : role (Unary x) ≡ Calls → Walked w m (k + 1) s ls t (more bound) → (y : Bool) → ltb v count ≡ y
-        → Walked w m k (suc s) (0 ∷ ls) t ((if y then ok bound else refuse (NoProcedure l.line)) >>= more)
+        → Walked w m k (suc s) (0 ∷ ls) t ((when y then ok bound else refuse (NoProcedure l.line)) >>= more)
     unfolding continued judge_call value_at step_line_at ◌>>=◌
     walk_call e x₁ true q = walk_one w m k s ls t (more bound) (step_calls e ∙ rw (h.value, q) refl) x₁
     walk_call e x₁ false q = step_calls e ∙ rw (h.value, q, h.line) refl

@@ -1,6 +1,6 @@
 -- One step, judged by what binds its variable: the index of a let, or the mark of a procedure.
 use Rattle.std.specs.Prelude.{List, ℕ, ◌+◌, ◌-◌, leb, ltb, get_or}
-use Rattle.spec.specs.Choice.{if◌then◌else◌}
+use Rattle.spec.specs.Choice.{when◌then◌else◌}
 use Rattle.spec.specs.Words.{role}
 use Rattle.spec.specs.declared.Refusal.TheVariants.{Unbound, Rebound, NoProcedure}
 use Rattle.spec.specs.declared.Role.{Role}
@@ -16,26 +16,26 @@ no_mark = 272
 
 -- a let at a line whose variable is bound at b
 unfoldable pub judge_let : (line b : ℕ) → Judged
-judge_let l b = if leb no_mark b then Bind else Refused (Rebound l)
+judge_let l b = when leb no_mark b then Bind else Refused (Rebound l)
 
 -- the scope of what is bound at b: a let's e2, or a procedure's body
 unfoldable pub scope_from : List ℕ → (b : ℕ) → ℕ
-scope_from w b = if ltb b proc_mark then get_or w (ends_at + (b + 1)) 0 else get_or w (proc_firsts_at + (b - 256)) 0
+scope_from w b = when ltb b proc_mark then get_or w (ends_at + (b + 1)) 0 else get_or w (proc_firsts_at + (b - 256)) 0
 
 unfoldable pub scope_till : List ℕ → (b : ℕ) → ℕ
-scope_till w b = if ltb b proc_mark then get_or w (ends_at + b) 0 else get_or w (proc_firsts_at + (b - 255)) 0
+scope_till w b = when ltb b proc_mark then get_or w (ends_at + b) 0 else get_or w (proc_firsts_at + (b - 255)) 0
 
 -- a use at index k of the variable that is bound at b: within that scope
 unfoldable pub judge_var : List ℕ → (k b : ℕ) → Judged
 judge_var w k b =
-    if leb no_mark b then Refused (Unbound (step_line_at w k))
-    else if ltb k (scope_from w b) then Refused (Unbound (step_line_at w k))
-    else if leb (scope_till w b) k then Refused (Unbound (step_line_at w k))
+    when leb no_mark b then Refused (Unbound (step_line_at w k))
+    else when ltb k (scope_from w b) then Refused (Unbound (step_line_at w k))
+    else when leb (scope_till w b) k then Refused (Unbound (step_line_at w k))
     else Store b
 
 -- a call at index k, in a sheet with so many procedures
 unfoldable pub judge_call : List ℕ → (count k : ℕ) → Judged
-judge_call w count k = if ltb (value_at w k) count then Store 0 else Refused (NoProcedure (step_line_at w k))
+judge_call w count k = when ltb (value_at w k) count then Store 0 else Refused (NoProcedure (step_line_at w k))
 
 unfoldable pub judge_by : List ℕ → (count k b : ℕ) → Role → Judged
 judge_by w count k b Binds = judge_let (step_line_at w k) b

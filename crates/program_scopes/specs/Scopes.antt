@@ -1,6 +1,6 @@
 -- Scopes in line order: a table has, for each variable, the index of the let that binds it, or the mark of its procedure.
 use Rattle.std.specs.Prelude.{◌≡◌, List, [], ◌∷◌, ◌++◌, ℕ, suc, zero, ◌+◌, ◌-◌, ◌<◌, ◌≤◌, ltb, length, get_or, set, replicate}
-use Rattle.spec.specs.Choice.{if◌then◌else◌}
+use Rattle.spec.specs.Choice.{when◌then◌else◌}
 use Rattle.spec.specs.Reading.{Result, refuse, ok}
 use Rattle.spec.specs.declared.Refusal.TheVariants.{Rebound}
 use Rattle.workspace.specs.Layout.{lets_at, proc_lines_at, proc_vars_at, proc_firsts_at, proc_mark, work_size}
@@ -62,7 +62,7 @@ followed (ok p) behind = with_front p.0 (behind p.1)
 -- the procedure f binds its variable, and its body is judged
 unfoldable pub body_scopes : List ℕ → (count f : ℕ) → (table : List ℕ) → Result Passing
 body_scopes w count f t =
-    if ltb (get_or t (get_or w (proc_vars_at + f) 0) no_mark) no_mark then refuse (Rebound (get_or w (proc_lines_at + f) 0))
+    when ltb (get_or t (get_or w (proc_vars_at + f) 0) no_mark) no_mark then refuse (Rebound (get_or w (proc_lines_at + f) 0))
     else scopes_from w count (first_at w (f + 1) - first_at w f) (first_at w f) (set t (get_or w (proc_vars_at + f) 0) (proc_mark + f))
 
 -- a body is due with a table

@@ -19,7 +19,7 @@ use Rattle.workspace.specs.Steps.{word_at, value_at, step_line_at, steps_from}
 use mathlib.Core.Bool.{Bool, true, false}
 use lib.Dec.{ltb}
 use borrow.Author.Tests.{le-leb, lt-leb}
-use Rattle.spec.specs.Choice.{if◌then◌else◌}
+use Rattle.spec.specs.Choice.{when◌then◌else◌}
 use Rattle.spec.specs.declared.Refusal.TheVariants.{ProgramLines}
 use Rattle.program_tree.specs.Trees.{next_of, limit_at, break_line, left_at, ExpressionAnswer, ExpressionFound}
 use Rattle.spec.specs.declared.Ruling.TheVariants as outcome
@@ -283,7 +283,7 @@ pub break_kept : {w w' : List ℕ} (i procs j last : ℕ) → procs ≤ step_roo
 unfolding break_line
 break_kept {w} {w'} i procs j last few c = go (ltb j procs)
   where
-    go : (b : Bool) → (if b then get_or w' (proc_lines_at + j) 0 else last) ≡ (if b then get_or w (proc_lines_at + j) 0 else last)
+    go : (b : Bool) → (when b then get_or w' (proc_lines_at + j) 0 else last) ≡ (when b then get_or w (proc_lines_at + j) 0 else last)
     go true = c.kept (proc_lines_at + j) (inr (omega arith))
     go false = refl
 

@@ -1,6 +1,6 @@
 -- Where the steps that the work space stores end.
 use Rattle.std.specs.Prelude.{◌≡◌, List, [], ◌∷◌, ◌++◌, ℕ, suc, zero, ◌+◌, ◌-◌, ◌≤◌, leb, length}
-use Rattle.spec.specs.Choice.{if◌then◌else◌}
+use Rattle.spec.specs.Choice.{when◌then◌else◌}
 use Rattle.spec.specs.Expression.{Expr, size, listed}
 use Rattle.spec.specs.declared.Word.{Word}
 use Rattle.spec.specs.declared.Word.TheVariants.{Leaf, Unary, Binary}
@@ -27,7 +27,7 @@ pub data Ending : Type 0 where
 
 -- what an end says of n steps: a part is missing, where it is behind all of them
 unfoldable pub ending_of : (n e : ℕ) → Ending
-ending_of n e = if leb e n then Reached e else Unfinished
+ending_of n e = when leb e n then Reached e else Unfinished
 
 -- the expressions that the steps from index k on list, one after the other
 unfoldable pub listed_from : List ℕ → (n k : ℕ) → List Expr

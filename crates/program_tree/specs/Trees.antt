@@ -1,6 +1,6 @@
 -- The procedures and the root that the lines stored list, walked from the top.
 use Rattle.std.specs.Prelude.{◌≡◌, Bool, ◌&&◌, List, [], ◌∷◌, ℕ, ◌+◌, ◌-◌, ◌<◌, ◌≤◌, eqb, ltb, length, get_or}
-use Rattle.spec.specs.Choice.{if◌then◌else◌}
+use Rattle.spec.specs.Choice.{when◌then◌else◌}
 use Rattle.spec.specs.Reading.{Result, refuse, ok}
 use Rattle.spec.specs.Expression.{Expr, size, Item, step, proc, steps_among, Procedure, listed, expression, structure}
 use Rattle.spec.specs.declared.Refusal.TheVariants.{ProgramLines}
@@ -26,16 +26,16 @@ proc_next w procs i j = ltb j procs && eqb (get_or w (proc_firsts_at + j) 0) i
 -- what stands at index i, behind j of the `proc` lines
 unfoldable pub next_of : List ℕ → (steps procs i j : ℕ) → Next
 next_of w steps procs i j =
-    if proc_next w procs i j then Proc
-    else if ltb i steps then Step
+    when proc_next w procs i j then Proc
+    else when ltb i steps then Step
     else End
 
 -- the index behind the steps in front of `proc` line j
 unfoldable pub limit_at : List ℕ → (steps procs j : ℕ) → ℕ
-limit_at w steps procs j = if ltb j procs then get_or w (proc_firsts_at + j) 0 else steps
+limit_at w steps procs j = when ltb j procs then get_or w (proc_firsts_at + j) 0 else steps
 
 unfoldable pub break_line : List ℕ → (procs j last : ℕ) → ℕ
-break_line w procs j last = if ltb j procs then get_or w (proc_lines_at + j) 0 else last
+break_line w procs j last = when ltb j procs then get_or w (proc_lines_at + j) 0 else last
 
 abbrev left_by : List ℕ → (e j : ℕ) → Next → Ruling
 left_by w e j Proc = outcome.Refused (ProgramLines (get_or w (proc_lines_at + j) 0))

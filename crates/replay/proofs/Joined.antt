@@ -6,7 +6,7 @@ use mathlib.Core.List.{List, [], ◌∷◌, ◌++◌}
 use native.Mathlib.Omega.{arith}
 use lib.Dec.{eqb}
 use lib.ListN.{length}
-use Rattle.spec.specs.Choice.{if◌then◌else◌}
+use Rattle.spec.specs.Choice.{when◌then◌else◌}
 use Rattle.spec.specs.Text.{Line, closed, unclosed, on_line, lines}
 use Rattle.replay_control.specs.Layout.{space_size}
 use Rattle.replay_theory.specs.declared.Ending.{Ending}
@@ -29,7 +29,7 @@ some_line : (b : ℕ) (t : List ℕ) → Some (lines (b ∷ t))
 unfolding lines on_line
 some_line b t = by_byte (eqb b 10) (lines t)
   where
-    by_byte : (x : Bool) (ls : List Line) → Some (if x then closed [] ∷ lines t else on_line b ls)
+    by_byte : (x : Bool) (ls : List Line) → Some (when x then closed [] ∷ lines t else on_line b ls)
     by_byte true ls = record { first = _; others = _; is = refl }
     by_byte false [] = record { first = _; others = _; is = refl }
     by_byte false (closed l ∷ r) = record { first = _; others = _; is = refl }
@@ -54,7 +54,7 @@ lines_joined (b ∷ []) u e = rw e refl
 lines_joined (b ∷ c ∷ t) u e = by_byte (eqb b 10) (lines_joined (c ∷ t) u e)
   where
     by_byte : (x : Bool) → lines (c ∷ (t ++ u)) ≡ lines (c ∷ t) ++ lines u →
-        ◌≡◌ {A = List Line} (if x then closed [] ∷ lines (c ∷ (t ++ u)) else on_line b (lines (c ∷ (t ++ u)))) ((if x then closed [] ∷ lines (c ∷ t) else on_line b (lines (c ∷ t))) ++ lines u)
+        ◌≡◌ {A = List Line} (when x then closed [] ∷ lines (c ∷ (t ++ u)) else on_line b (lines (c ∷ (t ++ u)))) ((when x then closed [] ∷ lines (c ∷ t) else on_line b (lines (c ∷ t))) ++ lines u)
     by_byte true h = ap (λ (ls : List Line). closed [] ∷ ls) h
     by_byte false h = ap (on_line b) h ∙ on_some_joined b (lines (c ∷ t)) (lines u) (some_line c t)
 

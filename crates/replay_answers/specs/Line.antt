@@ -1,6 +1,6 @@
 -- The line of `racereplay` for each outcome of a run.
 use Rattle.std.specs.Prelude.{List, [], ◌∷◌, ◌++◌, map, Bool, true, false, ℕ}
-use Rattle.spec.specs.Choice.{if◌then◌else◌}
+use Rattle.spec.specs.Choice.{when◌then◌else◌}
 use Rattle.spec.specs.Text.{bytes, Field}
 use Rattle.text_theory.specs.Text.{decimal, line}
 use Rattle.replay_theory.specs.Replay.{returned_for}
@@ -46,7 +46,7 @@ is_done (NoStep k) = false
 is_done (PastLimit k) = false
 
 unfoldable pub replayed_fields : Replayed → List Field
-replayed_fields r = if is_done r.ending then ran_fields r.report else refused_fields (returned_for r.ending) r.report
+replayed_fields r = when is_done r.ending then ran_fields r.report else refused_fields (returned_for r.ending) r.report
 
 unfoldable pub output_line : Outcome → List ℕ
 output_line (Ran r) = line (replayed_fields r) []

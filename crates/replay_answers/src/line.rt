@@ -9,7 +9,7 @@ use replay_theory::{Ending, FirstRace, Numbers, Replayed, Report};
 use writer::{write_bytes, write_field};
 
 // What a run comes to: the replay of the program and the trace, or that they can't be read.
-#[derive(Drop)]
+#[derive(Clone, Copy)]
 pub enum Outcome {
     Ran(Replayed),
     Unread,

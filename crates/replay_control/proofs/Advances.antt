@@ -7,7 +7,7 @@ use native.Mathlib.Omega.{arith}
 use borrow.Author.Tests.{lt-ltb, le-ltb}
 use lib.ListN.{length, set, length-set}
 use lib.Dec.{eqb}
-use Rattle.spec.specs.Choice.{if◌then◌else◌}
+use Rattle.spec.specs.Choice.{when◌then◌else◌}
 use Rattle.replay_control.specs.Layout.{kept_values_at}
 use Rattle.replay_control.specs.declared.ControlPoint.{ControlPoint}
 use Rattle.replay_control.specs.Control.{half_written, returned_space, advanced, advanced_space, found}
@@ -36,7 +36,7 @@ module _ (p s : List ℕ) (f : ControlPoint) where
   unfolding advanced_space returned_space
   advance_length = go (eqb f.mode 0) (half_written p f.at)
     where
-      go : (a b : Bool) → length (if a then s else if b then set s (kept_values_at + 256 * f.row + f.at) f.value else s) ≡ length s
+      go : (a b : Bool) → length (when a then s else when b then set s (kept_values_at + 256 * f.row + f.at) f.value else s) ≡ length s
       go true b = refl
       go false true = length-set s (kept_values_at + 256 * f.row + f.at) f.value
       go false false = refl

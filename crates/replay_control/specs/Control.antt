@@ -1,6 +1,6 @@
 -- The loop that finds the next word of a thread, on numbers: p holds the program, s is the lent space, r is the row of the thread.
 use Rattle.std.specs.Prelude.{ℕ, zero, suc, ◌+◌, ◌*◌, ◌-◌, Bool, false, List, eqb, ltb, get_or, set}
-use Rattle.spec.specs.Choice.{if◌then◌else◌}
+use Rattle.spec.specs.Choice.{when◌then◌else◌}
 use Rattle.workspace.specs.Layout.{values_at, ends_at, proc_firsts_at}
 use Rattle.replay_control.specs.Layout.{continuations_at, second_part, finish, leave, procedures_at, environments_at, kept_values_at, open_calls_at}
 use Rattle.replay_control.specs.Shapes.{shape_at, is_write}
@@ -33,7 +33,7 @@ unfoldable pub root_of : (p : List ℕ) → ℕ
 root_of p = first_of p (get_or p procedures_at 0)
 
 unfoldable pub behind : ℕ → ℕ
-behind k = if ltb k finish then k + 1 else k
+behind k = when ltb k finish then k + 1 else k
 
 -- ------------------------------------------------------------------ where a thread is
 
@@ -76,7 +76,7 @@ unfoldable pub entered : (p s : List ℕ) (r k : ℕ) → ControlPoint
 entered p s r k = entered_by (shape_at p k) r k (continuation p k) (variable s r (get_or p (values_at + k) 0))
 
 unfoldable pub half_written : (p : List ℕ) (c : ℕ) → Bool
-half_written p c = if ltb c second_part then is_write (shape_at p c) else false
+half_written p c = when ltb c second_part then is_write (shape_at p c) else false
 
 -- an open call ends with its body's value, in the row before
 unfoldable pub left : (p s : List ℕ) (r v : ℕ) → ControlPoint
@@ -84,23 +84,23 @@ left p s r v = returning (r - 1) (continuation p (called_from s r)) v
 
 unfoldable pub returned : (p s : List ℕ) (r c v : ℕ) → ControlPoint
 returned p s r c v =
-    if half_written p c then entering r (second p c)
-    else if ltb c second_part then ready_at r c v
-    else if ltb c finish then ready_at r (c - second_part) v
-    else if ltb c leave then done_with r v
+    when half_written p c then entering r (second p c)
+    else when ltb c second_part then ready_at r c v
+    else when ltb c finish then ready_at r (c - second_part) v
+    else when ltb c leave then done_with r v
     else left p s r v
 
 unfoldable pub returned_space : (p s : List ℕ) (r c v : ℕ) → List ℕ
-returned_space p s r c v = if half_written p c then set s (kept_values_at + 256 * r + c) v else s
+returned_space p s r c v = when half_written p c then set s (kept_values_at + 256 * r + c) v else s
 
 unfoldable pub advanced : (p s : List ℕ) → ControlPoint → ControlPoint
-advanced p s f = if eqb f.mode 0 then entered p s f.row f.at else returned p s f.row f.at f.value
+advanced p s f = when eqb f.mode 0 then entered p s f.row f.at else returned p s f.row f.at f.value
 
 unfoldable pub advanced_space : (p s : List ℕ) → ControlPoint → List ℕ
-advanced_space p s f = if eqb f.mode 0 then s else returned_space p s f.row f.at f.value
+advanced_space p s f = when eqb f.mode 0 then s else returned_space p s f.row f.at f.value
 
 -- ------------------------------------------------------------------ the loop
 
 unfoldable pub found : (n : ℕ) (p s : List ℕ) → ControlPoint → ControlPoint × List ℕ
 found zero p s f = (f, s)
-found (suc n) p s f = if ltb f.mode 2 then found n p (advanced_space p s f) (advanced p s f) else (f, s)
+found (suc n) p s f = when ltb f.mode 2 then found n p (advanced_space p s f) (advanced p s f) else (f, s)

@@ -7,7 +7,7 @@ use native.Mathlib.Omega.{arith}
 use borrow.Author.Tests.{ltb-true}
 use lib.Dec.{leb, ltb}
 use lib.ListN.{get_or, set}
-use Rattle.spec.specs.Choice.{if◌then◌else◌}
+use Rattle.spec.specs.Choice.{when◌then◌else◌}
 use Rattle.replay_theory.specs.declared.Status.{Status}
 use Rattle.replay_theory.specs.declared.Status.TheVariants.{Running, Finished, Joined}
 use Rattle.threads.specs.declared.Threads.{Threads}
@@ -31,11 +31,11 @@ Few T = T.count ≤ 16
 abbrev FewAfter : Stepped × List ℕ → Type 0
 FewAfter r = Few r.0.threads
 
-either : (b : Bool) (A B : Threads) → Few A → Few B → Few (if b then A else B)
+either : (b : Bool) (A B : Threads) → Few A → Few B → Few (when b then A else B)
 either true A B a b = a
 either false A B a b = b
 
-either_after : (b : Bool) (A B : Stepped × List ℕ) → FewAfter A → FewAfter B → FewAfter (if b then A else B)
+either_after : (b : Bool) (A B : Stepped × List ℕ) → FewAfter A → FewAfter B → FewAfter (when b then A else B)
 either_after true A B a b = a
 either_after false A B a b = b
 
@@ -50,7 +50,7 @@ spawned_few T tid h = by_room (ltb T.count 16) refl
     more : Threads
     more = record { records = set T.records T.count (record { state = Running; tid = tid }); count = T.count + 1 }
 
-    by_room : (b : Bool) → ltb T.count 16 ≡ b → Few (if b then more else T)
+    by_room : (b : Bool) → ltb T.count 16 ≡ b → Few (when b then more else T)
     by_room true e = let l = ltb-true T.count 16 e in omega arith
     by_room false e = h
 
@@ -99,7 +99,7 @@ after_few p T t f (a, s) h = act_few p s T t f a h
 pub stepped_few : (p s : List ℕ) (T : Threads) (t c : ℕ) → T.count ≤ 16 → (stepped p s T t c).0.threads.count ≤ 16
 unfolding stepped stepped_from
 stepped_few p s T t c h =
-    either_after (runs T t) (if may_choose p (control_point_at s t) c then after_act p T t (control_point_at s t) (acted p s (control_point_at s t) c) else (ending Stuck T, s)) (ending Stuck T, s)
+    either_after (runs T t) (when may_choose p (control_point_at s t) c then after_act p T t (control_point_at s t) (acted p s (control_point_at s t) c) else (ending Stuck T, s)) (ending Stuck T, s)
     (either_after (may_choose p (control_point_at s t) c) (after_act p T t (control_point_at s t) (acted p s (control_point_at s t) c)) (ending Stuck T, s)
     (after_few p T t (control_point_at s t) (acted p s (control_point_at s t) c) h) h)
     h

@@ -4,7 +4,7 @@ use mathlib.Core.Path.{◌≡◌, refl, sym, ◌∙◌, ap}
 use mathlib.Core.Bool.{Bool, true, false}
 use mathlib.Core.List.{List}
 use native.Mathlib.Omega.{arith}
-use Rattle.spec.specs.Choice.{if◌then◌else◌}
+use Rattle.spec.specs.Choice.{when◌then◌else◌}
 use Rattle.replay_engine.specs.Races.{access_of, writes, is_write, clash, any_writes, partner_of, partner_from, pair_with, pair_of, lowest_pair}
 use Rattle.replay_engine.proofs.Pairing.{one_less, none_left}
 use Rattle.replay_engine.specs.declared.races.Access.{Access}
@@ -30,7 +30,7 @@ module _ (p s : List ℕ) where
   unfolding any_writes
   first_and j n e = by_first (is_write (access_of p s j)) refl e
     where
-      by_first : (b : Bool) → is_write (access_of p s j) ≡ b → ◌≡◌ {A = Bool} (if b then true else any_writes p s (j + 1) n) false → FirstAnd j n
+      by_first : (b : Bool) → is_write (access_of p s j) ≡ b → ◌≡◌ {A = Bool} (when b then true else any_writes p s (j + 1) n) false → FirstAnd j n
       by_first true h e = absurd (let y : ◌≡◌ {A = ℕ} 0 1 = cc in omega arith)
       by_first false h e = record { here = h; others = e }
 

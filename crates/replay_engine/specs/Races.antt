@@ -1,6 +1,6 @@
 -- The lowest pair of threads that race, on numbers.
 use Rattle.std.specs.Prelude.{ℕ, zero, suc, ◌+◌, ◌-◌, Bool, true, false, List, eqb, get_or}
-use Rattle.spec.specs.Choice.{if◌then◌else◌}
+use Rattle.spec.specs.Choice.{when◌then◌else◌}
 use Rattle.workspace.specs.Layout.{words_at, rule_of, touch_of}
 use Rattle.workspace.specs.declared.Touch.{Touch}
 use Rattle.workspace.specs.declared.Touch.TheVariants.{Nothing, Reads, Writes}
@@ -23,11 +23,11 @@ names_cell s v = eqb (slot_at s v).kind 2
 -- of a word that touches a cell so: `read` that which its value names, `write` that which its first part gave
 unfoldable pub access_by : Touch → (s : List ℕ) → ControlPoint → Access
 access_by Nothing s f = None
-access_by Reads s f = let v = f.value in if names_cell s v then Read v else None
-access_by Writes s f = let v = kept s f.row f.at in if names_cell s v then Write v else None
+access_by Reads s f = let v = f.value in when names_cell s v then Read v else None
+access_by Writes s f = let v = kept s f.row f.at in when names_cell s v then Write v else None
 
 unfoldable pub access_at : (p s : List ℕ) → ControlPoint → Access
-access_at p s f = if eqb f.mode 3 then access_by (touch_of (rule_of (get_or p (words_at + f.at) 0))) s f else None
+access_at p s f = when eqb f.mode 3 then access_by (touch_of (rule_of (get_or p (words_at + f.at) 0))) s f else None
 
 unfoldable pub access_of : (p s : List ℕ) (t : ℕ) → Access
 access_of p s t = access_at p s (control_point_at s t)
@@ -52,19 +52,19 @@ is_write (Write v) = true
 unfoldable pub clash : Access → Access → Bool
 clash None b = false
 clash (Read v) b = writes b v
-clash (Write v) b = if writes b v then true else reads b v
+clash (Write v) b = when writes b v then true else reads b v
 
 -- ------------------------------------------------------------------ all threads
 
 -- of n threads from j on
 unfoldable pub any_writes : (p s : List ℕ) (j n : ℕ) → Bool
 any_writes p s j zero = false
-any_writes p s j (suc n) = if is_write (access_of p s j) then true else any_writes p s (j + 1) n
+any_writes p s j (suc n) = when is_write (access_of p s j) then true else any_writes p s (j + 1) n
 
 -- n threads from j on
 unfoldable pub partner_of : (p s : List ℕ) → Access → (j n : ℕ) → Partner
 partner_of p s a j zero = partner.None
-partner_of p s a j (suc n) = if clash a (access_of p s j) then partner.Is j else partner_of p s a (j + 1) n
+partner_of p s a j (suc n) = when clash a (access_of p s j) then partner.Is j else partner_of p s a (j + 1) n
 
 unfoldable pub partner_from : (p s : List ℕ) → Access → (i count : ℕ) → Partner
 partner_from p s a i count = partner_of p s a i (count - i)

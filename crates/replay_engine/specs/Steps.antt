@@ -1,6 +1,6 @@
 -- A step of a thread on numbers.
 use Rattle.std.specs.Prelude.{ℕ, zero, suc, ◌+◌, ◌*◌, Bool, true, false, List, eqb, leb, ltb, get_or, set}
-use Rattle.spec.specs.Choice.{if◌then◌else◌}
+use Rattle.spec.specs.Choice.{when◌then◌else◌}
 use Rattle.threads.specs.declared.Threads.{Threads}
 use Rattle.threads.specs.declared.Found.{Found}
 use Rattle.threads.specs.declared.Found.TheVariants.{At, Nothing}
@@ -20,14 +20,14 @@ use Rattle.replay_engine.specs.declared.Stepped.{Stepped}
 
 unfoldable pub may_choose : (p : List ℕ) → ControlPoint → (choice : ℕ) → Bool
 may_choose p f c =
-    if eqb c 0 then true
-    else if eqb c 1 then (if eqb f.mode 4 then true else is_if (shape_at p f.at))
+    when eqb c 0 then true
+    else when eqb c 1 then (when eqb f.mode 4 then true else is_if (shape_at p f.at))
     else false
 
 -- ------------------------------------------------------------------ going on
 
 unfoldable pub recorded : Threads → (t : ℕ) → Bool × List ℕ → Threads × List ℕ
-recorded T t (done, s) = ((if done then finished T t else T), s)
+recorded T t (done, s) = ((when done then finished T t else T), s)
 
 unfoldable pub proceeded : (p s : List ℕ) → Threads → (t : ℕ) → ControlPoint → Threads × List ℕ
 proceeded p s T t f = recorded T t (went_on p s t f)
@@ -37,7 +37,7 @@ ending o T = record { outcome = o; threads = T }
 
 -- a step of thread t is done; with more than 64 calls open it is past the limit
 unfoldable pub outcome_of : (s : List ℕ) (t : ℕ) → Outcome
-outcome_of s t = if ltb (66 * t + 64) (get_or s (control_point_rows_at + t) 0) then Past else Moved
+outcome_of s t = when ltb (66 * t + 64) (get_or s (control_point_rows_at + t) 0) then Past else Moved
 
 unfoldable pub moved_to : (t : ℕ) → Threads × List ℕ → Stepped × List ℕ
 moved_to t (T, s) = (ending (outcome_of s t) T, s)
@@ -59,7 +59,7 @@ gives_zero p t f (T, s) = moved_to t (proceeded p s T t (given p f.row f.at 0))
 -- the new thread runs outside of calls, in the first of its rows
 unfoldable pub spawned_step : (p s : List ℕ) → Threads → (t : ℕ) → ControlPoint → (tid : ℕ) → Stepped × List ℕ
 spawned_step p s T t f tid =
-    if leb 16 T.count then (ending Past T, s)
+    when leb 16 T.count then (ending Past T, s)
     else gives_zero p t f (proceeded p (copied s f.row (66 * T.count)) (spawned T tid) T.count (entering (66 * T.count) (second p f.at)))
 
 unfoldable pub joined_by : Found → (p s : List ℕ) → Threads → (t : ℕ) → ControlPoint → Stepped × List ℕ
@@ -83,10 +83,10 @@ unfoldable pub after_act : (p : List ℕ) → Threads → (t : ℕ) → ControlP
 after_act p T t f (a, s) = act_step p s T t f a
 
 unfoldable pub stepped_from : (p s : List ℕ) → Threads → (t : ℕ) → ControlPoint → (choice : ℕ) → Stepped × List ℕ
-stepped_from p s T t f c = if may_choose p f c then after_act p T t f (acted p s f c) else (ending Stuck T, s)
+stepped_from p s T t f c = when may_choose p f c then after_act p T t f (acted p s f c) else (ending Stuck T, s)
 
 unfoldable pub stepped : (p s : List ℕ) → Threads → (t choice : ℕ) → Stepped × List ℕ
-stepped p s T t c = if runs T t then stepped_from p s T t (control_point_at s t) c else (ending Stuck T, s)
+stepped p s T t c = when runs T t then stepped_from p s T t (control_point_at s t) c else (ending Stuck T, s)
 
 -- ------------------------------------------------------------------ the start
 

@@ -1,6 +1,6 @@
 -- A run as numbers: what they say of it, and what it is for them to keep the parts of one.
 use Rattle.std.specs.Prelude.{ℕ, ◌+◌, ◌<◌, ◌≡◌, List, eqb, get_or, drop}
-use Rattle.spec.specs.Choice.{if◌then◌else◌}
+use Rattle.spec.specs.Choice.{when◌then◌else◌}
 use Rattle.lexer.specs.Numbers.{stored}
 use Rattle.threads.specs.declared.Record.{Record}
 use Rattle.threads.specs.Records.{no_record}
@@ -35,7 +35,7 @@ status_number Joined = 2
 -- ------------------------------------------------------------------ what the numbers say
 
 unfoldable pub status_of : ℕ → Status
-status_of n = if eqb n 0 then Running else if eqb n 1 then Finished else Joined
+status_of n = when eqb n 0 then Running else when eqb n 1 then Finished else Joined
 
 unfoldable pub record_in : List ℕ → (t : ℕ) → Record
 record_in w t = record { state = status_of (get_or w (11 + t) 0); tid = stored (get_or w (27 + t) 0) }

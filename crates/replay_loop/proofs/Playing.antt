@@ -7,7 +7,7 @@ use mathlib.Core.Option.{Option, none, some}
 use native.Mathlib.Omega.{arith}
 use lib.Dec.{eqb}
 use lib.ListN.{length, drop, length-drop, drop_of_length-le}
-use Rattle.spec.specs.Choice.{if◌then◌else◌}
+use Rattle.spec.specs.Choice.{when◌then◌else◌}
 use Rattle.spec.specs.Text.{Line, closed, unclosed, lines, on_line as text_line}
 use Rattle.lexer.specs.Views.{line_at}
 use Rattle.lexer.specs.Numbers.{stored}
@@ -44,7 +44,7 @@ unfolding check_limits
 limited_step none R e = absurd (let y : ◌≡◌ {A = ℕ} 0 1 = cc in omega arith)
 limited_step (some a) R e = by_limit (within a) e
   where
-    by_limit : (b : Bool) → ◌≡◌ {A = Outcome Replay} (if b then step a else past_limit) (step R) → some a ≡ some R
+    by_limit : (b : Bool) → ◌≡◌ {A = Outcome Replay} (when b then step a else past_limit) (step R) → some a ≡ some R
     by_limit true e = ap some (let z : a ≡ R = cc in z)
     by_limit false e = absurd (let y : ◌≡◌ {A = ℕ} 0 1 = cc in omega arith)
 
@@ -54,7 +54,7 @@ unfolding lines text_line
 some_line [] h e = omega arith
 some_line (b ∷ t) h e = by_byte (eqb b 10) (lines t) e
   where
-    by_byte : (x : Bool) (ls : List Line) → ◌≡◌ {A = List Line} (if x then closed [] ∷ lines t else text_line b ls) [] → ⊥
+    by_byte : (x : Bool) (ls : List Line) → ◌≡◌ {A = List Line} (when x then closed [] ∷ lines t else text_line b ls) [] → ⊥
     by_byte true ls e = let y : ◌≡◌ {A = ℕ} 0 1 = cc in omega arith
     by_byte false [] e = let y : ◌≡◌ {A = ℕ} 0 1 = cc in omega arith
     by_byte false (closed l ∷ r) e = let y : ◌≡◌ {A = ℕ} 0 1 = cc in omega arith

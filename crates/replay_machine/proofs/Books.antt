@@ -9,7 +9,7 @@ use native.Mathlib.Omega.{arith}
 use lib.Dec.{eqb}
 use lib.ListN.{get_elem?, set, length}
 use borrow.Author.Tests.{eq-eqb, ne_eqb}
-use Rattle.spec.specs.Choice.{if◌then◌else◌}
+use Rattle.spec.specs.Choice.{when◌then◌else◌}
 use Rattle.spec.proofs.Clashes.{true_is_not_false}
 use Rattle.calculus.specs.Expression.{Redex, next_word}
 use Rattle.calculus.specs.State.{Slot, Thread}
@@ -48,11 +48,11 @@ run_of R = record {
 
 other_number : (i j : ℕ) (ns : List ℕ) → i ≢ j → place_of i (j ∷ ns) ≡ map suc (place_of i ns)
 unfolding place_of
-other_number i j ns d = ap (λ (b : Bool). if b then some 0 else map suc (place_of i ns)) (ne_eqb i j d)
+other_number i j ns d = ap (λ (b : Bool). when b then some 0 else map suc (place_of i ns)) (ne_eqb i j d)
 
 same_number : (i j : ℕ) (ns : List ℕ) → i ≡ j → place_of i (j ∷ ns) ≡ some 0
 unfolding place_of
-same_number i j ns e = ap (λ (b : Bool). if b then some 0 else map suc (place_of i ns)) (eq-eqb i j e)
+same_number i j ns e = ap (λ (b : Bool). when b then some 0 else map suc (place_of i ns)) (eq-eqb i j e)
 
 pub place_of_live : (ts : List MachineThread) (k i : ℕ) (t : MachineThread) → LiveAt ts i t → place_of (k + i) (numbers_from k ts) ≡ some (rank ts i)
 place_of_live [] k i t h = none_is_not_some h.there
@@ -132,9 +132,9 @@ lowest_is_first (t ∷ ts) k n j h =
         lowest_finished n (unless b (λ l. decode_thread t ∷ l) rest) ≡ rank (t ∷ ts) j
     by_cases true c is q z later = past true (lowest n ts) refl is later z
     by_cases false true is q z later =
-        ap (λ (c : Bool). if c then 0 else suc (lowest_finished n rest)) q ∙ ap (rank (t ∷ ts)) (some_injective z)
+        ap (λ (c : Bool). when c then 0 else suc (lowest_finished n rest)) q ∙ ap (rank (t ∷ ts)) (some_injective z)
     by_cases false false is q z later =
-        ap (λ (c : Bool). if c then 0 else suc (lowest_finished n rest)) q ∙ past false (lowest n ts) refl is later z
+        ap (λ (c : Bool). when c then 0 else suc (lowest_finished n rest)) q ∙ past false (lowest n ts) refl is later z
 
 -- ---- What threads use
 

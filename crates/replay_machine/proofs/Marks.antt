@@ -5,7 +5,7 @@ use mathlib.Core.Bool.{Bool, true, false, not}
 use mathlib.Core.List.{List, [], ◌∷◌}
 use mathlib.Core.Option.{Option, some}
 use lib.ListN.{length}
-use Rattle.spec.specs.Choice.{if◌then◌else◌}
+use Rattle.spec.specs.Choice.{when◌then◌else◌}
 use Rattle.spec.specs.Expression.{Position, Expr, leaf, unary, binary}
 use Rattle.spec.specs.declared.BinaryWord.TheVariants.{Let, If, Spawn, Write}
 use Rattle.calculus.specs.Expression.{Value, int, newtid, Exp, value, Redex, Next, at_word, next_word}
@@ -118,9 +118,9 @@ path_of_decoded (at σ w K) = path_found σ K (word_exp σ w) (word_is_next σ w
 abbrev pub Tells : Control → List Path → Type 0
 Tells b ps = still_open (decode b) ps ≡ call_paths b
 
-open_first : (e : Exp) (q : Path) (ps : List Path) (b : Bool) → is_open (part_at q e) ≡ b → still_open e (q ∷ ps) ≡ (if b then (q ∷ still_open e ps) else still_open e ps)
+open_first : (e : Exp) (q : Path) (ps : List Path) (b : Bool) → is_open (part_at q e) ≡ b → still_open e (q ∷ ps) ≡ (when b then (q ∷ still_open e ps) else still_open e ps)
 unfolding still_open
-open_first e q ps b h = ap (λ (c : Bool). if c then (q ∷ still_open e ps) else still_open e ps) h
+open_first e q ps b h = ap (λ (c : Bool). when c then (q ∷ still_open e ps) else still_open e ps) h
 
 -- Around a word every call is open.
 still_open_lem : {r : Redex} (σ : Env) (K : List Frame) (E : Exp) → next_word E ≡ at_word r → still_open (fill σ K E) (paths K) ≡ paths K

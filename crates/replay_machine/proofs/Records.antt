@@ -8,7 +8,7 @@ use native.Mathlib.Omega.{arith}
 use lib.Dec.{ltb}
 use lib.ListN.{get_elem?, length}
 use borrow.Author.Tests.{lt-ltb, le-ltb}
-use Rattle.spec.specs.Choice.{if◌then◌else◌}
+use Rattle.spec.specs.Choice.{when◌then◌else◌}
 use Rattle.calculus.specs.State.{Thread}
 use Rattle.calculus.specs.Reduction.{◌>>=◌}
 use Rattle.calculus.proofs.Laws.Maps.{some_injective, none_is_not_some, some_is_not_none}
@@ -38,7 +38,7 @@ module _ (R : Replay) (i : ℕ) where
   abbrev found : Option ℕ → Option Thread
   found o = o >>= get_elem? (live ts)
 
-  status_of_live : (b : Control) → (if is_done b then Finished else Running) ≡ status_of false b
+  status_of_live : (b : Control) → (when is_done b then Finished else Running) ≡ status_of false b
   status_of_live (done v) = refl
   status_of_live (at σ w K) = refl
 
@@ -51,7 +51,7 @@ module _ (R : Replay) (i : ℕ) where
   present t h =
       ap (λ (o : Option ℕ). record_for (ltb i (length ts)) (found o)) (ap (λ (n : ℕ). place_of n (numbers_from 0 ts)) (omega arith) ∙ place_of_live ts 0 i t h)
       ∙ ap (record_for (ltb i (length ts))) (live_at (λ n u. decode_thread u) ts 0 i t h)
-      ∙ ap (λ (b : Bool). some (if b then Finished else Running)) (finished_decoded t.control)
+      ∙ ap (λ (b : Bool). some (when b then Finished else Running)) (finished_decoded t.control)
       ∙ ap some (status_of_live t.control)
 
   pub record_alike : record_of (run_of R) i ≡ map (λ t. status_of t.joined t.control) (get_elem? ts i)

@@ -7,7 +7,7 @@ use mathlib.Core.List.{List, [], ◌∷◌}
 use native.Mathlib.Omega.{arith}
 use lib.Dec.{leb}
 use lib.ListN.{length}
-use Rattle.spec.specs.Choice.{if◌then◌else◌}
+use Rattle.spec.specs.Choice.{when◌then◌else◌}
 use Rattle.spec.specs.Text.{Line, lines}
 use Rattle.spec.specs.Reading.{Result, refuse, ok}
 use Rattle.spec.specs.Program.{Program}
@@ -122,9 +122,9 @@ module _ (ls : List Line) (k : ℕ) (race : FirstRace) (R : Replay) (alike : Ali
   unfolding check_limits play_on continue
   stepped_alike l none q = ends _ k race
   stepped_alike l (some R') q =
-      by_limit (within R') refl ∙ ap (λ (b : Bool). at_end k race (going (if b then step_of (run_of R') else past_limit))) (sym (within_alike R'))
+      by_limit (within R') refl ∙ ap (λ (b : Bool). at_end k race (going (when b then step_of (run_of R') else past_limit))) (sym (within_alike R'))
     where
-      by_limit : (b : Bool) → within R' ≡ b → playing (if b then step_of R' else past_limit) ≡ at_end k race (going (if b then step_of (run_of R') else past_limit))
+      by_limit : (b : Bool) → within R' ≡ b → playing (when b then step_of R' else past_limit) ≡ at_end k race (going (when b then step_of (run_of R') else past_limit))
       by_limit true e = step_alike ls k race R' alike (stepped_counted R R' l C q e)
       by_limit false e = ends _ k race
 

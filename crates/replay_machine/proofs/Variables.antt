@@ -8,7 +8,7 @@ use lib.Dec.{eqb}
 use borrow.Author.Tests.{eqb-true, eq-eqb}
 use Rattle.spec.specs.Expression.{Position, Expr, unary, binary, among}
 use Rattle.spec.specs.WellFormed.{binders, Distinct, UsedInside}
-use Rattle.spec.specs.Choice.{if◌then◌else◌}
+use Rattle.spec.specs.Choice.{when◌then◌else◌}
 use Rattle.spec.specs.Words.{calls, role, binding}
 use Rattle.spec.specs.declared.Role.TheVariants.{Calls, Neither}
 use Rattle.spec.specs.declared.UnaryWord.{UnaryWord}
@@ -86,7 +86,7 @@ pub one_part_binds : (w : UnaryWord) (k : Position) (v : ℕ) (e : Expr) → bin
 unfolding binders role binding
 one_part_binds w k v e = by_cases (calls w)
   where
-    by_cases : (b : Bool) → binding (if b then Calls else Neither) v (binders e) ≡ binders e
+    by_cases : (b : Bool) → binding (when b then Calls else Neither) v (binders e) ≡ binders e
     by_cases true = refl
     by_cases false = refl
 

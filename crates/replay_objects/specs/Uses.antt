@@ -1,6 +1,6 @@
 -- What a word does with what it is about.
 use Rattle.std.specs.Prelude.{ℕ, ◌+◌, ◌-◌, eqb, ltb}
-use Rattle.spec.specs.Choice.{if◌then◌else◌}
+use Rattle.spec.specs.Choice.{when◌then◌else◌}
 use Rattle.workspace.specs.declared.Rule.{Rule}
 use Rattle.workspace.specs.declared.Rule.TheVariants.{VAR, INT, LET, IF, WHILE, NEWT, SPAWN, JOIN, REF, WRITE, READ, NEWL, LCK, ULCK, NEWSEM, POST, WAIT, NEWRWLOCK, RDLOCK, RDUNLOCK, WRLOCK, WRUNLOCK, CALL}
 use Rattle.replay_objects.specs.declared.Slot.{Slot}
@@ -14,51 +14,51 @@ unfoldable pub made_of : (kind first : ℕ) → StepEffect
 made_of kind first = Makes (slot kind first 0)
 
 unfoldable pub spawned_of : Slot → StepEffect
-spawned_of x = if eqb x.kind 1 then Spawns else Stuck
+spawned_of x = when eqb x.kind 1 then Spawns else Stuck
 
 unfoldable pub joined_of : Slot → StepEffect
-joined_of x = if eqb x.kind 1 then Joins else Stuck
+joined_of x = when eqb x.kind 1 then Joins else Stuck
 
 unfoldable pub read_of : Slot → StepEffect
-read_of x = if eqb x.kind 2 then Returns x.first else Stuck
+read_of x = when eqb x.kind 2 then Returns x.first else Stuck
 
 unfoldable pub written_of : Slot → (v : ℕ) → StepEffect
-written_of x v = if eqb x.kind 2 then Updates (slot 2 v 0) else Stuck
+written_of x v = when eqb x.kind 2 then Updates (slot 2 v 0) else Stuck
 
 unfoldable pub locked_of : Slot → StepEffect
-locked_of x = if eqb x.kind 3 then (if eqb x.first 0 then Updates (slot 3 1 0) else Stuck) else Stuck
+locked_of x = when eqb x.kind 3 then (when eqb x.first 0 then Updates (slot 3 1 0) else Stuck) else Stuck
 
 unfoldable pub unlocked_of : Slot → StepEffect
-unlocked_of x = if eqb x.kind 3 then Updates (slot 3 0 0) else Stuck
+unlocked_of x = when eqb x.kind 3 then Updates (slot 3 0 0) else Stuck
 
 -- the count is first + 2^32 second
 unfoldable pub posted_of : Slot → StepEffect
 posted_of x =
-    if eqb x.kind 4
-    then (if ltb x.first 4294967295 then Updates (slot 4 (x.first + 1) x.second)
-    else if ltb x.second 4294967295 then Updates (slot 4 0 (x.second + 1))
+    when eqb x.kind 4
+    then (when ltb x.first 4294967295 then Updates (slot 4 (x.first + 1) x.second)
+    else when ltb x.second 4294967295 then Updates (slot 4 0 (x.second + 1))
     else Stuck)
     else Stuck
 
 unfoldable pub waited_of : Slot → StepEffect
 waited_of x =
-    if eqb x.kind 4
-    then (if ltb 0 x.first then Updates (slot 4 (x.first - 1) x.second)
-    else if ltb 0 x.second then Updates (slot 4 4294967295 (x.second - 1))
+    when eqb x.kind 4
+    then (when ltb 0 x.first then Updates (slot 4 (x.first - 1) x.second)
+    else when ltb 0 x.second then Updates (slot 4 4294967295 (x.second - 1))
     else Stuck)
     else Stuck
 
 unfoldable pub rdlocked_of : Slot → StepEffect
-rdlocked_of x = if eqb x.kind 5 then (if ltb x.second x.first then Updates (slot 5 x.first (x.second + 1)) else Stuck) else Stuck
+rdlocked_of x = when eqb x.kind 5 then (when ltb x.second x.first then Updates (slot 5 x.first (x.second + 1)) else Stuck) else Stuck
 
 unfoldable pub rdunlocked_of : Slot → StepEffect
-rdunlocked_of x = if eqb x.kind 5 then (if ltb 0 x.second then Updates (slot 5 x.first (x.second - 1)) else Stuck) else Stuck
+rdunlocked_of x = when eqb x.kind 5 then (when ltb 0 x.second then Updates (slot 5 x.first (x.second - 1)) else Stuck) else Stuck
 
 unfoldable pub wrlocked_of : Slot → StepEffect
-wrlocked_of x = if eqb x.kind 5 then (if eqb x.second 0 then Updates (slot 6 x.first 0) else Stuck) else Stuck
+wrlocked_of x = when eqb x.kind 5 then (when eqb x.second 0 then Updates (slot 6 x.first 0) else Stuck) else Stuck
 
 unfoldable pub wrunlocked_of : Slot → StepEffect
-wrunlocked_of x = if eqb x.kind 6 then Updates (slot 5 x.first 0) else Stuck
+wrunlocked_of x = when eqb x.kind 6 then Updates (slot 5 x.first 0) else Stuck
 
 unfoldable pub effect_of : Rule → Slot → (v : ℕ) → StepEffect
 effect_of VAR x v = Stuck

@@ -11,7 +11,7 @@ use borrow.Author.Tests.{lt-ltb, eq-eqb, ne_eqb}
 use lib.Dec.{eqb}
 use lib.ListN.{length, get_or, set, get_elem?, length-set}
 use lib.Seq.{get_or-set_same, get_or-set_other}
-use Rattle.spec.specs.Choice.{if◌then◌else◌}
+use Rattle.spec.specs.Choice.{when◌then◌else◌}
 use Rattle.replay_theory.specs.declared.Status.{Status}
 use Rattle.replay_theory.specs.declared.Status.TheVariants.{Running, Joined}
 use Rattle.threads.specs.declared.Record.{Record}
@@ -88,17 +88,17 @@ unfolding lowest_from lowest matching if_finished
 lowest_alike n [] [] i A = refl
 lowest_alike n [] (th ∷ ts) i A = let l = A.fits in absurd (omega arith)
 lowest_alike n (r ∷ rs) [] i A =
-    ap (λ (st : Status). if if_finished st (eqb r.tid (suc n)) then At i else lowest_from (suc i) rs (suc n)) (A.behind 0 (omega arith) (omega arith))
+    ap (λ (st : Status). when if_finished st (eqb r.tid (suc n)) then At i else lowest_from (suc i) rs (suc n)) (A.behind 0 (omega arith) (omega arith))
     ∙ lowest_alike n rs [] (suc i) (record { same = λ m th h. none_is_not_some h; behind = λ m l h. A.behind (suc m) (omega arith) (omega (arith, h)); fits = omega arith })
 lowest_alike n (r ∷ rs) (th ∷ ts) i A =
-    ap (λ (b : Bool). if b then At i else lowest_from (suc i) rs (suc n)) (ap (λ (x : Record). matching x (suc n)) (A.same 0 th refl) ∙ record_joinable n th)
+    ap (λ (b : Bool). when b then At i else lowest_from (suc i) rs (suc n)) (ap (λ (x : Record). matching x (suc n)) (A.same 0 th refl) ∙ record_joinable n th)
     ∙ by_test (joinable n th) (lowest_alike n rs ts (suc i) (record {
       same = λ m u h. A.same (suc m) u h;
       behind = λ m l h. A.behind (suc m) (omega (arith, l)) (omega (arith, h));
       fits = let l = A.fits in omega arith;
     }))
   where
-    by_test : (b : Bool) → lowest_from (suc i) rs (suc n) ≡ found_at (suc i) (lowest n ts) → (if b then At i else lowest_from (suc i) rs (suc n)) ≡ found_at i (first_or b (lowest n ts))
+    by_test : (b : Bool) → lowest_from (suc i) rs (suc n) ≡ found_at (suc i) (lowest n ts) → (when b then At i else lowest_from (suc i) rs (suc n)) ≡ found_at i (first_or b (lowest n ts))
     by_test true e = ap At (let z : i ≡ i + 0 = omega arith in z)
     by_test false e = e ∙ shifted i (lowest n ts)
 

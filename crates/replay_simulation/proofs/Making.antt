@@ -11,7 +11,7 @@ use borrow.Author.Tests.{le-leb, lt-leb}
 use lib.Dec.{eqb, ltb}
 use lib.ListN.{length, get_or, set, length-set}
 use lib.Seq.{get_or-set_same, get_or-set_other}
-use Rattle.spec.specs.Choice.{if◌then◌else◌}
+use Rattle.spec.specs.Choice.{when◌then◌else◌}
 use Rattle.spec.specs.Expression.{Position}
 use Rattle.spec.specs.declared.Word.TheVariants.{Leaf, Unary}
 use Rattle.spec.specs.declared.UnaryWord.TheVariants.{Ref}
@@ -53,7 +53,7 @@ use Rattle.replay_simulation.proofs.AtWord.{AtWord, becomes}
 -- ------------------------------------------------------------------ counts
 
 kind_at : ℕ → ObjectKind
-kind_at n = if eqb n 1 then identifiers else if eqb n 2 then cells else if eqb n 3 then locks else if eqb n 4 then semaphores else rwlocks
+kind_at n = when eqb n 1 then identifiers else when eqb n 2 then cells else when eqb n 3 then locks else when eqb n 4 then semaphores else rwlocks
 
 kind_at_lem : (k : ObjectKind) → kind_at (kind_code k) ≡ k
 unfolding kind_at
@@ -93,7 +93,7 @@ past_limits n identifiers things h few p =
 
 slot_set : (s : List ℕ) (j y v : ℕ) → j < thing_kinds_at → slot_at (set s j y) v ≡ slot_at s v
 unfolding slot_at
-slot_set s j y v h = λ z. if ltb v 322 then slot
+slot_set s j y v h = λ z. when ltb v 322 then slot
     (get_or-set_other s j (thing_kinds_at + v) y 0 (λ e. omega (arith, e, h)) z)
     (get_or-set_other s j (thing_firsts_at + v) y 0 (λ e. omega (arith, e, h)) z)
     (get_or-set_other s j (thing_seconds_at + v) y 0 (λ e. omega (arith, e, h)) z) else slot 0 0 0

@@ -9,7 +9,7 @@ use native.Mathlib.Decide.{ℕ_discrete, dec_lt}
 use borrow.Author.Tests.{lt-ltb, le-ltb}
 use lib.ListN.{length, get_or, set, length-set}
 use lib.Seq.{get_or-set_same, get_or-set_other}
-use Rattle.spec.specs.Choice.{if◌then◌else◌}
+use Rattle.spec.specs.Choice.{when◌then◌else◌}
 use Rattle.calculus.specs.Expression.{Value, int, name, choose}
 use Rattle.calculus.specs.State as state
 use Rattle.calculus.specs.State.{unused, update}
@@ -112,7 +112,7 @@ module _ {s : List ℕ} {names : ℕ → state.Slot} {next : ℕ} {things : Obje
       go (no f) = subst (SlotIs (slot_at s (suc n))) (sym (N.unused_from_lem n (let a = next_small in omega (arith, a, f)))) none_there
         where
           none_there : (slot_at s (suc n)).kind ≡ 0
-          none_there = ap (λ (b : Bool). (if b then slot (get_or s (thing_kinds_at + suc n) 0) (get_or s (thing_firsts_at + suc n) 0) (get_or s (thing_seconds_at + suc n) 0) else slot 0 0 0).kind) (le-ltb (suc n) 322 (omega (arith, f)))
+          none_there = ap (λ (b : Bool). (when b then slot (get_or s (thing_kinds_at + suc n) 0) (get_or s (thing_firsts_at + suc n) 0) (get_or s (thing_seconds_at + suc n) 0) else slot 0 0 0).kind) (le-ltb (suc n) 322 (omega (arith, f)))
 
   -- a name that is used is below the next
   pub used_below : (n : ℕ) → names n ≢ unused → n < next

@@ -11,7 +11,7 @@ use borrow.Author.Tests.{lt-ltb}
 use lib.Dec.{eqb, ltb}
 use lib.ListN.{length, get_or, set, get_elem?, length-set}
 use lib.Seq.{get_or-set_same, get_or-set_other}
-use Rattle.spec.specs.Choice.{if◌then◌else◌}
+use Rattle.spec.specs.Choice.{when◌then◌else◌}
 use Rattle.calculus.specs.State as calculus
 use Rattle.calculus.proofs.Laws.Maps.{some_injective, none_is_not_some}
 use Rattle.calculus.proofs.Laws.Places.{set_elsewhere}
@@ -43,7 +43,7 @@ use Rattle.replay_simulation.proofs.Holds.{NamesHeld, SlotIs, kind_code, record_
 
 pub slot_same : (s s' : List ℕ) (v : ℕ) → SharedSame s s' → slot_at s' v ≡ slot_at s v
 unfolding slot_at
-slot_same s s' v h = λ z. if ltb v 322 then slot (h (thing_kinds_at + v) (omega arith) z) (h (thing_firsts_at + v) (omega arith) z) (h (thing_seconds_at + v) (omega arith) z) else slot 0 0 0
+slot_same s s' v h = λ z. when ltb v 322 then slot (h (thing_kinds_at + v) (omega arith) z) (h (thing_firsts_at + v) (omega arith) z) (h (thing_seconds_at + v) (omega arith) z) else slot 0 0 0
 
 pub names_same : (s s' : List ℕ) {names : ℕ → calculus.Slot} {next : ℕ} {things : ObjectKind → ℕ} → SharedSame s s' → NamesHeld s names next things → NamesHeld s' names next things
 names_same s s' {names = names} h N = record {
@@ -80,7 +80,7 @@ running_record tid = record { state = Running; tid = suc tid }
 -- the record of a thread that was running, once it has gone on to d
 module _ (T : Threads) (t tid : ℕ) (low : t < 16) (long : length T.records ≡ 16) (was : get_or T.records t no_record ≡ running_record tid) where
   abbrev after : Control → Threads
-  after d = if is_done d then finished T t else T
+  after d = when is_done d then finished T t else T
 
   record_here : (d : Control) → get_or (after d).records t no_record ≡ record_of (running tid d)
   unfolding finished turned
@@ -206,4 +206,4 @@ module _ {p s : List ℕ} {T : Threads} {R : Replay} {t tid : ℕ} (P : Paused p
   proceeds f d few (C, S) =
       let g = (found 2048 p s f).0 in
       let s₂ = (found 2048 p s f).1 in
-      subst (λ (b : Bool). Holds p (control_point_put s₂ t g) (if b then finished T t else T) (gone_to R t tid d)) (sym (mode_tells p s₂ t g d C)) (held_after g s₂ d few C S)
+      subst (λ (b : Bool). Holds p (control_point_put s₂ t g) (when b then finished T t else T) (gone_to R t tid d)) (sym (mode_tells p s₂ t g d C)) (held_after g s₂ d few C S)

@@ -9,7 +9,7 @@ use native.Mathlib.Decide.{ℕ_discrete}
 use borrow.Author.Tests.{eq-eqb, ne_eqb}
 use lib.Dec.{eqb}
 use lib.ListN.{length, get_elem?}
-use Rattle.spec.specs.Choice.{if◌then◌else◌}
+use Rattle.spec.specs.Choice.{when◌then◌else◌}
 use Rattle.spec.specs.Expression.{Position}
 use Rattle.spec.specs.declared.Word.{Word}
 use Rattle.spec.specs.declared.Word.TheVariants.{Unary, Binary}
@@ -70,7 +70,7 @@ or_none_lem : (b : Bool) → b ≡ (b || (false || false))
 or_none_lem true = refl
 or_none_lem false = refl
 
-or_last : (b : Bool) → (if b then true else false) ≡ (b || false)
+or_last : (b : Bool) → (when b then true else false) ≡ (b || false)
 or_last true = refl
 or_last false = refl
 
@@ -91,7 +91,15 @@ clash_alike (Read (suc n)) (Read (suc m)) x y h k = told h k
 clash_alike (Read (suc n)) (Write (suc m)) x y h k = eqb_swap m n ∙ told h k
 clash_alike (Write (suc n)) None x y h k = told h k
 clash_alike (Write (suc n)) (Read (suc m)) x y h k = eqb_swap m n ∙ or_none_lem (eqb n m) ∙ told h k
-clash_alike (Write (suc n)) (Write (suc m)) x y h k = ap (λ (b : Bool). if b then true else false) (eqb_swap m n) ∙ or_last (eqb n m) ∙ told h k
+clash_alike (Write (suc n)) (Write (suc m)) x y h k = ap (λ (b : Bool). when b then true else false) (eqb_swap m n) ∙ or_last (eqb n m) ∙ told h k
+clash_alike None (Read zero) x y h k = elim k [ ]
+clash_alike None (Write zero) x y h k = elim k [ ]
+clash_alike (Read zero) b x y h k = elim h [ ]
+clash_alike (Read (suc n)) (Read zero) x y h k = elim k [ ]
+clash_alike (Read (suc n)) (Write zero) x y h k = elim k [ ]
+clash_alike (Write zero) b x y h k = elim h [ ]
+clash_alike (Write (suc n)) (Read zero) x y h k = elim k [ ]
+clash_alike (Write (suc n)) (Write zero) x y h k = elim k [ ]
 
 -- ------------------------------------------------------------------ all threads
 
@@ -133,11 +141,11 @@ module _ (p s : List ℕ) (uses_at : ℕ → MachineThread → ℕ × Uses) (num
       by_record th.joined refl (partner_alike a u is ts (i + 1) (later_shown i th ts all) ∙ ap (clashing u) (next_live i ts))
     where
       by_record : (j : Bool) → th.joined ≡ j → partner_decoded (partner_of p s a (i + 1) (length ts)) ≡ clashing u (of_live uses_at (suc i) ts) →
-          partner_decoded (if clash a (access_of p s i) then partner.Is i else partner_of p s a (i + 1) (length ts)) ≡ clashing u (unless j (λ l. uses_at i th ∷ l) (of_live uses_at (suc i) ts))
+          partner_decoded (when clash a (access_of p s i) then partner.Is i else partner_of p s a (i + 1) (length ts)) ≡ clashing u (unless j (λ l. uses_at i th ∷ l) (of_live uses_at (suc i) ts))
       by_record true e rest = rw ((first_shown i th ts all).0 e, clash_none a) rest
       by_record false e rest = rw (clash_alike a (access_of p s i) u (uses_at i th).1 is ((first_shown i th ts all).1 e)) (by_clash (uses.clash u (uses_at i th).1))
         where
-          by_clash : (b : Bool) → partner_decoded (if b then partner.Is i else partner_of p s a (i + 1) (length ts)) ≡ (if b then some (uses_at i th).0 else clashing u (of_live uses_at (suc i) ts))
+          by_clash : (b : Bool) → partner_decoded (when b then partner.Is i else partner_of p s a (i + 1) (length ts)) ≡ (when b then some (uses_at i th).0 else clashing u (of_live uses_at (suc i) ts))
           by_clash true = ap some (sym (numbered i th))
           by_clash false = rest
 
@@ -177,7 +185,7 @@ module _ (p s : List ℕ) (uses_at : ℕ → MachineThread → ℕ × Uses) (num
 
 -- the cell that a value names is shown as the access f to it
 abbrev CellShown : Slot → (ℕ → Access) → (n : ℕ) → Uses → Type 0
-CellShown x f n u = AccessIs (if eqb x.kind 2 then f (suc n) else None) u
+CellShown x f n u = AccessIs (when eqb x.kind 2 then f (suc n) else None) u
 
 module _ (n : ℕ) (x : Slot) where
   reads_cell : (sl : state.Slot) → SlotIs x sl → CellShown x Read n (uses_both (cell_value sl >> some n) none)
@@ -236,7 +244,7 @@ module _ (p s : List ℕ) (row : ℕ) (names : ℕ → state.Slot) (slot_of : (n
   write_shows σ q v w r held =
       subst (λ (a : Access). AccessIs a (uses_of names (some (redex σ (machine.write_word q v w))))) (sym (ready_access p s row r (code_value w))) (rw held (by_value v))
     where
-      by_value : (v : Value) → AccessIs (if names_cell s (code_value v) then Write (code_value v) else None) (uses_of names (some (redex σ (machine.write_word q v w))))
+      by_value : (v : Value) → AccessIs (when names_cell s (code_value v) then Write (code_value v) else None) (uses_of names (some (redex σ (machine.write_word q v w))))
       by_value (int k) = rw constant (refl, refl)
       by_value (name m) = writes_cell m (slot_at s (suc m)) (names m) (slot_of m)
 

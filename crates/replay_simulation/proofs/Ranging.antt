@@ -7,8 +7,8 @@ use native.Mathlib.Omega.{arith}
 use borrow.Author.Tests.{leb-true}
 use lib.Dec.{leb}
 use lib.ListN.{length}
-use Rattle.spec.specs.Choice.{if◌then◌else◌}
-use Rattle.spec.specs.Text.{bytes, same, Line, closed, Field, look_up, fields}
+use Rattle.spec.specs.Choice.{when◌then◌else◌}
+use Rattle.spec.specs.Text.{bytes, same, Line, closed, unclosed, Field, look_up, fields}
 use Rattle.spec.specs.Reading.{LineResult, good, bad, refuse_after, freelock, ◌to◌, in_range, all_in_range, numbers, or_bad_form, nth}
 use Rattle.spec.specs.Expression.{Step, Expr, leaf, unary, binary, Item, step, proc, Procedure}
 use Rattle.spec.specs.Program.{Program, step_of, word_line, proc_of, proc_line, item_line, item_lines}
@@ -112,7 +112,7 @@ unfolding item_line
 line_low h k [] i e = wrong_is_not_right e
 line_low h k (f ∷ fs) i e = go (same f (bytes "freelock")) (same f (bytes "proc")) e
   where
-    go : (a b : Bool) → (if a then refuse_after freelock (numbers ((0 to 0) ∷ []) fs) else if b then proc_line h k fs else or_bad_form (look_up (words_under h) f) λ w. word_line k w fs) ≡ good i → ItemLow i
+    go : (a b : Bool) → (when a then refuse_after freelock (numbers ((0 to 0) ∷ []) fs) else when b then proc_line h k fs else or_bad_form (look_up (words_under h) f) λ w. word_line k w fs) ≡ good i → ItemLow i
     go true b e = freelock_wrong (numbers ((0 to 0) ∷ []) fs) i e
     go false true e = proc_low h k fs i e
     go false false e = let (w, _, shown) = formed_right _ _ e in word_low k w fs i shown
@@ -121,6 +121,10 @@ lines_low : (h : ProgramHeading) (n k : ℕ) (ls : List Line) (is : List Item) (
 unfolding item_lines
 lines_low h zero k ls [] rest nothing = tt
 lines_low h (suc n) k (closed l ∷ ls) (i ∷ is) rest (line e more) = (line_low h k (fields l) i e, lines_low h n (k + 1) ls is rest more)
+lines_low h zero k ls (i ∷ is) rest p = elim p [ ]
+lines_low h (suc n) k [] is rest p = elim p [ ]
+lines_low h (suc n) k (closed l ∷ ls) [] rest p = elim p [ ]
+lines_low h (suc n) k (unclosed l ∷ ls) is rest p = elim p [ ]
 
 -- ------------------------------------------------------------------ the program
 

@@ -53,6 +53,9 @@ module _ (p s : List ℕ) (row c : ℕ) {q : Position} where
   part_acts (hold rdunlock) using_rdunlock v r = rw r.code (rw r.code)
   part_acts (hold wrlock) using_wrlock v r = rw r.code (rw r.code)
   part_acts (hold wrunlock) using_wrunlock v r = rw r.code (rw r.code)
+  part_acts calculus.join u v r = elim u [ ]
+  part_acts calculus.ref u v r = elim u [ ]
+  part_acts (calculus.call f) u v r = elim u [ ]
 
   write_acts : {n : ℕ} (v w : ℕ) → kept s row q.index ≡ v → RowOf p q (Binary Write) n →
       acted p s (ready_at row q.index w) c ≡ effected p s row q.index v (written_of (slot_at s v) w)
@@ -70,6 +73,9 @@ unused_useless (hold rdlock) using_rdlock = refl
 unused_useless (hold rdunlock) using_rdunlock = refl
 unused_useless (hold wrlock) using_wrlock = refl
 unused_useless (hold wrunlock) using_wrunlock = refl
+unused_useless calculus.join u = elim u [ ]
+unused_useless calculus.ref u = elim u [ ]
+unused_useless (calculus.call f) u = elim u [ ]
 
 -- a `write` stores in a cell
 abbrev write_use : state.Slot → Value → Option Use

@@ -10,7 +10,7 @@ use borrow.Author.Tests.{lt-ltb, le-leb, lt-leb}
 use lib.Dec.{leb}
 use lib.ListN.{length, get_or, set, get_elem?, length-set, length-append}
 use lib.Seq.{get_or-set_same, get_or-set_other, set-append_seam, set-append_left}
-use Rattle.spec.specs.Choice.{if◌then◌else◌}
+use Rattle.spec.specs.Choice.{when◌then◌else◌}
 use Rattle.spec.specs.Expression.{Position, Expr}
 use Rattle.spec.specs.declared.Word.TheVariants.{Binary}
 use Rattle.spec.specs.declared.BinaryWord.TheVariants.{Spawn}
@@ -253,7 +253,7 @@ module _ {p s : List ℕ} {T : Threads} {R : Replay} {t row tid : ℕ} {σ : Env
     with_room : Answered p (check_limits within (some Spawns)) (spawned_step p s T t word (suc n))
     unfolding spawned_step
     with_room =
-        subst (λ (c : ℕ). Answered p (check_limits within (some Spawns)) (if leb 16 c then (ending Past T, s) else gives_zero p t word (proceeded p (copied s row (66 * c)) (spawned T (suc n)) c (entering (66 * c) (second p q.index)))))
+        subst (λ (c : ℕ). Answered p (check_limits within (some Spawns)) (when leb 16 c then (ending Past T, s) else gives_zero p t word (proceeded p (copied s row (66 * c)) (spawned T (suc n)) c (entering (66 * c) (second p q.index)))))
         (sym A.holds.sized.count) (rw (lt-leb 16 u room) spawns_one)
 
   no_room : 16 ≤ u → Answered p (check_limits within (some Spawns)) (spawned_step p s T t word (suc n))

@@ -122,7 +122,7 @@ module _ (p s : List ℕ) (long : length s ≡ space_size) where
     unfolding start_of start_space start_replay start_machine variable
     start_held =
         proceeds paused (entering 0 (root_of p)) (enter (λ x. int 0) P.root []) none_open
-        (enters_word {c = finish} (record {
+        (enters_word {t = 0} {c = finish} (record {
           low = omega arith;
           same = same_all 0 s₁;
           long = long₁;

@@ -8,7 +8,7 @@ use native.Mathlib.Omega.{arith}
 use borrow.Author.Tests.{le-leb, lt-leb, ne_eqb}
 use lib.Dec.{eqb}
 use lib.ListN.{length, get_elem?}
-use Rattle.spec.specs.Choice.{if◌then◌else◌}
+use Rattle.spec.specs.Choice.{when◌then◌else◌}
 use Rattle.spec.specs.Expression.{Position, Expr}
 use Rattle.spec.specs.declared.Word.{Word}
 use Rattle.spec.specs.declared.Word.TheVariants.{Leaf, Unary, Binary}
@@ -93,7 +93,7 @@ refuses : (p : List ℕ) (f : ControlPoint) → eqb f.mode 4 ≡ false → is_if
 unfolding may_choose
 refuses p f a b c = rw (ne_eqb (suc c) 0 (λ e. omega (arith, e))) (go (eqb (suc c) 1))
   where
-    go : (x : Bool) → (if x then (if eqb f.mode 4 then true else is_if (shape_at p f.at)) else false) ≡ false
+    go : (x : Bool) → (when x then (when eqb f.mode 4 then true else is_if (shape_at p f.at)) else false) ≡ false
     go true = rw (a, b)
     go false = refl
 

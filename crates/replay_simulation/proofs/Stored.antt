@@ -8,7 +8,7 @@ use native.Mathlib.Omega.{arith}
 use borrow.Author.Tests.{leb-false}
 use lib.Dec.{leb}
 use lib.ListN.{length, get_elem?}
-use Rattle.spec.specs.Choice.{if◌then◌else◌}
+use Rattle.spec.specs.Choice.{when◌then◌else◌}
 use Rattle.calculus.specs.Expression.{Redex, let_redex, if_redex, while_redex, spawn_redex, write_redex, unary_redex, nullary_redex}
 use Rattle.calculus.specs.State.{Part}
 use Rattle.calculus.specs.Reduction.{◌>>=◌}
@@ -34,7 +34,7 @@ stored_cases : {A : Type 0} (f : ℕ → A) (n : ℕ) → (4294967295 < n → f 
 unfolding stored
 stored_cases {A} f n past = by_size (leb n 4294967295) refl
   where
-    by_size : (b : Bool) → leb n 4294967295 ≡ b → f (if b then n else 4294967295) ≡ f n
+    by_size : (b : Bool) → leb n 4294967295 ≡ b → f (when b then n else 4294967295) ≡ f n
     by_size true e = refl
     by_size false e = past (let l = leb-false n 4294967295 e in omega arith)
 

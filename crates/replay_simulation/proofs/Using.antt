@@ -141,6 +141,9 @@ module _ (M : Machine) (i tid : ℕ) (σ : Env) (K : List Frame) where
   step_asks (hold wrlock) using_wrlock (name n) = hold_asks wrlock n (M.names n)
   step_asks (hold wrunlock) using_wrunlock (int k) = refl
   step_asks (hold wrunlock) using_wrunlock (name n) = hold_asks wrunlock n (M.names n)
+  step_asks calculus.join u v = elim u [ ]
+  step_asks calculus.ref u v = elim u [ ]
+  step_asks (calculus.call f) u v = elim u [ ]
 
 -- ------------------------------------------------------------------ on numbers
 
@@ -297,3 +300,6 @@ module _ (x : Slot) where
   uses_alike (hold rdunlock) using_rdunlock sl h r v = rdunlock_used sl h
   uses_alike (hold wrlock) using_wrlock sl h r v = wrlock_used sl h
   uses_alike (hold wrunlock) using_wrunlock sl h r v = wrunlock_used sl h
+  uses_alike calculus.join u sl h r v = elim u [ ]
+  uses_alike calculus.ref u sl h r v = elim u [ ]
+  uses_alike (calculus.call f) u sl h r v = elim u [ ]

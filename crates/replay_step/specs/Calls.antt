@@ -1,13 +1,13 @@
 -- The step of a call on numbers: its body is entered, in a row of its own.
 use Rattle.std.specs.Prelude.{ℕ, zero, suc, ◌+◌, ◌*◌, List, ltb, get_or, set}
-use Rattle.spec.specs.Choice.{if◌then◌else◌}
+use Rattle.spec.specs.Choice.{when◌then◌else◌}
 use Rattle.workspace.specs.Layout.{values_at, proc_vars_at}
 use Rattle.replay_control.specs.Layout.{environments_at, open_calls_at}
 use Rattle.replay_control.specs.declared.ControlPoint.{ControlPoint}
 use Rattle.replay_control.specs.Control.{first_of, entering}
 
 unfoldable pub above : ℕ → ℕ
-above r = if ltb r 1056 then r + 1 else r
+above r = when ltb r 1056 then r + 1 else r
 
 -- n variables from x on
 unfoldable pub row_cleared_from : (s : List ℕ) (r x n : ℕ) → List ℕ

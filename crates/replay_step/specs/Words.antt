@@ -1,6 +1,6 @@
 -- The step of a thread's next word on numbers, as far as it does not touch the records of threads.
 use Rattle.std.specs.Prelude.{ℕ, ◌+◌, ◌*◌, List, eqb, leb, get_or, set}
-use Rattle.spec.specs.Choice.{if◌then◌else◌}
+use Rattle.spec.specs.Choice.{when◌then◌else◌}
 use Rattle.workspace.specs.Layout.{words_at, values_at, rule_of}
 use Rattle.replay_control.specs.Layout.{environments_at, thing_counts_at, next_value_at}
 use Rattle.replay_control.specs.declared.ControlPoint.{ControlPoint}
@@ -24,13 +24,13 @@ unfoldable pub given : (p : List ℕ) (r k v : ℕ) → ControlPoint
 given p r k v = returning r (continuation p k) v
 
 unfoldable pub branched : (p : List ℕ) (r k choice : ℕ) → ControlPoint
-branched p r k c = if eqb c 0 then entering r (behind k) else entering r (second p k)
+branched p r k c = when eqb c 0 then entering r (behind k) else entering r (second p k)
 
 unfoldable pub looped : (p : List ℕ) → ControlPoint → (choice : ℕ) → ControlPoint
 looped p f c =
-    if eqb f.mode 2 then unrolled_at f.row f.at
-    else if eqb f.mode 3 then stopped_at f.row f.at
-    else if eqb c 0 then entering f.row (behind f.at)
+    when eqb f.mode 2 then unrolled_at f.row f.at
+    else when eqb f.mode 3 then stopped_at f.row f.at
+    else when eqb c 0 then entering f.row (behind f.at)
     else given p f.row f.at 0
 
 unfoldable pub bound : (p s : List ℕ) → ControlPoint → Act × List ℕ
@@ -44,15 +44,15 @@ with_thing s x = set (set (slot_put s (get_or s next_value_at 0) x) (thing_count
 
 unfoldable pub new_thing : (p s : List ℕ) (r k : ℕ) → Slot → Act × List ℕ
 new_thing p s r k x =
-    if leb 64 (get_or s (thing_counts_at + x.kind) 0) then (Past, s)
-    else if leb 322 (get_or s next_value_at 0) then (Past, s)
+    when leb 64 (get_or s (thing_counts_at + x.kind) 0) then (Past, s)
+    else when leb 322 (get_or s next_value_at 0) then (Past, s)
     else (Go (given p r k (get_or s next_value_at 0)), with_thing s x)
 
 unfoldable pub subject : (p s : List ℕ) → ControlPoint → ℕ
-subject p s f = if is_write (shape_at p f.at) then kept s f.row f.at else f.value
+subject p s f = when is_write (shape_at p f.at) then kept s f.row f.at else f.value
 
 unfoldable pub operand : (p : List ℕ) → ControlPoint → ℕ
-operand p f = if eqb f.mode 2 then get_or p (values_at + f.at) 0 else f.value
+operand p f = when eqb f.mode 2 then get_or p (values_at + f.at) 0 else f.value
 
 unfoldable pub effected : (p s : List ℕ) (r k v : ℕ) → StepEffect → Act × List ℕ
 effected p s r k v (Returns w) = (Go (given p r k w), s)

@@ -6,7 +6,7 @@ use mathlib.Core.Option.{Option, none, some}
 use mathlib.Core.List.{List, [], ◌∷◌}
 use native.Mathlib.Omega.{arith}
 use lib.ListN.{get_elem?}
-use Rattle.spec.specs.Choice.{if◌then◌else◌}
+use Rattle.spec.specs.Choice.{when◌then◌else◌}
 use Rattle.spec.specs.Text.{Line}
 use Rattle.calculus.specs.Expression.{Procedure}
 use Rattle.calculus.specs.State.{State, Move}
@@ -37,7 +37,7 @@ unfolding continue line_outcome check_limits
 line_goes k r l rest = by_line_lem (trace_line l) refl
   where
     by_limit : (t : TraceLine) (r' : Run) (b : Bool) → trace_line l ≡ some t → stepped r t ≡ some r' → within r' ≡ b →
-        Goes k r l rest (continue k (if b then step r' else past_limit) rest)
+        Goes k r l rest (continue k (when b then step r' else past_limit) rest)
     by_limit t r' true q e w = is_step t r' q e w
     by_limit t r' false q e w = is_past_limit t r' q e w
 

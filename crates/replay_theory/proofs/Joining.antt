@@ -8,7 +8,7 @@ use native.Mathlib.Omega.{arith}
 use lib.Dec.{eqb}
 use lib.ListN.{get_elem?}
 use borrow.Author.Tests.{eqb-true, eq-eqb}
-use Rattle.spec.specs.Choice.{if◌then◌else◌}
+use Rattle.spec.specs.Choice.{when◌then◌else◌}
 use Rattle.spec.proofs.Clashes.{true_is_not_false}
 use Rattle.spec.proofs.Tests.{both_true}
 use Rattle.calculus.specs.Expression.{Value, Next, is_value, at_variable, at_word, next_word}
@@ -60,7 +60,7 @@ unfolding asked
 asked_of n t p q = rw (eq-eqb t.tid n p, q) refl
 
 place_past : ℕ → Bool → ℕ
-place_past k b = if b then 0 else suc k
+place_past k b = when b then 0 else suc k
 
 -- One such thread is enough for the first to be found.
 pub first_is_there : (n : ℕ) (ts : List Thread) (q : ℕ) (u : Thread) → get_elem? ts q ≡ some u → u.tid ≡ n →

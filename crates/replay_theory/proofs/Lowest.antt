@@ -7,7 +7,7 @@ use mathlib.Core.Option.{Option, none, some}
 use mathlib.Core.List.{List, [], ◌∷◌}
 use native.Mathlib.Omega.{arith}
 use lib.ListN.{get_elem?}
-use Rattle.spec.specs.Choice.{if◌then◌else◌}
+use Rattle.spec.specs.Choice.{when◌then◌else◌}
 use Rattle.spec.proofs.Clashes.{true_is_not_false}
 use Rattle.calculus.proofs.Laws.Maps.{some_injective, none_is_not_some, some_is_not_none}
 use Rattle.replay_theory.specs.LowestPair.{Uses, clash, clashing, pair_or, lowest_among}
@@ -26,7 +26,7 @@ unfolding clashing
 clashing_found a [] j h = none_is_not_some h
 clashing_found a (u ∷ us) j h = by_cases (clash a u.1) refl h (clashing_found a us j)
   where
-    by_cases : (b : Bool) → clash a u.1 ≡ b → (if b then some u.0 else clashing a us) ≡ some j →
+    by_cases : (b : Bool) → clash a u.1 ≡ b → (when b then some u.0 else clashing a us) ≡ some j →
         (clashing a us ≡ some j → Clashing a us j) → Clashing a (u ∷ us) j
     by_cases true e q later = record {
       place = 0;
@@ -48,7 +48,7 @@ unfolding clashing
 none_clashes a [] h q y z = none_is_not_some z
 none_clashes a (u ∷ us) h q y z = by_cases (clash a u.1) refl h q z (none_clashes a us)
   where
-    by_cases : (b : Bool) → clash a u.1 ≡ b → (if b then some u.0 else clashing a us) ≡ none → (k : ℕ) → get_elem? (u ∷ us) k ≡ some y →
+    by_cases : (b : Bool) → clash a u.1 ≡ b → (when b then some u.0 else clashing a us) ≡ none → (k : ℕ) → get_elem? (u ∷ us) k ≡ some y →
         (clashing a us ≡ none → (k : ℕ) (x : ℕ × Uses) → get_elem? us k ≡ some x → clash a x.1 ≡ false) → clash a y.1 ≡ false
     by_cases true e n k there later = some_is_not_none n
     by_cases false e n zero there later = ap (λ (x : ℕ × Uses). clash a x.1) (sym (some_injective there)) ∙ e

@@ -7,7 +7,7 @@ use mathlib.Core.List.{List, [], ◌∷◌, ◌++◌, append_assoc, append-nil}
 use native.Mathlib.Omega.{arith}
 use lib.Dec.{eqb}
 use lib.ListN.{get_elem?, length}
-use Rattle.spec.specs.Choice.{if◌then◌else◌}
+use Rattle.spec.specs.Choice.{when◌then◌else◌}
 use Rattle.spec.proofs.Tests.{and_true}
 use Rattle.calculus.specs.State.{Thread}
 use Rattle.calculus.specs.Reduction.{◌>>=◌}
@@ -28,8 +28,8 @@ open_append (some t) [] qs = refl
 open_append (some t) (p ∷ ps) qs = by_cases (is_open (part_at p t.body)) (open_append (some t) ps qs)
   where
     by_cases : (b : Bool) → open_for (some t) (ps ++ qs) ≡ open_for (some t) ps ++ open_for (some t) qs →
-        (if b then (p ∷ open_for (some t) (ps ++ qs)) else open_for (some t) (ps ++ qs))
-        ≡ (if b then (p ∷ open_for (some t) ps) else open_for (some t) ps) ++ open_for (some t) qs
+        (when b then (p ∷ open_for (some t) (ps ++ qs)) else open_for (some t) (ps ++ qs))
+        ≡ (when b then (p ∷ open_for (some t) ps) else open_for (some t) ps) ++ open_for (some t) qs
     by_cases true later = ap (λ (x : List Path). p ∷ x) later
     by_cases false later = later
 

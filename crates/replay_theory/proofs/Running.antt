@@ -11,7 +11,7 @@ use lib.Dec.{eqb}
 use lib.ListN.{get_elem?, set, take}
 use lib.Seq.{length-take-le}
 use borrow.Author.Tests.{eqb-true, eq-eqb}
-use Rattle.spec.specs.Choice.{if◌then◌else◌}
+use Rattle.spec.specs.Choice.{when◌then◌else◌}
 use Rattle.spec.specs.Text.{Line}
 use Rattle.spec.proofs.Clashes.{true_is_not_false}
 use Rattle.calculus.specs.Expression.{Exp, Redex, at_word, next_word, plug, Program}
@@ -61,7 +61,7 @@ unfolding still_open
 open_run e [] may = tt
 open_run e (q ∷ ps) may = by_cases (is_open (part_at q e)) refl (open_run e ps may.1)
   where
-    by_cases : (b : Bool) → is_open (part_at q e) ≡ b → Every (RunsAt e) (still_open e ps) → Every (RunsAt e) (if b then (q ∷ still_open e ps) else still_open e ps)
+    by_cases : (b : Bool) → is_open (part_at q e) ≡ b → Every (RunsAt e) (still_open e ps) → Every (RunsAt e) (when b then (q ∷ still_open e ps) else still_open e ps)
     by_cases true is later = (may.0 is, later)
     by_cases false is later = later
 
@@ -101,7 +101,7 @@ number_there i p (n ∷ ns) h = by_cases (eqb i n) refl h (λ k. number_there i 
     later_place none is z later = none_is_not_some z
     later_place (some k) is z later = ap (get_elem? (n ∷ ns)) (sym (some_injective z)) ∙ later k is
 
-    by_cases : (b : Bool) → eqb i n ≡ b → (if b then some 0 else map suc (place_of i ns)) ≡ some p →
+    by_cases : (b : Bool) → eqb i n ≡ b → (when b then some 0 else map suc (place_of i ns)) ≡ some p →
         ((k : ℕ) → place_of i ns ≡ some k → get_elem? ns k ≡ some i) → get_elem? (n ∷ ns) p ≡ some i
     by_cases true is z later = ap (get_elem? (n ∷ ns)) (sym (some_injective z)) ∙ ap some (sym (eqb-true i n is))
     by_cases false is z later = later_place (place_of i ns) refl z later
@@ -123,9 +123,9 @@ append_may i k u ps [] ts may = none_run (look_up i (k ∷ []) (ts ++ (u ∷ [])
 append_may i k u ps (n ∷ ns) [] may = none_run (look_up i (n ∷ (ns ++ (k ∷ []))) (u ∷ [])) ps may
 append_may i k u ps (n ∷ ns) (t ∷ ts) may = by_cases (eqb i n) may (append_may i k u ps ns ts)
   where
-    by_cases : (b : Bool) → MayRunIn (if b then some t else look_up i ns ts) ps →
+    by_cases : (b : Bool) → MayRunIn (when b then some t else look_up i ns ts) ps →
         (MayRunIn (look_up i ns ts) ps → MayRunIn (look_up i (ns ++ (k ∷ [])) (ts ++ (u ∷ []))) ps) →
-        MayRunIn (if b then some t else look_up i (ns ++ (k ∷ [])) (ts ++ (u ∷ []))) ps
+        MayRunIn (when b then some t else look_up i (ns ++ (k ∷ [])) (ts ++ (u ∷ []))) ps
     by_cases true here later = here
     by_cases false here later = later here
 

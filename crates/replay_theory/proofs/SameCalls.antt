@@ -7,7 +7,7 @@ use mathlib.Core.List.{List, [], ◌∷◌, ◌++◌}
 use native.Mathlib.Omega.{arith}
 use lib.Dec.{eqb}
 use lib.ListN.{get_elem?, length, take}
-use Rattle.spec.specs.Choice.{if◌then◌else◌}
+use Rattle.spec.specs.Choice.{when◌then◌else◌}
 use Rattle.calculus.specs.Expression.{choose}
 use Rattle.calculus.specs.State.{Thread}
 use Rattle.calculus.specs.Reduction.{◌>>=◌}
@@ -79,7 +79,7 @@ fewer (some t) [] = omega arith
 fewer (some t) (q ∷ ps) = by_cases (is_open (part_at q t.body)) (fewer (some t) ps)
   where
     by_cases : (b : Bool) → length (open_for (some t) ps) ≤ length ps →
-        length (if b then (q ∷ open_for (some t) ps) else open_for (some t) ps) ≤ suc (length ps)
+        length (when b then (q ∷ open_for (some t) ps) else open_for (some t) ps) ≤ suc (length ps)
     by_cases true later = omega (arith, later)
     by_cases false later = omega (arith, later)
 

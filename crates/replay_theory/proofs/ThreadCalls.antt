@@ -8,7 +8,7 @@ use native.Mathlib.Omega.{arith}
 use lib.Dec.{eqb, leb}
 use lib.ListN.{get_elem?, length}
 use borrow.Author.Tests.{eqb-true, eq-eqb, leb-true, le-leb}
-use Rattle.spec.specs.Choice.{if◌then◌else◌}
+use Rattle.spec.specs.Choice.{when◌then◌else◌}
 use Rattle.spec.proofs.Clashes.{true_is_not_false}
 use Rattle.spec.proofs.Tests.{both_true}
 use Rattle.calculus.specs.Expression.{choose}
@@ -21,7 +21,7 @@ use Rattle.replay_theory.proofs.Proper.{Rising, Proper}
 use Rattle.replay_theory.proofs.Order.{rising_above}
 
 abbrev pub one_if : Bool → Path → List Path
-one_if b q = if b then (q ∷ []) else []
+one_if b q = when b then (q ∷ []) else []
 
 -- ---- What stands for thread i, by the numbers of the threads
 
@@ -29,12 +29,12 @@ one_if b q = if b then (q ∷ []) else []
 unfoldable pub look_up : {A : Type 0} → (i : ℕ) → List ℕ → List A → Option A
 look_up i [] xs = none
 look_up i (n ∷ ns) [] = none
-look_up i (n ∷ ns) (x ∷ xs) = if eqb i n then some x else look_up i ns xs
+look_up i (n ∷ ns) (x ∷ xs) = when eqb i n then some x else look_up i ns xs
 
 unfoldable pub calls_for : (i : ℕ) → List ℕ → List (List Path) → List Path
 calls_for i [] calls = []
 calls_for i (n ∷ ns) [] = []
-calls_for i (n ∷ ns) (ps ∷ calls) = if eqb i n then ps else calls_for i ns calls
+calls_for i (n ∷ ns) (ps ∷ calls) = when eqb i n then ps else calls_for i ns calls
 
 or_none : Option (List Path) → List Path
 or_none none = []
@@ -46,7 +46,7 @@ calls_looked i [] calls = refl
 calls_looked i (n ∷ ns) [] = refl
 calls_looked i (n ∷ ns) (ps ∷ calls) = by_cases (eqb i n) (calls_looked i ns calls)
   where
-    by_cases : (b : Bool) → calls_for i ns calls ≡ or_none (look_up i ns calls) → (if b then ps else calls_for i ns calls) ≡ or_none (if b then some ps else look_up i ns calls)
+    by_cases : (b : Bool) → calls_for i ns calls ≡ or_none (look_up i ns calls) → (when b then ps else calls_for i ns calls) ≡ or_none (when b then some ps else look_up i ns calls)
     by_cases true later = refl
     by_cases false later = later
 
@@ -68,7 +68,7 @@ placed i (n ∷ ns) [] = nowhere_placed (place_of i (n ∷ ns))
 placed i (n ∷ ns) (x ∷ xs) = by_cases (eqb i n) (place_of i ns) (placed i ns xs)
   where
     by_cases : (b : Bool) (o : Option ℕ) → (o >>= get_elem? xs) ≡ look_up i ns xs →
-        ((if b then some 0 else map suc o) >>= get_elem? (x ∷ xs)) ≡ (if b then some x else look_up i ns xs)
+        ((when b then some 0 else map suc o) >>= get_elem? (x ∷ xs)) ≡ (when b then some x else look_up i ns xs)
     by_cases true o later = refl
     by_cases false none later = later
     by_cases false (some p) later = later
@@ -80,7 +80,7 @@ looked_above low high i [] xs r h = none_is_not_some h
 looked_above low high i (n ∷ ns) [] r h = none_is_not_some h
 looked_above {a = a} low high i (n ∷ ns) (x ∷ xs) r h = by_cases (eqb i n) refl h (looked_above (suc n) high i ns xs r.1)
   where
-    by_cases : (b : Bool) → eqb i n ≡ b → (if b then some x else look_up i ns xs) ≡ some a → (look_up i ns xs ≡ some a → suc n ≤ i) → low ≤ i
+    by_cases : (b : Bool) → eqb i n ≡ b → (when b then some x else look_up i ns xs) ≡ some a → (look_up i ns xs ≡ some a → suc n ≤ i) → low ≤ i
     by_cases true is q later = let first = r.0 in let same = eqb-true i n is in omega (arith, first, same)
     by_cases false is q later = let first = r.0 in let above = later q in omega (arith, first, above)
 
@@ -91,11 +91,11 @@ none_below low high i (n ∷ ns) [] r l = refl
 none_below low high i (n ∷ ns) (ps ∷ calls) r l =
     by_cases (eqb i n) refl (none_below (suc n) high i ns calls r.1 (let first = r.0 in omega (arith, first, l)))
   where
-    by_cases : (b : Bool) → eqb i n ≡ b → calls_for i ns calls ≡ [] → (if b then ps else calls_for i ns calls) ≡ []
+    by_cases : (b : Bool) → eqb i n ≡ b → calls_for i ns calls ≡ [] → (when b then ps else calls_for i ns calls) ≡ []
     by_cases true is later = let first = r.0 in let same = eqb-true i n is in absurd (omega (arith, first, same, l))
     by_cases false is later = later
 
-pub none_either_way : (b : Bool) → ◌≡◌ {A = List Path} (if b then [] else []) []
+pub none_either_way : (b : Bool) → ◌≡◌ {A = List Path} (when b then [] else []) []
 none_either_way true = refl
 none_either_way false = refl
 
@@ -107,12 +107,12 @@ looked_at low high i p [] xs r h k = none_is_not_some h
 looked_at low high i p (n ∷ ns) [] r h k = none_is_not_some k
 looked_at {x = x} low high i zero (n ∷ ns) (y ∷ xs) r h k = by_cases (eqb i n) (eq-eqb i n (sym (some_injective h)))
   where
-    by_cases : (b : Bool) → b ≡ true → (if b then some y else look_up i ns xs) ≡ some x
+    by_cases : (b : Bool) → b ≡ true → (when b then some y else look_up i ns xs) ≡ some x
     by_cases true is = k
     by_cases false is = true_is_not_false (sym is)
 looked_at {x = x} low high i (suc p) (n ∷ ns) (y ∷ xs) r h k = by_cases (eqb i n) refl (looked_at (suc n) high i p ns xs r.1 h k)
   where
-    by_cases : (b : Bool) → eqb i n ≡ b → look_up i ns xs ≡ some x → (if b then some y else look_up i ns xs) ≡ some x
+    by_cases : (b : Bool) → eqb i n ≡ b → look_up i ns xs ≡ some x → (when b then some y else look_up i ns xs) ≡ some x
     by_cases true is later =
         let above = rising_above (suc n) high ns p i r.1 h in let same = eqb-true i n is in absurd (omega (arith, above, same))
     by_cases false is later = later
@@ -132,8 +132,8 @@ open_looked i (n ∷ ns) (t ∷ ts) [] = by_cases (look_up i (n ∷ ns) (t ∷ t
 open_looked i (n ∷ ns) (t ∷ ts) (ps ∷ calls) = by_cases (eqb i n) (open_looked i ns ts calls)
   where
     by_cases : (b : Bool) → calls_for i ns (open_calls ts calls) ≡ open_for (look_up i ns ts) (calls_for i ns calls) →
-        (if b then still_open t.body ps else calls_for i ns (open_calls ts calls))
-        ≡ open_for (if b then some t else look_up i ns ts) (if b then ps else calls_for i ns calls)
+        (when b then still_open t.body ps else calls_for i ns (open_calls ts calls))
+        ≡ open_for (when b then some t else look_up i ns ts) (when b then ps else calls_for i ns calls)
     by_cases true later = refl
     by_cases false later = later
 
@@ -143,7 +143,7 @@ unfolding calls_for
 spawned_looked i k [] [] h = none_either_way (eqb i k)
 spawned_looked i k [] (ps ∷ calls) h = absurd (omega (arith, h))
 spawned_looked i k (n ∷ ns) [] h = absurd (omega (arith, h))
-spawned_looked i k (n ∷ ns) (ps ∷ calls) h = ap (λ (qs : List Path). if eqb i n then ps else qs) (spawned_looked i k ns calls (omega (arith, h)))
+spawned_looked i k (n ∷ ns) (ps ∷ calls) h = ap (λ (qs : List Path). when eqb i n then ps else qs) (spawned_looked i k ns calls (omega (arith, h)))
 
 -- Thread j, at place p, takes a call.
 taken_looked : (i j p : ℕ) (q : Path) (ns : List ℕ) (calls : List (List Path)) → length ns ≡ length calls → place_of j ns ≡ some p →
@@ -154,12 +154,12 @@ taken_looked i j p q (n ∷ ns) [] h at = absurd (omega (arith, h))
 taken_looked i j p q (n ∷ ns) (ps ∷ calls) h at =
     by_cases (eqb j n) refl at (λ k. taken_looked i j k q ns calls (omega (arith, h)))
   where
-    same_test : (b : Bool) → (if b then (q ∷ ps) else calls_for i ns calls) ≡ one_if b q ++ (if b then ps else calls_for i ns calls)
+    same_test : (b : Bool) → (when b then (q ∷ ps) else calls_for i ns calls) ≡ one_if b q ++ (when b then ps else calls_for i ns calls)
     same_test true = refl
     same_test false = refl
 
     other : (a b : Bool) → eqb i n ≡ a → eqb i j ≡ b → eqb j n ≡ false → (X : List Path) → X ≡ one_if b q ++ calls_for i ns calls →
-        (if a then ps else X) ≡ one_if b q ++ (if a then ps else calls_for i ns calls)
+        (when a then ps else X) ≡ one_if b q ++ (when a then ps else calls_for i ns calls)
     other true true e f d X later =
         let z = eqb-true i n e in let y = eqb-true i j f in true_is_not_false (sym (eq-eqb j n (omega (arith, z, y))) ∙ d)
     other true false e f d X later = refl
@@ -173,13 +173,13 @@ taken_looked i j p q (n ∷ ns) (ps ∷ calls) h at =
         ap (λ (x : ℕ). calls_for i (n ∷ ns) (record_call x q (ps ∷ calls))) (sym (some_injective z))
         ∙ other (eqb i n) (eqb i j) refl refl d (calls_for i ns (record_call k q calls)) (later k w)
 
-    by_cases : (b : Bool) → eqb j n ≡ b → (if b then some 0 else map suc (place_of j ns)) ≡ some p →
+    by_cases : (b : Bool) → eqb j n ≡ b → (when b then some 0 else map suc (place_of j ns)) ≡ some p →
         ((k : ℕ) → place_of j ns ≡ some k → calls_for i ns (record_call k q calls) ≡ one_if (eqb i j) q ++ calls_for i ns calls) →
         calls_for i (n ∷ ns) (record_call p q (ps ∷ calls)) ≡ one_if (eqb i j) q ++ calls_for i (n ∷ ns) (ps ∷ calls)
     by_cases true is z later =
         ap (λ (x : ℕ). calls_for i (n ∷ ns) (record_call x q (ps ∷ calls))) (sym (some_injective z))
         ∙ same_test (eqb i n)
-        ∙ ap (λ (x : ℕ). one_if (eqb i x) q ++ (if eqb i n then ps else calls_for i ns calls)) (sym (eqb-true j n is))
+        ∙ ap (λ (x : ℕ). one_if (eqb i x) q ++ (when eqb i n then ps else calls_for i ns calls)) (sym (eqb-true j n is))
     by_cases false is z later = later_place (place_of j ns) z is refl later
 
 -- Without the thread at place f, of those that are left.
@@ -194,16 +194,16 @@ left_looked {A = A} low high i zero (n ∷ ns) ys [] r h = nothing ns
     nothing (m ∷ ms) = refl
 left_looked low high i zero (n ∷ ns) ys (x ∷ xs) r h = by_cases (eqb i n) refl
   where
-    by_cases : (b : Bool) → eqb i n ≡ b → look_up i ns xs ≡ (if b then some x else look_up i ns xs)
+    by_cases : (b : Bool) → eqb i n ≡ b → look_up i ns xs ≡ (when b then some x else look_up i ns xs)
     by_cases true is = let same = eqb-true i n is in let above = looked_above (suc n) high i ns ys r.1 h in absurd (omega (arith, same, above))
     by_cases false is = refl
 left_looked low high i (suc f) (n ∷ ns) [] xs r h = none_is_not_some h
 left_looked low high i (suc f) (n ∷ ns) (y ∷ ys) [] r h = refl
 left_looked {b = z} low high i (suc f) (n ∷ ns) (y ∷ ys) (x ∷ xs) r h = by_cases (eqb i n) h (left_looked (suc n) high i f ns ys xs r.1)
   where
-    by_cases : (b : Bool) → (if b then some y else look_up i (remove ns f) ys) ≡ some z →
+    by_cases : (b : Bool) → (when b then some y else look_up i (remove ns f) ys) ≡ some z →
         (look_up i (remove ns f) ys ≡ some z → look_up i (remove ns f) (remove xs f) ≡ look_up i ns xs) →
-        (if b then some x else look_up i (remove ns f) (remove xs f)) ≡ (if b then some x else look_up i ns xs)
+        (when b then some x else look_up i (remove ns f) (remove xs f)) ≡ (when b then some x else look_up i ns xs)
     by_cases true k later = refl
     by_cases false k later = later k
 
@@ -249,7 +249,7 @@ few_for_each (n ∷ ns) (ps ∷ calls) h i =
     let (few, rest) = both_true (leb (length ps) call_limit) (calls_within calls) h in
     by_cases (eqb i n) (leb-true _ _ few) (few_for_each ns calls rest i)
   where
-    by_cases : (b : Bool) → length ps ≤ call_limit → length (calls_for i ns calls) ≤ call_limit → length (if b then ps else calls_for i ns calls) ≤ call_limit
+    by_cases : (b : Bool) → length ps ≤ call_limit → length (calls_for i ns calls) ≤ call_limit → length (when b then ps else calls_for i ns calls) ≤ call_limit
     by_cases true here later = here
     by_cases false here later = later
 
@@ -265,11 +265,11 @@ few_in_all low high (n ∷ ns) (ps ∷ calls) r h few =
     here : length ps ≤ call_limit
     here = by_cases (eqb n n) (eq-eqb n n refl) (few n)
       where
-        by_cases : (b : Bool) → b ≡ true → length (if b then ps else calls_for n ns calls) ≤ call_limit → length ps ≤ call_limit
+        by_cases : (b : Bool) → b ≡ true → length (when b then ps else calls_for n ns calls) ≤ call_limit → length ps ≤ call_limit
         by_cases true is k = k
         by_cases false is k = true_is_not_false (sym is)
 
-    rest : (i : ℕ) (b : Bool) → eqb i n ≡ b → length (if b then ps else calls_for i ns calls) ≤ call_limit → length (calls_for i ns calls) ≤ call_limit
+    rest : (i : ℕ) (b : Bool) → eqb i n ≡ b → length (when b then ps else calls_for i ns calls) ≤ call_limit → length (calls_for i ns calls) ≤ call_limit
     rest i true is k =
         let none_there = ap length (none_below (suc n) high i ns calls r.1 (let same = eqb-true i n is in omega (arith, same))) in omega (arith, none_there)
     rest i false is k = k

@@ -7,7 +7,7 @@
 use Rattle.std.specs.Prelude.{ℕ, suc, ◌+◌, ◌≤◌, ◌<◌, ◌≡◌, Bool, true, false, ◌&&◌, ◌⊎◌, List, [], ◌∷◌, ◌++◌, eqb, length, take}
 use Rattle.std.proofs.Math.Option.{Option, none, some}
 use Rattle.std.proofs.Math.ListN.{get_elem?}
-use Rattle.spec.specs.Choice.{if◌then◌else◌}
+use Rattle.spec.specs.Choice.{when◌then◌else◌}
 use Rattle.spec.specs.Text.{Line, lines}
 use Rattle.spec.specs.Reading.{ok}
 use Rattle.spec.specs.Program.{Program}
@@ -106,7 +106,7 @@ takes_call i d = choose (same_effect same_kind (effect d.word) opens) (eqb i d.t
 unfoldable pub open_calls_of : (i : ℕ) → List Reduced → List Run → List Path
 open_calls_of i [] rs = []
 open_calls_of i (d ∷ ds) [] = []
-open_calls_of i (d ∷ ds) (r ∷ rs) = open_calls_of i ds rs ++ (if takes_call i d && open_through rs i d.path then (d.path ∷ []) else [])
+open_calls_of i (d ∷ ds) (r ∷ rs) = open_calls_of i ds rs ++ (when takes_call i d && open_through rs i d.path then (d.path ∷ []) else [])
 
 -- What e does next, d does, which stands at the path p in e and is no value.
 pub record Runs (e : Exp) (p : Path) (d : Exp) : Type 0 where

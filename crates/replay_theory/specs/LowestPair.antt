@@ -1,7 +1,7 @@
 -- The lowest pair of threads that race. proofs/Pairs shows that a run has one exactly when its state has a race of the calculus.
 use Rattle.std.specs.Prelude.{ℕ, Bool, false, ◌||◌, List, [], ◌∷◌, eqb}
 use Rattle.std.proofs.Math.Option.{Option, none, some}
-use Rattle.spec.specs.Choice.{if◌then◌else◌}
+use Rattle.spec.specs.Choice.{when◌then◌else◌}
 use Rattle.calculus.specs.Expression.{Redex, next_word}
 use Rattle.calculus.specs.State.{Slot, Thread}
 use Rattle.calculus.specs.Reduction.{◌>>=◌, ◌>>◌, cell_value, word_of}
@@ -40,7 +40,7 @@ uses_in names (i ∷ is) (t ∷ ts) = (i, uses_of names (word_of (next_word t.bo
 -- "its lowest pair (smaller thread first, then the other)": the first thread that clashes with a later one, and the first of those
 unfoldable pub clashing : Uses → List (ℕ × Uses) → Option ℕ
 clashing a [] = none
-clashing a (u ∷ us) = if clash a u.1 then some u.0 else clashing a us
+clashing a (u ∷ us) = when clash a u.1 then some u.0 else clashing a us
 
 unfoldable pub pair_or : (i : ℕ) → Option ℕ → Option (ℕ × ℕ) → Option (ℕ × ℕ)
 pair_or i none later = later

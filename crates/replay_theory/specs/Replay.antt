@@ -1,7 +1,7 @@
 -- The answer of a replay, and its report, in the order 1; 10 to 15, 45 and 49; then line by line 46, 47, 48.
 use Rattle.std.specs.Prelude.{ℕ, ◌+◌, Bool, List, [], ◌∷◌, leb, length}
 use Rattle.std.proofs.Math.Option.{Option, none, some}
-use Rattle.spec.specs.Choice.{if◌then◌else◌}
+use Rattle.spec.specs.Choice.{when◌then◌else◌}
 use Rattle.spec.specs.Text.{Line, lines}
 use Rattle.spec.specs.Reading.{Result, refuse, ok, ◌>>=◌, require}
 use Rattle.spec.specs.Program.{Program, program, program_limit}
@@ -31,7 +31,7 @@ pub data Outcome (A : Type 0) : Type 0 where
 -- 48 is for a step that the language could take
 unfoldable pub check_limits : {A : Type 0} → (within : A → Bool) → Option A → Outcome A
 check_limits within none = no_step
-check_limits within (some a) = if within a then step a else past_limit
+check_limits within (some a) = when within a then step a else past_limit
 
 unfoldable pub line_outcome : {A : Type 0} → (stepped : TraceLine → Option A) → (within : A → Bool) → Option TraceLine → Outcome A
 line_outcome stepped within none = bad_form

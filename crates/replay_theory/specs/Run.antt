@@ -2,7 +2,7 @@
 use Rattle.std.specs.Prelude.{ℕ, zero, suc, ◌+◌, Bool, true, false, not, ◌&&◌, List, [], ◌∷◌, ◌++◌, eqb, leb, ltb, length}
 use Rattle.std.proofs.Math.Option.{Option, none, some, map}
 use Rattle.std.proofs.Math.ListN.{get_elem?}
-use Rattle.spec.specs.Choice.{if◌then◌else◌}
+use Rattle.spec.specs.Choice.{when◌then◌else◌}
 use Rattle.calculus.specs.Expression.{Value, Unary, join, ref, read, lock, unlock, post, wait, hold, call, Nullary, newtid, newlock, newsem, newrwlock, Exp, Redex, let_redex, if_redex, while_redex, spawn_redex, write_redex, unary_redex, nullary_redex, Next, is_value, at_variable, at_word, next_word, choose, Procedure, Program}
 use Rattle.calculus.specs.State.{Thread, State, Part, first, second, Move, remove}
 use Rattle.calculus.specs.Reduction.{◌>>=◌, name_of, word_of, reduce, start_state}
@@ -38,7 +38,7 @@ start_run p = record { procedures = p.procedures; state = start_state p; numbers
 -- "threads count from 0 in spawn order": the place of thread i in the state, if it is there
 unfoldable pub place_of : (i : ℕ) → (numbers : List ℕ) → Option ℕ
 place_of i [] = none
-place_of i (n ∷ ns) = if eqb i n then some 0 else map suc (place_of i ns)
+place_of i (n ∷ ns) = when eqb i n then some 0 else map suc (place_of i ns)
 
 unfoldable pub has_finished : Next → Bool
 has_finished (is_value v) = true
@@ -48,8 +48,8 @@ has_finished (at_word w) = false
 -- "Each thread has one record: running, finished or joined"; a thread that has begun and is not in the state is joined, and of one that has
 -- not begun there is no record
 unfoldable pub record_for : (begun : Bool) → Option Thread → Option Status
-record_for begun (some t) = some (if has_finished (next_word t.body) then Finished else Running)
-record_for begun none = if begun then some Joined else none
+record_for begun (some t) = some (when has_finished (next_word t.body) then Finished else Running)
+record_for begun none = when begun then some Joined else none
 
 unfoldable pub record_of : Run → (i : ℕ) → Option Status
 record_of r i = record_for (ltb i r.threads) (place_of i r.numbers >>= get_elem? r.state.threads)
@@ -123,7 +123,7 @@ effect w = (traits w).effect
 -- is the place behind the last, where no thread stands, and the join is no reduction.
 unfoldable pub lowest_finished : (n : ℕ) → List Thread → ℕ
 lowest_finished n [] = 0
-lowest_finished n (t ∷ ts) = if eqb t.tid n && has_finished (next_word t.body) then 0 else suc (lowest_finished n ts)
+lowest_finished n (t ∷ ts) = when eqb t.tid n && has_finished (next_word t.body) then 0 else suc (lowest_finished n ts)
 
 -- a join of no name is no reduction, and every other word ignores the finished thread that a move lists
 unfoldable pub finished_for : Option ℕ → List Thread → ℕ
@@ -152,7 +152,7 @@ is_open (some body) = not (has_finished (next_word body))
 
 unfoldable pub still_open : Exp → List Path → List Path
 still_open e [] = []
-still_open e (q ∷ ps) = if is_open (part_at q e) then (q ∷ still_open e ps) else still_open e ps
+still_open e (q ∷ ps) = when is_open (part_at q e) then (q ∷ still_open e ps) else still_open e ps
 
 unfoldable pub open_calls : List Thread → List (List Path) → List (List Path)
 open_calls [] calls = []

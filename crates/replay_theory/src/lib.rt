@@ -34,14 +34,14 @@ pub enum FirstRace {
     },
 }
 
-#[derive(Drop)]
+#[derive(Clone, Copy)]
 pub struct Report {
     pub steps: usize,
     pub race: FirstRace,
 }
 
 // What a replay hands back.
-#[derive(Drop)]
+#[derive(Clone, Copy)]
 pub struct Replayed {
     pub ending: Ending,
     pub report: Report,

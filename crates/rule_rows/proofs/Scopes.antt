@@ -5,7 +5,7 @@ use mathlib.Core.List.{List, [], ◌∷◌}
 use Prim.Native.Nat.{ℕ, ◌+◌, ◌<◌}
 use lib.Dec.{eqb}
 use lib.ListN.{length, get_or}
-use Rattle.spec.specs.Choice.{if◌then◌else◌}
+use Rattle.spec.specs.Choice.{when◌then◌else◌}
 use Rattle.spec.specs.Expression.{among}
 use Rattle.spec.specs.Split.{Split, no_row}
 use Rattle.spec.specs.Conditions.{Env, type_in, signature}
@@ -39,7 +39,7 @@ module _ (S : Split) (Γ : Env) (inside : List (ℕ × ℕ)) (vars : List ℕ) (
   scoped_more = record { bound = λ u a. either u a (eqb v u) refl }
     where
       either : (u : ℕ) → among u (v ∷ vars) ≡ true → (s : Bool) → eqb v u ≡ s
-          → BoundBy S (if s then b else let_in inside u) (if s then t else type_in Γ u)
+          → BoundBy S (when s then b else let_in inside u) (when s then t else type_in Γ u)
       either u a true q = B
       either u a false q = C.bound u (rw (eqb_sym u v, q) at a)
 

@@ -1,6 +1,6 @@
 -- What the conditions of a step look at, as the columns of the work space show it.
 use Rattle.std.specs.Prelude.{List, ℕ, ◌+◌, ◌-◌, ltb, get_or}
-use Rattle.spec.specs.Choice.{if◌then◌else◌}
+use Rattle.spec.specs.Choice.{when◌then◌else◌}
 use Rattle.spec.specs.declared.TypeNumber.{TypeNumber}
 use Rattle.workspace.specs.Layout.{values_at, ends_at, lets_at, lines_at, proc_mark, row_types_at, posts_at, starts_at, pres_at, sig_befores_at, sig_arguments_at, sig_afters_at, sig_results_at}
 use Rattle.spec.specs.declared.Signature.{Signature}
@@ -22,7 +22,7 @@ signature_of w f = record {
 -- the type of the variable that the let at this index binds, or the procedure with this mark
 unfoldable pub bound_of : (w : List ℕ) → (binder : ℕ) → TypeNumber
 bound_of w binder =
-    if ltb binder proc_mark
+    when ltb binder proc_mark
     then record { 0 = cell w (row_types_at + 1) binder }
     else record { 0 = cell w sig_arguments_at (binder - proc_mark) }
 

@@ -12,7 +12,6 @@ use Rattle.spec.specs.Conditions.{Env, conditions_of}
 use Rattle.spec.specs.Ranges.{InRange}
 use Rattle.spec.specs.declared.UnaryWord.TheVariants.{Call}
 use Rattle.spec.proofs.Listing.{size_positive}
-use Rattle.workspace.specs.Layout as layout
 use Rattle.workspace.specs.Layout.{words_at, pres_at, rule_of}
 use Rattle.workspace.specs.Holds.{HoldsSplit}
 use Rattle.workspace.proofs.Shown.{Stands}

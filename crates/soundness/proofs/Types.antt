@@ -9,7 +9,7 @@ use native.Mathlib.Decide.{ℕ_discrete}
 use lib.Dec.{eqb}
 use lib.ListN.{length, get_or}
 use borrow.Author.Tests.{eq-eqb, ne_eqb}
-use Rattle.spec.specs.Choice.{if◌then◌else◌}
+use Rattle.spec.specs.Choice.{when◌then◌else◌}
 use Rattle.spec.specs.Expression.{among}
 use Rattle.spec.specs.Program.{Program}
 use Rattle.spec.specs.Split.{Split}
@@ -119,6 +119,6 @@ module _ {P : Program} (S : Split) (R : InRange P S) where
   variable_typed [] v h = let clash : ◌≡◌ {A = ℕ} 0 1 = cc in absurd (omega arith)
   variable_typed (b ∷ Γ) v h = by_cases (λ k. variable_typed Γ v k) (ℕ_discrete v b.0)
     where
-      by_cases : (among v (map (λ c. c.0) Γ) ≡ true → environment S Γ v ≡ some (means S (type_in Γ v))) → (d : Dec (v ≡ b.0)) → choose d (some (means S b.1)) (environment S Γ v) ≡ some (means S (if eqb b.0 v then b.1 else type_in Γ v))
+      by_cases : (among v (map (λ c. c.0) Γ) ≡ true → environment S Γ v ≡ some (means S (type_in Γ v))) → (d : Dec (v ≡ b.0)) → choose d (some (means S b.1)) (environment S Γ v) ≡ some (means S (when eqb b.0 v then b.1 else type_in Γ v))
       by_cases others (yes e) = rw (eq-eqb b.0 v (sym e))
       by_cases others (no n) = rw (ne_eqb b.0 v (λ e. n (sym e))) (others (rw (ne_eqb v b.0 n) at h))

@@ -11,7 +11,7 @@ use lib.ListN.{length, get_or, length-append, get_or-append, get_or-eq_default}
 use lib.Seq.{get_or-append_seam}
 use lib.Dec.{eqb}
 use borrow.Author.Tests.{eqb-true, eq-eqb}
-use Rattle.spec.specs.Choice.{if◌then◌else◌}
+use Rattle.spec.specs.Choice.{when◌then◌else◌}
 use Rattle.spec.specs.Program.{Program}
 use Rattle.spec.specs.Split.{Map, Split, type_at, map_at}
 use Rattle.spec.specs.Ranges.{InRange}
@@ -116,8 +116,8 @@ module _ (S : Split) where
   tree_of_more before xs x h = by_kind (is ref x) refl
     where
       by_kind : (b : Bool) → is ref x ≡ b
-          → (if b then ref_to (ref_location x) (get_or before (content x).0 (plain int [])) else plain (kind_of x) (map (map_at S) (maps x)))
-          ≡ (if b then ref_to (ref_location x) (get_or (trees S before xs) (content x).0 (plain int [])) else plain (kind_of x) (map (map_at S) (maps x)))
+          → (when b then ref_to (ref_location x) (get_or before (content x).0 (plain int [])) else plain (kind_of x) (map (map_at S) (maps x)))
+          ≡ (when b then ref_to (ref_location x) (get_or (trees S before xs) (content x).0 (plain int [])) else plain (kind_of x) (map (map_at S) (maps x)))
       by_kind true e = ap (ref_to (ref_location x)) (sym (trees_kept before xs (content x).0 (h e)))
       by_kind false e = refl
 

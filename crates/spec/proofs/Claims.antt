@@ -4,7 +4,7 @@ use mathlib.Core.List.{List, [], ◌∷◌, ◌++◌, append_assoc}
 use mathlib.Core.Bool.{Bool, true, false}
 use mathlib.Core.Option.{none, some}
 use Prim.Native.Nat.{ℕ}
-use Rattle.spec.specs.Choice.{if◌then◌else◌}
+use Rattle.spec.specs.Choice.{when◌then◌else◌}
 use Rattle.spec.specs.Reading.{Result, refuse, ok, ◌>>=◌}
 use Rattle.spec.specs.Split.{Split}
 use Rattle.spec.specs.Conditions.{Condition, T, F, A}
@@ -64,7 +64,7 @@ only_append sort [] ys = refl
 only_append sort (c ∷ xs) ys = go (sort c.condition) (only_append sort xs ys)
   where
     go : (b : Bool) → only sort (xs ++ ys) ≡ only sort xs ++ only sort ys
-        → (if b then c ∷ only sort (xs ++ ys) else only sort (xs ++ ys)) ≡ (if b then c ∷ only sort xs else only sort xs) ++ only sort ys
+        → (when b then c ∷ only sort (xs ++ ys) else only sort (xs ++ ys)) ≡ (when b then c ∷ only sort xs else only sort xs) ++ only sort ys
     go true e = ap (c ∷◌) e
     go false e = e
 

@@ -5,7 +5,7 @@ use mathlib.Core.Bool.{Bool, true, false}
 use mathlib.Core.Option.{Option, none, some}
 use Prim.Native.Nat.{ℕ, zero, suc, ◌+◌}
 use lib.Dec.{ltb}
-use Rattle.spec.specs.Choice.{if◌then◌else◌}
+use Rattle.spec.specs.Choice.{when◌then◌else◌}
 use Rattle.spec.specs.Text.{Line, closed, unclosed, Field, fields}
 use Rattle.spec.specs.Reading.{Result, refuse, ok, ◌>>=◌, require, Fault, bad_form, bad_range, no_start, freelock, no_kept, LineResult, good, bad, SheetName, program_sheet, split_sheet, form, outside, miscounted, faulty, Place, passed, next_line, read_line, read_lines, begin, end}
 use Rattle.spec.specs.Expression.{Expr, leaf, unary, binary, size, Item, step, proc, first_listed, expression, no_line_left, Procedure, structure, among, scope_step, scope, scopes}
@@ -41,7 +41,7 @@ unfolding require
 early_demand true r h = tt
 early_demand false r h = h
 
-early_choice : {A : Type 0} (b : Bool) (x y : Result A) → Early x → Early y → Early (if b then x else y)
+early_choice : {A : Type 0} (b : Bool) (x y : Result A) → Early x → Early y → Early (when b then x else y)
 early_choice true x y p q = p
 early_choice false x y p q = q
 

@@ -5,7 +5,7 @@ use mathlib.Core.Bool.{Bool, true, false}
 use Prim.Native.Nat.{ℕ, zero, suc, ◌+◌}
 use native.Mathlib.Omega.{arith}
 use lib.ListN.{get_or}
-use Rattle.spec.specs.Choice.{if◌then◌else◌}
+use Rattle.spec.specs.Choice.{when◌then◌else◌}
 use Rattle.spec.specs.Reading.{ok}
 use Rattle.spec.specs.Split.{Split, type_at, map_at}
 use Rattle.spec.specs.Maps.{◌≥ᵐ◌, holds_everywhere}
@@ -34,7 +34,7 @@ module _ (S : Split) where
   unfolding takes_enough
   enough_line x h = by_kind (is lock x) refl
     where
-      by_kind : (b : Bool) → is lock x ≡ b → (if b then holds_everywhere (map_at S (second_map x) ≥ᵐ map_at S (first_map x)) else true) ≡ true
+      by_kind : (b : Bool) → is lock x ≡ b → (when b then holds_everywhere (map_at S (second_map x) ≥ᵐ map_at S (first_map x)) else true) ≡ true
       by_kind true e = none_nowhere (map_at S (second_map x) ≥ᵐ map_at S (first_map x)) (covers_none (h (first_map x) (second_map x) (is_of lock x e)))
       by_kind false e = refl
 

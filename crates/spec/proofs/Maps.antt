@@ -9,7 +9,7 @@ use native.Mathlib.Omega.{arith}
 use lib.Dec.{eqb, leb}
 use lib.ListN.{length, get_or}
 use borrow.Author.Tests.{eqb-true, leb-true, leb-false, eq-eqb, le-leb}
-use Rattle.spec.specs.Choice.{if◌then◌else◌}
+use Rattle.spec.specs.Choice.{when◌then◌else◌}
 use Rattle.spec.specs.Split.{Map}
 use Rattle.spec.specs.Maps.{lowest, at_least, ◌=ᵐ◌, ◌≥ᵐ◌, holds_everywhere, ◌×ᵐ◌, over_whole}
 use Rattle.spec.specs.Figure5.{◌⊒◌, none as none⊒, more as more⊒}
@@ -27,7 +27,7 @@ pub none_nowhere : (o : Option ℕ) → o ≡ none → holds_everywhere o ≡ tr
 unfolding holds_everywhere
 none_nowhere o h = rw h
 
-if_none : (t : Bool) (x : Option ℕ) (i : ℕ) → (if t then x else some i) ≡ none → (t ≡ true) × (x ≡ none)
+if_none : (t : Bool) (x : Option ℕ) (i : ℕ) → (when t then x else some i) ≡ none → (t ≡ true) × (x ≡ none)
 if_none true x i h = (refl, h)
 if_none false x i h = none_is_not_some (sym h)
 
@@ -143,7 +143,7 @@ lowest_some test i l (a ∷ m) [] h =
     (0, omega arith, fails_first test (a ∷ m) [] (omega arith) (λ p. absurd (omega (arith, p.second))))
 lowest_some test i l (a ∷ m) (b ∷ n) h = go (test a b) refl h (lowest_some test (i + 1) l m n)
   where
-    go : (t : Bool) → test a b ≡ t → (if t then lowest test (i + 1) m n else some i) ≡ some l
+    go : (t : Bool) → test a b ≡ t → (when t then lowest test (i + 1) m n else some i) ≡ some l
         → (lowest test (i + 1) m n ≡ some l → (k : ℕ) × (l ≡ i + 1 + k) × LowestFailing test m n k)
         → (k : ℕ) × (l ≡ i + k) × LowestFailing test (a ∷ m) (b ∷ n) k
     go true e found rest =

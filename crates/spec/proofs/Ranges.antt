@@ -7,7 +7,7 @@ use mathlib.Core.Option.{Option, none, some}
 use Prim.Native.Nat.{ℕ, zero, suc, ◌+◌, ◌≤◌, ◌<◌}
 use native.Mathlib.Omega.{arith}
 use lib.ListN.{length, get_or, replicate, length-replicate}
-use Rattle.spec.specs.Choice.{if◌then◌else◌}
+use Rattle.spec.specs.Choice.{when◌then◌else◌}
 use Rattle.spec.specs.Text.{Line, bytes, same, Field}
 use Rattle.spec.specs.Reading.{good, seen, ◌to◌, below, in_range, numerals, numbers}
 use Rattle.spec.specs.Words.{takes_start}
@@ -228,7 +228,7 @@ start_below : (w : Word) (H : Header) (n : ℕ) → in_range (start_range w H) n
 unfolding start_range
 start_below w H n h = by_cases (takes_start w) (in_below _ n h)
   where
-    by_cases : (b : Bool) → n < (if b then H.maps else 0) → n < H.maps
+    by_cases : (b : Bool) → n < (when b then H.maps else 0) → n < H.maps
     by_cases true q = q
     by_cases false q = absurd (omega arith)
 

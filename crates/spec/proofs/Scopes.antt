@@ -8,7 +8,7 @@ use mathlib.Core.Logic.{◌↔◌}
 use Prim.Native.Nat.{ℕ}
 use lib.Dec.{eqb}
 use borrow.Author.Tests.{ltb-true, lt-ltb}
-use Rattle.spec.specs.Choice.{if◌then◌else◌}
+use Rattle.spec.specs.Choice.{when◌then◌else◌}
 use Rattle.spec.specs.Reading.{Result, refuse, ok}
 use Rattle.spec.specs.Words.{role, binding}
 use Rattle.spec.specs.Expression.{Expr, leaf, unary, binary, Procedure, among, scope_step, scope, scopes}
@@ -67,11 +67,11 @@ none_among_nothing (v ∷ vs) = (refl, none_among_nothing vs)
 
 -- ------------------------------------------------------------------ the walk
 
-used_goes_on : {A : Type 0} {a : A} (b : Bool) (o : Result A) (r : Refusal) → (if b then o else refuse r) ≡ ok a → (b ≡ true) × (o ≡ ok a)
+used_goes_on : {A : Type 0} {a : A} (b : Bool) (o : Result A) (r : Refusal) → (when b then o else refuse r) ≡ ok a → (b ≡ true) × (o ≡ ok a)
 used_goes_on true o r h = (refl, h)
 used_goes_on false o r h = stop_is_not_on h
 
-bound_goes_on : {A : Type 0} {a : A} (b : Bool) (o : Result A) (r : Refusal) → (if b then refuse r else o) ≡ ok a → (b ≡ false) × (o ≡ ok a)
+bound_goes_on : {A : Type 0} {a : A} (b : Bool) (o : Result A) (r : Refusal) → (when b then refuse r else o) ≡ ok a → (b ≡ false) × (o ≡ ok a)
 bound_goes_on true o r h = stop_is_not_on h
 bound_goes_on false o r h = (refl, h)
 

@@ -9,7 +9,7 @@ use native.Mathlib.Omega.{arith}
 use lib.Dec.{eqb}
 use lib.ListN.{length, get_or}
 use borrow.Author.Tests.{eqb-true, leb-true, ltb-true, le-leb, lt-leb, lt-ltb}
-use Rattle.spec.specs.Choice.{if◌then◌else◌}
+use Rattle.spec.specs.Choice.{when◌then◌else◌}
 use Rattle.spec.specs.Text.{Field, numeral}
 use Rattle.spec.specs.Reading.{Fault, bad_form, bad_range, LineResult, good, bad, seen, ensure, Range, ◌to◌, below, in_range, all_in_range, with_numeral, numerals, numbers, or_bad_form}
 use Rattle.spec.specs.Split.{header_ranges}
@@ -43,17 +43,17 @@ insist_right false w (good a) h = wrong_is_not_right h
 
 -- what holds of what either of two ways shows
 pub either_right : {A : Type 0} (Q : A → Type 0) (b : Bool) (x y : LineResult A) → ((a : A) → x ≡ good a → Q a) → ((a : A) → y ≡ good a → Q a)
-    → (a : A) → (if b then x else y) ≡ good a → Q a
+    → (a : A) → (when b then x else y) ≡ good a → Q a
 either_right Q true x y f g a h = f a h
 either_right Q false x y f g a h = g a h
 
-within_right : {ns ms : List ℕ} (b : Bool) → (if b then good ns else bad bad_range) ≡ good ms → (b ≡ true) × (ns ≡ ms)
+within_right : {ns ms : List ℕ} (b : Bool) → (when b then good ns else bad bad_range) ≡ good ms → (b ≡ true) × (ns ≡ ms)
 within_right true h = (refl, right_inj h)
 within_right false h = wrong_is_not_right h
 
 -- what the numerals of a line come to
 abbrev pub ranged : List Range → Option (List ℕ) → LineResult (List ℕ)
-ranged rs o = or_bad_form o λ ns. if eqb (length ns) (length rs) then (if all_in_range rs ns then good ns else bad bad_range) else bad bad_form
+ranged rs o = or_bad_form o λ ns. when eqb (length ns) (length rs) then (when all_in_range rs ns then good ns else bad bad_range) else bad bad_form
 
 -- the numbers that a line shows are the numerals of its fields, as many as ranges, each in its range
 numbers_shown : (rs : List Range) (fs : List Field) (ns : List ℕ) → numbers rs fs ≡ good ns
@@ -65,7 +65,7 @@ numbers_shown rs fs ns h =
     (spelled ∙ ap some q, sym (ap length q) ∙ counted, sym (ap (all_in_range rs) q) ∙ inside)
   where
     by_count : (ms : List ℕ) (b : Bool) → eqb (length ms) (length rs) ≡ b
-        → (if b then (if all_in_range rs ms then good ms else bad bad_range) else bad bad_form) ≡ good ns
+        → (when b then (when all_in_range rs ms then good ms else bad bad_range) else bad bad_form) ≡ good ns
         → (ms ≡ ns) × (length ms ≡ length rs) × (all_in_range rs ms ≡ true)
     by_count ms true e h = let (t, q) = within_right (all_in_range rs ms) h in (q, eqb-true _ _ e, t)
     by_count ms false e h = wrong_is_not_right h

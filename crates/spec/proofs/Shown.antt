@@ -2,7 +2,7 @@
 use mathlib.Core.Path.{◌≡◌, refl}
 use mathlib.Core.Bool.{Bool, true, false, ◌&&◌}
 use mathlib.Core.Logic.{◌↔◌}
-use Rattle.spec.specs.Choice.{if◌then◌else◌}
+use Rattle.spec.specs.Choice.{when◌then◌else◌}
 use Rattle.spec.specs.Split.{Split, type_at, map_at}
 use Rattle.spec.specs.Maps.{◌≥ᵐ◌, holds_everywhere}
 use Rattle.spec.specs.Figure5.{◌⊒◌}
@@ -35,7 +35,7 @@ module _ (S : Split) where
   may_show_lem t u h = by_kind (is lock (type_at S t) && is lock (type_at S u)) refl h
     where
       by_kind : (b : Bool) → (is lock (type_at S t) && is lock (type_at S u)) ≡ b
-          → (if b then looser_lock S (type_at S t) (type_at S u) else agree S t u) ≡ true → Shown t u
+          → (when b then looser_lock S (type_at S t) (type_at S u) else agree S t u) ≡ true → Shown t u
       by_kind true k h = let (x, y) = both_true _ _ k in locks_show t u x y h
       by_kind false k h = agreeing h
 
@@ -52,7 +52,7 @@ module _ (S : Split) where
   shown_may t u (agreeing h) = by_kind (is lock (type_at S t) && is lock (type_at S u)) refl
     where
       by_kind : (b : Bool) → (is lock (type_at S t) && is lock (type_at S u)) ≡ b
-          → (if b then looser_lock S (type_at S t) (type_at S u) else agree S t u) ≡ true
+          → (when b then looser_lock S (type_at S t) (type_at S u) else agree S t u) ≡ true
       by_kind false k = h
       by_kind true k =
           let (x, y) = both_true _ _ k in

@@ -5,7 +5,7 @@ use mathlib.Core.Bool.{Bool, true, false}
 use Prim.Native.Nat.{ℕ, zero, suc, ◌+◌, ◌≤◌}
 use native.Mathlib.Omega.{arith}
 use lib.ListN.{length}
-use Rattle.spec.specs.Choice.{if◌then◌else◌}
+use Rattle.spec.specs.Choice.{when◌then◌else◌}
 use Rattle.spec.specs.Text.{bytes, same, Line, Field, look_up}
 use Rattle.spec.specs.Reading.{Fault, freelock, LineResult, good, bad, or_bad_form, refuse_after, ◌to◌, numbers}
 use Rattle.spec.specs.Words.{words_under}
@@ -48,7 +48,7 @@ item_line_lem g k [] s h = wrong_is_not_right h
 item_line_lem g k (f ∷ fs) s h = by_word (same f (bytes "freelock")) (same f (bytes "proc")) h
   where
     by_word : (b c : Bool)
-        → (if b then refuse_after freelock (numbers ((0 to 0) ∷ []) fs) else if c then proc_line g k fs else or_bad_form (look_up (words_under g) f) λ w. word_line k w fs) ≡ good s
+        → (when b then refuse_after freelock (numbers ((0 to 0) ∷ []) fs) else when c then proc_line g k fs else or_bad_form (look_up (words_under g) f) λ w. word_line k w fs) ≡ good s
         → line_of_item s ≡ k
     by_word true c h = after_wrong freelock (numbers ((0 to 0) ∷ []) fs) h
     by_word false true h = proc_line_lem g k fs s h

@@ -1,7 +1,7 @@
 -- When two types of a split agree. A type is read as a tree, in which contents and maps stand themselves, not by number; two types
 -- agree when their trees are the same.
 use Rattle.std.specs.Prelude.{List, [], ◌∷◌, ◌++◌, map, Bool, true, false, ◌&&◌, eqb, get_or}
-use Rattle.spec.specs.Choice.{if◌then◌else◌}
+use Rattle.spec.specs.Choice.{when◌then◌else◌}
 use Rattle.spec.specs.Split.{Map, Split, map_at}
 use Rattle.spec.specs.Kinds.{Kind, int, ref, kind_of, same_kind, is, ref_location, content, maps}
 use Rattle.spec.specs.Maps.{same_numbers}
@@ -37,7 +37,7 @@ module _ (S : Split) where
   -- and the tree of int that stands for a missing one is never seen.
   unfoldable pub tree_of : (before : List Tree) → TypeLine → Tree
   tree_of before x =
-      if is ref x
+      when is ref x
       then ref_to (ref_location x) (get_or before (content x).0 (plain int []))
       else plain (kind_of x) (map (map_at S) (maps x))
 

@@ -1,7 +1,7 @@
 -- A choice by a test.
 use Rattle.std.specs.Prelude.{Bool, true, false}
 
-infixr 1 if◌then◌else◌
-abbrev pub if◌then◌else◌ {ℓ} : {A : Type ℓ} → Bool → A → A → A
-if true then a else b = a
-if false then a else b = b
+infixr 1 when◌then◌else◌
+abbrev pub when◌then◌else◌ {ℓ} : {A : Type ℓ} → Bool → A → A → A
+when true then a else b = a
+when false then a else b = b

@@ -1,7 +1,7 @@
 -- The conditions, from Figure 5.
 use Rattle.std.specs.Prelude.{List, [], ◌∷◌, map, Bool, ◌&&◌, ℕ, eqb, leb, ltb, get_or, replicate}
 use Rattle.std.proofs.Math.Option.{Option, none, some}
-use Rattle.spec.specs.Choice.{if◌then◌else◌}
+use Rattle.spec.specs.Choice.{when◌then◌else◌}
 use Rattle.spec.specs.Expression.{Expr, leaf, unary, binary, index_of, Procedure}
 use Rattle.spec.specs.Split.{Map, Row, no_row, no_signature, Split}
 use Rattle.spec.specs.declared.Signature.{Signature}
@@ -31,7 +31,7 @@ Env = List (ℕ × TypeNumber)
 -- the type of the variable v's let's e1; type 0 for an unbound variable is never seen, since 14 refuses that
 unfoldable pub type_in : Env → (v : ℕ) → TypeNumber
 type_in [] v = record { 0 = 0 }
-type_in (b ∷ Γ) v = if eqb b.0 v then b.1 else type_in Γ v
+type_in (b ∷ Γ) v = when eqb b.0 v then b.1 else type_in Γ v
 
 -- a ref type whose c agrees with the type t
 unfoldable pub contains : (agrees : TypeNumber → TypeNumber → Bool) → TypeLine → TypeNumber → Bool
@@ -71,7 +71,7 @@ module _ (S : Split) where
   -- agreement is unchanged, including inside refs."
   unfoldable pub may_show : (shown own : TypeNumber) → Bool
   may_show t u =
-      if is_of lock (type_at S t) && is_of lock (type_at S u)
+      when is_of lock (type_at S t) && is_of lock (type_at S u)
       then looser_lock (type_at S t) (type_at S u)
       else agree S t u
 

@@ -1,6 +1,6 @@
 -- The expressions that steps list in prefix order, procedures and the root, and where their variables are bound.
 use Rattle.std.specs.Prelude.{List, [], ◌∷◌, Bool, false, ◌||◌, ℕ, zero, suc, ◌+◌, eqb, ltb, drop}
-use Rattle.spec.specs.Choice.{if◌then◌else◌}
+use Rattle.spec.specs.Choice.{when◌then◌else◌}
 use Rattle.spec.specs.Reading.{Result, refuse, ok, ◌>>=◌}
 use Rattle.spec.specs.Words.{role, binding}
 use Rattle.spec.specs.declared.Role.{Role}
@@ -137,9 +137,9 @@ module _ (count : ℕ) where
   -- 14 and 15 of a step, by its role; "49 for a call to a procedure that isn't there, in the place of 14". What comes out is the
   -- variables bound by then
   unfoldable pub scope_step : Role → (line v : ℕ) → (inside bound : List ℕ) → Result (List ℕ)
-  scope_step Binds k v inside bound = if among v bound then refuse (Rebound k) else ok (v ∷ bound)
-  scope_step Uses k v inside bound = if among v inside then ok bound else refuse (Unbound k)
-  scope_step Calls k f inside bound = if ltb f count then ok bound else refuse (NoProcedure k)
+  scope_step Binds k v inside bound = when among v bound then refuse (Rebound k) else ok (v ∷ bound)
+  scope_step Uses k v inside bound = when among v inside then ok bound else refuse (Unbound k)
+  scope_step Calls k f inside bound = when ltb f count then ok bound else refuse (NoProcedure k)
   scope_step Neither k v inside bound = ok bound
 
   -- 14, 15 and 49 in line order. `inside`: the variables whose let's e2, or whose procedure's body, this is in. `bound`: those that a

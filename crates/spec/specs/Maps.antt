@@ -1,7 +1,7 @@
 -- Maps are compared and added number by number.
 use Rattle.std.specs.Prelude.{[], ◌∷◌, Bool, true, false, ℕ, ◌+◌, ◌*◌, eqb, leb, get_or}
 use Rattle.std.proofs.Math.Option.{Option, none, some}
-use Rattle.spec.specs.Choice.{if◌then◌else◌}
+use Rattle.spec.specs.Choice.{when◌then◌else◌}
 use Rattle.spec.specs.Split.{Map}
 use Rattle.spec.specs.declared.Location.{Location}
 
@@ -10,7 +10,7 @@ unfoldable pub lowest : (ℕ → ℕ → Bool) → (i : ℕ) → Map → Map →
 lowest test i [] [] = none
 lowest test i [] (b ∷ n) = some i
 lowest test i (a ∷ m) [] = some i
-lowest test i (a ∷ m) (b ∷ n) = if test a b then lowest test (i + 1) m n else some i
+lowest test i (a ∷ m) (b ∷ n) = when test a b then lowest test (i + 1) m n else some i
 
 unfoldable pub at_least : ℕ → ℕ → Bool
 at_least a b = leb b a
@@ -51,4 +51,4 @@ share m p = get_or m p.0 0
 -- where a map has more than the whole, d parts
 unfoldable pub over_whole : (d i : ℕ) → Map → Option ℕ
 over_whole d i [] = none
-over_whole d i (a ∷ m) = if leb a d then over_whole d (i + 1) m else some i
+over_whole d i (a ∷ m) = when leb a d then over_whole d (i + 1) m else some i

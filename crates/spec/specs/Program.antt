@@ -1,6 +1,6 @@
 -- The program sheet.
 use Rattle.std.specs.Prelude.{List, [], ◌∷◌, ℕ, zero, suc, ◌+◌}
-use Rattle.spec.specs.Choice.{if◌then◌else◌}
+use Rattle.spec.specs.Choice.{when◌then◌else◌}
 use Rattle.spec.specs.Text.{bytes, same, lines, Field, look_up}
 use Rattle.spec.specs.Reading.{program_sheet, Result, ◌>>=◌, ok, LineResult, bad, bad_form, freelock, seen, or_bad_form, refuse_after, ◌to◌, Range, numbers, nth, read_line, read_lines, begin, end}
 use Rattle.spec.specs.Words.{words_under, value_range}
@@ -57,8 +57,8 @@ proc_line P2 k fs = seen (proc_of k) (numbers ((0 to 255) ∷ []) fs)
 unfoldable pub item_line : ProgramHeading → (line : ℕ) → List Field → LineResult Item
 item_line h k [] = bad bad_form
 item_line h k (f ∷ fs) =
-    if same f (bytes "freelock") then refuse_after freelock (numbers ((0 to 0) ∷ []) fs)
-    else if same f (bytes "proc") then proc_line h k fs
+    when same f (bytes "freelock") then refuse_after freelock (numbers ((0 to 0) ∷ []) fs)
+    else when same f (bytes "proc") then proc_line h k fs
     else or_bad_form (look_up (words_under h) f) λ w. word_line k w fs
 
 -- n lines behind the header, numbered from `line` upward

@@ -1,7 +1,7 @@
 -- Reading a sheet line by line, with the refusals that a line can meet: its form, a range, lines missing or spare.
 use Rattle.std.specs.Prelude.{List, [], ◌∷◌, Bool, true, false, ◌&&◌, ℕ, ◌+◌, eqb, leb, ltb, length, get_or}
 use Rattle.std.proofs.Math.Option.{Option, none, some}
-use Rattle.spec.specs.Choice.{if◌then◌else◌}
+use Rattle.spec.specs.Choice.{when◌then◌else◌}
 use Rattle.spec.specs.Text.{Line, closed, unclosed, Field, fields, numeral}
 use Rattle.spec.specs.declared.Refusal.{Refusal}
 use Rattle.spec.specs.declared.Refusal.TheVariants.{ProgramForm, ProgramRange, ProgramLines, SplitForm, SplitRange, SplitLines, NoStart, Freelock, NoKept}
@@ -85,8 +85,8 @@ numerals (f ∷ fs) = with_numeral (numeral f) (numerals fs)
 unfoldable pub numbers : List Range → List Field → LineResult (List ℕ)
 numbers rs fs =
     or_bad_form (numerals fs) λ ns.
-    if eqb (length ns) (length rs)
-    then (if all_in_range rs ns then good ns else bad bad_range)
+    when eqb (length ns) (length rs)
+    then (when all_in_range rs ns then good ns else bad bad_range)
     else bad bad_form
 
 -- the number at index i of a line. A 0 for none is never seen: `numbers` lets through only as many numerals as ranges.

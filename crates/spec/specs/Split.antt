@@ -1,7 +1,7 @@
 -- The split sheet.
 use Rattle.std.specs.Prelude.{List, [], ◌∷◌, map, Bool, not, ℕ, zero, suc, ◌+◌, length, get_or, replicate}
 use Rattle.std.proofs.Math.Option.{Option, none, some}
-use Rattle.spec.specs.Choice.{if◌then◌else◌}
+use Rattle.spec.specs.Choice.{when◌then◌else◌}
 use Rattle.spec.specs.Text.{bytes, same, lines, Field, look_up}
 use Rattle.spec.specs.Reading.{split_sheet, Result, ◌>>=◌, ok, bad, Fault, bad_form, no_start, no_kept, LineResult, seen, or_bad_form, ensure, Range, ◌to◌, below, numerals, numbers, nth, read_line, read_lines, begin, end}
 use Rattle.spec.specs.Words.{takes_start, keeps_back}
@@ -97,12 +97,12 @@ out_range C3 maps = below maps
 unfoldable pub type_line : Header → (own : ℕ) → List Field → LineResult TypeLine
 type_line H own [] = bad bad_form
 type_line H own (f ∷ fs) =
-    if same f (bytes "int") then seen (λ ns. Int) (numbers ((0 to 0) ∷ (0 to 0) ∷ []) fs)
-    else if same f (bytes "ref") then seen (λ ns. Ref (nth_location 0 ns) (nth_type 1 ns)) (numbers (below H.locations ∷ below own ∷ []) fs)
-    else if same f (bytes "lock") then seen (lock_of H.heading) (numbers (below H.maps ∷ out_range H.heading H.maps ∷ []) fs)
-    else if same f (bytes "tid") then seen (λ ns. Tid (nth_map 0 ns)) (numbers (below H.maps ∷ (0 to 0) ∷ []) fs)
-    else if same f (bytes "sem") then seen (λ ns. Sem (nth_map 0 ns)) (numbers (below H.maps ∷ (0 to 0) ∷ []) fs)
-    else if same f (bytes "rwlock") then seen (λ ns. Rwlock (nth_map 0 ns) (nth_map 1 ns)) (numbers (below H.maps ∷ below H.maps ∷ []) fs)
+    when same f (bytes "int") then seen (λ ns. Int) (numbers ((0 to 0) ∷ (0 to 0) ∷ []) fs)
+    else when same f (bytes "ref") then seen (λ ns. Ref (nth_location 0 ns) (nth_type 1 ns)) (numbers (below H.locations ∷ below own ∷ []) fs)
+    else when same f (bytes "lock") then seen (lock_of H.heading) (numbers (below H.maps ∷ out_range H.heading H.maps ∷ []) fs)
+    else when same f (bytes "tid") then seen (λ ns. Tid (nth_map 0 ns)) (numbers (below H.maps ∷ (0 to 0) ∷ []) fs)
+    else when same f (bytes "sem") then seen (λ ns. Sem (nth_map 0 ns)) (numbers (below H.maps ∷ (0 to 0) ∷ []) fs)
+    else when same f (bytes "rwlock") then seen (λ ns. Rwlock (nth_map 0 ns) (nth_map 1 ns)) (numbers (below H.maps ∷ below H.maps ∷ []) fs)
     else bad bad_form
 
 -- the lines of n types, numbered from `own` upward
@@ -141,7 +141,7 @@ row_of start ns = record { type = nth_type 0 ns; post = nth_map 1 ns; start = st
 
 -- "On any other word s is empty": there, no number is in its range
 unfoldable pub start_range : Word → Header → Range
-start_range w H = below (if takes_start w then H.maps else 0)
+start_range w H = below (when takes_start w then H.maps else 0)
 
 -- where s may be empty: on a spawn, not under the heading `C`; on a call, under none
 unfoldable pub may_be_empty : Heading → Word → Bool
@@ -151,7 +151,7 @@ may_be_empty C3 w = not (keeps_back w)
 
 -- "40 for an empty start on a spawn in a `C` sheet, judged after 22 on that line"; "50 for a call line without s, after 22"
 unfoldable pub empty_fault : Word → Fault
-empty_fault w = if keeps_back w then no_kept else no_start
+empty_fault w = when keeps_back w then no_kept else no_start
 
 -- "An m that is a numeral is 22, any other m that is not empty is 21": when filling, no number is in the range of m, and an empty
 -- m is read as the number of map 0, which nothing looks at

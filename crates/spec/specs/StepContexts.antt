@@ -1,7 +1,7 @@
 -- Every step of a program in line order, with what surrounds it, and the first condition that is false.
 use Rattle.std.specs.Prelude.{List, [], ◌∷◌, ◌++◌, Bool, true, false, ℕ, ◌+◌}
 use Rattle.std.proofs.Math.Option.{none, some}
-use Rattle.spec.specs.Choice.{if◌then◌else◌}
+use Rattle.spec.specs.Choice.{when◌then◌else◌}
 use Rattle.spec.specs.Reading.{Result, refuse, ok, ◌>>=◌}
 use Rattle.spec.specs.Words.{role, binding, pre_of_part, pre_of_second}
 use Rattle.spec.specs.Expression.{Expr, leaf, unary, binary, line_of, Procedure}
@@ -96,4 +96,4 @@ is_flow (A b p) = true
 -- the claims of one sort
 unfoldable pub only : (Condition → Bool) → List NumberedCondition → List NumberedCondition
 only sort [] = []
-only sort (c ∷ cs) = if sort c.condition then c ∷ only sort cs else only sort cs
+only sort (c ∷ cs) = when sort c.condition then c ∷ only sort cs else only sort cs

@@ -3,7 +3,7 @@ use Rattle.std.specs.Prelude.{List, [], ◌∷◌, Bool, true, false, ◌&&◌, 
 use Rattle.std.proofs.Math.Option.{Option, none, some}
 use Prim.Native.Char.{code}
 use Prim.Native.String.{String, [] as []ˢ, ◌∷◌ as ◌∷ˢ◌}
-use Rattle.spec.specs.Choice.{if◌then◌else◌}
+use Rattle.spec.specs.Choice.{when◌then◌else◌}
 
 -- the bytes of a text that is written out
 unfoldable pub bytes : String → List ℕ
@@ -31,7 +31,7 @@ on_line b (unclosed l ∷ r) = unclosed (b ∷ l) ∷ r
 
 unfoldable pub lines : List ℕ → List Line
 lines [] = []
-lines (b ∷ t) = if eqb b 10 then closed [] ∷ lines t else on_line b (lines t)
+lines (b ∷ t) = when eqb b 10 then closed [] ∷ lines t else on_line b (lines t)
 
 -- ------------------------------------------------------------------ fields
 
@@ -46,12 +46,12 @@ on_field b (f ∷ r) = (b ∷ f) ∷ r
 
 unfoldable pub fields : List ℕ → List Field
 fields [] = [] ∷ []
-fields (b ∷ t) = if eqb b 44 then [] ∷ fields t else on_field b (fields t)
+fields (b ∷ t) = when eqb b 44 then [] ∷ fields t else on_field b (fields t)
 
 -- what a table has for a field
 unfoldable pub look_up : {A : Type 0} → List (List ℕ × A) → Field → Option A
 look_up [] f = none
-look_up (w ∷ ws) f = if same w.0 f then some w.1 else look_up ws f
+look_up (w ∷ ws) f = when same w.0 f then some w.1 else look_up ws f
 
 -- ------------------------------------------------------------------ numerals
 
@@ -75,6 +75,6 @@ value a (b ∷ t) = value (a * 10 + (b - 48)) t
 
 unfoldable pub numeral : Field → Option ℕ
 numeral f =
-    if leb 1 (length f) && leb (length f) digit_limit && digits f && not (leading_zero f)
+    when leb 1 (length f) && leb (length f) digit_limit && digits f && not (leading_zero f)
     then some (value 0 f)
     else none

@@ -1,7 +1,7 @@
 -- The answer to a pair of sheets, in the order of document 01's reasons to stop.
 use Rattle.std.specs.Prelude.{List, [], ◌∷◌, Bool, true, ◌&&◌, ℕ, ◌+◌, leb, length}
 use Rattle.std.proofs.Math.Option.{Option, none, some}
-use Rattle.spec.specs.Choice.{if◌then◌else◌}
+use Rattle.spec.specs.Choice.{when◌then◌else◌}
 use Rattle.spec.specs.Reading.{Result, refuse, ok, ◌>>=◌, require}
 use Rattle.spec.specs.Expression.{line_of}
 use Rattle.spec.specs.Program.{Program, program, program_limit}
@@ -22,7 +22,7 @@ use Rattle.spec.specs.declared.Purpose.TheVariants.{Check}
 -- 44, at a type line: "a lock line whose out is below its in at some location"; "lowest such line first"
 module _ (S : Split) where
   unfoldable pub takes_enough : TypeLine → Bool
-  takes_enough x = if is lock x then holds_everywhere (map_at S (second_map x) ≥ᵐ map_at S (first_map x)) else true
+  takes_enough x = when is lock x then holds_everywhere (map_at S (second_map x) ≥ᵐ map_at S (first_map x)) else true
 
   -- of the types from line k on
   unfoldable pub all_take_enough : (k : ℕ) → List TypeLine → Result (Unit {0})

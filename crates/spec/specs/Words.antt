@@ -1,7 +1,7 @@
 -- The words by role: how each is spelled, the range of its number v, what a step does with v, which row has a start, and the maps
 -- before its parts. A new word has its rows here; beside it only the table of conditions and Figure 5 go word by word.
 use Rattle.std.specs.Prelude.{List, [], ◌∷◌, ◌++◌, Bool, true, false, ℕ}
-use Rattle.spec.specs.Choice.{if◌then◌else◌}
+use Rattle.spec.specs.Choice.{when◌then◌else◌}
 use Rattle.spec.specs.Text.{bytes}
 use Rattle.spec.specs.Reading.{Range, ◌to◌}
 use Rattle.spec.specs.declared.Role.{Role}
@@ -111,7 +111,7 @@ largest_value (Leaf Newtid) = 0
 largest_value (Leaf Newlock) = 0
 largest_value (Leaf Newsem) = 0
 largest_value (Leaf Newrwlock) = 64
-largest_value (Unary w) = if calls w then 15 else 0
+largest_value (Unary w) = when calls w then 15 else 0
 largest_value (Binary Let) = 255
 largest_value (Binary If) = 0
 largest_value (Binary Spawn) = 0
@@ -128,7 +128,7 @@ role (Leaf Newtid) = Neither
 role (Leaf Newlock) = Neither
 role (Leaf Newsem) = Neither
 role (Leaf Newrwlock) = Neither
-role (Unary w) = if calls w then Calls else Neither
+role (Unary w) = when calls w then Calls else Neither
 role (Binary Let) = Binds
 role (Binary If) = Neither
 role (Binary Spawn) = Neither

@@ -168,7 +168,7 @@ pub enum Ruling {
 }
 
 // The answer to a pair of sheets.
-#[derive(Drop)]
+#[derive(Clone, Copy)]
 pub enum Answer {
     Accept,
     Refuse(Refusal),

@@ -3,7 +3,7 @@ use mathlib.Core.Path.{◌≡◌, sym}
 use mathlib.Core.List.{List}
 use mathlib.Core.Bool.{Bool, true, false, not}
 use Prim.Native.Nat.{ℕ}
-use Rattle.spec.specs.Choice.{if◌then◌else◌}
+use Rattle.spec.specs.Choice.{when◌then◌else◌}
 use Rattle.spec.specs.Text.{Line}
 use Rattle.spec.specs.Reading.{split_sheet, refuse, LineResult, bad, no_start, no_kept, faulty, passed}
 use Rattle.spec.specs.Split.{may_be_empty, empty_fault}
@@ -45,6 +45,6 @@ pub shows_empty : {A : Type 0} (k : ℕ) (l : List Line) (w : Word) {s : LineRes
 unfolding faulty passed empty_fault empty_refusal
 shows_empty {A = A} k l w e = go (keeps_back w) e
   where
-    go : (x : Bool) {s : LineResult A} → s ≡ bad (if x then no_kept else no_start) → passed split_sheet k l s ≡ refuse (if x then NoKept k else NoStart k)
+    go : (x : Bool) {s : LineResult A} → s ≡ bad (when x then no_kept else no_start) → passed split_sheet k l s ≡ refuse (when x then NoKept k else NoStart k)
     go true e = rw e
     go false e = rw e

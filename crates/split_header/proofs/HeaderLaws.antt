@@ -9,7 +9,7 @@ use lib.Dec.{eqb, leb}
 use lib.ListN.{length, take, drop, get_or}
 use lib.Seq.{length-take-le}
 use borrow.Author.Tests.{leb-true, leb-false, lt-leb}
-use Rattle.spec.specs.Choice.{if◌then◌else◌}
+use Rattle.spec.specs.Choice.{when◌then◌else◌}
 use Rattle.spec.specs.Text.{bytes, same, Field, look_up, lines}
 use Rattle.spec.specs.Reading.{split_sheet, refuse, ok, LineResult, good, bad, bad_form, bad_range, seen, in_range, all_in_range, numerals, numbers, form, passed, next_line, read_line, or_bad_form}
 use Rattle.spec.specs.Split.{headings, header_ranges, maps_of, maps_in, start_of, header_of, header_line}
@@ -159,7 +159,7 @@ fits_decodes (five_3 d l t m r) = refl
 
 -- what the numbers behind a heading come to
 unfoldable judged : Heading → List ℕ → LineResult (List ℕ)
-judged h ns = if all_in_range (header_ranges h (maps_of ns)) ns then good ns else bad bad_range
+judged h ns = when all_in_range (header_ranges h (maps_of ns)) ns then good ns else bad bad_range
 
 -- an M that is out of its range
 many_maps : (a b c d r : ℕ) → 512 < d → judged C2 (a ∷ b ∷ c ∷ d ∷ r ∷ []) ≡ bad bad_range
@@ -174,7 +174,7 @@ named_judged a b c d r = go (leb d 4294967295) refl
     go true e =
         unfold judged header_ranges maps_of in
         stored_judged (header_ranges C2 d) (omega arith, (omega arith, (omega arith, (omega arith, (leb-true d 4294967295 e, tt))))) (a ∷ b ∷ c ∷ d ∷ r ∷ []) refl
-        ∙ ap (λ (m : ℕ). if all_in_range (header_ranges C2 m) (stored a ∷ stored b ∷ stored c ∷ stored d ∷ stored r ∷ []) then good (stored a ∷ stored b ∷ stored c ∷ stored d ∷ stored r ∷ []) else bad bad_range) (sym (kept d e))
+        ∙ ap (λ (m : ℕ). when all_in_range (header_ranges C2 m) (stored a ∷ stored b ∷ stored c ∷ stored d ∷ stored r ∷ []) then good (stored a ∷ stored b ∷ stored c ∷ stored d ∷ stored r ∷ []) else bad bad_range) (sym (kept d e))
     go false e =
         let far = leb-false d 4294967295 e in
         let is = cut d e in
@@ -211,14 +211,14 @@ heading_shows : (h : Heading) (fs : List Field)
 unfolding or_bad_form numbers maps_in many judged
 heading_shows h fs = go (numerals fs)
   where
-    counts : (x : Bool) (ns : List ℕ) → seen (header_of h) (if x then judged h ns else bad bad_form) ≡ (if x then seen (header_of h) (judged h ns) else bad bad_form)
+    counts : (x : Bool) (ns : List ℕ) → seen (header_of h) (when x then judged h ns else bad bad_form) ≡ (when x then seen (header_of h) (judged h ns) else bad bad_form)
     counts true ns = refl
     counts false ns = unfold seen in refl
 
     go : (o : Option (List ℕ)) → seen (header_of h) (ranged (header_ranges h (maps_in o)) o) ≡ many (numerals_of h) (λ ns. seen (header_of h) (judged h ns)) (bad bad_form) o
     go none = unfold seen in refl
     go (some ns) =
-        ap (λ (n : ℕ). seen (header_of h) (if eqb (length ns) n then judged h ns else bad bad_form)) (as_many h (maps_of ns))
+        ap (λ (n : ℕ). seen (header_of h) (when eqb (length ns) n then judged h ns else bad bad_form)) (as_many h (maps_of ns))
         ∙ counts (eqb (length ns) (numerals_of h)) ns
 
 module _ (purpose : Purpose) (text : List ℕ) (c : Cursor) (some_left : 0 < length (rest text c)) where
@@ -263,9 +263,9 @@ module _ (purpose : Purpose) (text : List ℕ) (c : Cursor) (some_left : 0 < len
           fits : all_in_range (header_ranges h (maps_of ns)) ns ≡ header_fits H
           fits = fits_decodes (numbers_of h ns reads.1) ∙ ap header_fits told
 
-          judged_as : {x : Bool} → header_fits H ≡ x → judged h ns ≡ (if x then good ns else bad bad_range)
+          judged_as : {x : Bool} → header_fits H ≡ x → judged h ns ≡ (when x then good ns else bad bad_range)
           unfolding judged
-          judged_as q = ap (λ (x : Bool). if x then good ns else bad bad_range) (fits ∙ q)
+          judged_as q = ap (λ (x : Bool). when x then good ns else bad bad_range) (fits ∙ q)
 
           pub header_range : header_fits H ≡ false → read_line split_sheet (header_line purpose) (place_at text c) ≡ refuse (SplitRange (c.line + 1))
           unfolding seen

@@ -8,7 +8,7 @@ use native.Mathlib.Numerals.{add-one}
 use native.Mathlib.Omega.{arith}
 use lib.ListN.{length, get_or, drop, drop_of_length-le, length-replicate}
 use lib.Seq.{drop-cons}
-use Rattle.spec.specs.Choice.{if◌then◌else◌}
+use Rattle.spec.specs.Choice.{when◌then◌else◌}
 use Rattle.spec.specs.Text.{Field, lines}
 use Rattle.spec.specs.Reading.{split_sheet, refuse, ok, good, bad, bad_range, ◌to◌, in_range, all_in_range, numbers, form, read_line}
 use Rattle.spec.specs.declared.Refusal.TheVariants.{SplitForm, SplitRange}
@@ -75,7 +75,7 @@ module _ (text : List ℕ) (c : Cursor) (n : ℕ) where
 
   module _ (ns : List ℕ) (d : Cursor) (h : LineRead text c n ns d) where
     reads : read_line split_sheet (cell_line n) (place_at text c)
-        ≡ Rattle.spec.specs.Reading.passed split_sheet (c.line + 1) (lines (rest text d)) (if all_in_range (cells n) ns then good ns else bad bad_range)
+        ≡ Rattle.spec.specs.Reading.passed split_sheet (c.line + 1) (lines (rest text d)) (when all_in_range (cells n) ns then good ns else bad bad_range)
     reads =
         next_at split_sheet text (cell_line n) c
         ∙ numerals_read split_sheet (cell_line n) c.line (cells n) (λ s. s) text c shows (cells_narrow n) ns (rest text d) (ap (numbers_at text c) counts ∙ h.numbers)

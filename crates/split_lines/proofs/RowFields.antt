@@ -8,7 +8,7 @@ use Prim.Native.Nat.{ℕ, ◌≤◌}
 use native.Mathlib.Omega.{arith}
 use lib.ListN.{length}
 use borrow.Author.Tests.{eq-eqb}
-use Rattle.spec.specs.Choice.{if◌then◌else◌}
+use Rattle.spec.specs.Choice.{when◌then◌else◌}
 use Rattle.spec.specs.Text.{bytes, Field, digit_limit, digits, leading_zero, value, numeral}
 use Rattle.spec.specs.Reading.{LineResult, good, bad, bad_form, bad_range, seen, ensure, Range, below, in_range, all_in_range, with_numeral, numerals, numbers, or_bad_form}
 use Rattle.spec.specs.Split.{Row, row_of, start_range, may_be_empty, empty_fault, post_range, post_field, row_line, nth_map}
@@ -97,7 +97,7 @@ module _ (purpose : Purpose) (H : Header) (w : Word) where
 
 -- ------------------------------------------------------------------ fields that are numerals
 
-seen_row : (make : List ℕ → Row) (x : Bool) (ns : List ℕ) → seen make (if x then good ns else bad bad_range) ≡ (if x then good (make ns) else bad bad_range)
+seen_row : (make : List ℕ → Row) (x : Bool) (ns : List ℕ) → seen make (when x then good ns else bad bad_range) ≡ (when x then good (make ns) else bad bad_range)
 unfolding seen
 seen_row make true ns = refl
 seen_row make false ns = refl
@@ -105,12 +105,12 @@ seen_row make false ns = refl
 start_few : (w : Word) (n : ℕ) → start_limit w n ≤ n
 start_few w n = go (takes_start w)
   where
-    go : (x : Bool) → (if x then n else 0) ≤ n
+    go : (x : Bool) → (when x then n else 0) ≤ n
     go true = omega arith
     go false = omega arith
 
 unfoldable judged : List Range → List ℕ → LineResult (List ℕ)
-judged rs ns = if all_in_range rs ns then good ns else bad bad_range
+judged rs ns = when all_in_range rs ns then good ns else bad bad_range
 
 -- as many numerals as ranges
 all_spelled : (rs : List Range) (fs : List Field) (ns : List ℕ) → AllNarrow rs → numerals fs ≡ some ns → length ns ≡ length rs
@@ -169,7 +169,7 @@ module _
   where
     -- an empty s: form and ranges first, then whether it may be
     pub row_empty : word_line purpose H w (f ∷ m ∷ [] ∷ [])
-        ≡ ensure (may_be_empty H.heading w) (empty_fault w) (if all_in_range (two H) (a ∷ b ∷ []) then good (row_of none (a ∷ b ∷ [])) else bad bad_range)
+        ≡ ensure (may_be_empty H.heading w) (empty_fault w) (when all_in_range (two H) (a ∷ b ∷ []) then good (row_of none (a ∷ b ∷ [])) else bad bad_range)
     unfolding word_line row_line numerals judged
     row_empty =
         ap (λ (x : LineResult (List ℕ)). ensure (may_be_empty H.heading w) (empty_fault w) (seen (row_of none) x)) (row_handed H few f a b first [] tt [] [] refl refl purpose m second)
@@ -177,11 +177,11 @@ module _
 
     -- a number
     pub row_given : (s : Field) (n : ℕ) → Spells s n → word_line purpose H w (f ∷ m ∷ s ∷ [])
-        ≡ (if all_in_range (three H w) (a ∷ b ∷ n ∷ []) then good (row_of (some (record { 0 = n })) (a ∷ b ∷ n ∷ [])) else bad bad_range)
+        ≡ (when all_in_range (three H w) (a ∷ b ∷ n ∷ []) then good (row_of (some (record { 0 = n })) (a ∷ b ∷ n ∷ [])) else bad bad_range)
     unfolding word_line row_line numerals with_numeral start_range judged
     row_given [] n third = let z : ◌≡◌ {A = ℕ} 0 1 = unfold numeral in cc in absurd (omega arith)
     row_given (x ∷ s) n (k, e, q) =
         let limit = start_few w H.maps in
         ap (seen (λ ns. row_of (some (nth_map 2 ns)) ns)) (row_handed H few f a b first (start_range w H ∷ []) (omega arith, tt) ((x ∷ s) ∷ []) (k ∷ []) (rw e) refl purpose m second)
         ∙ seen_row (λ ns. row_of (some (nth_map 2 ns)) ns) (all_in_range (three H w) (a ∷ b ∷ stored k ∷ [])) (a ∷ b ∷ stored k ∷ [])
-        ∙ ap (λ (n : ℕ). if all_in_range (three H w) (a ∷ b ∷ n ∷ []) then good (row_of (some (record { 0 = n })) (a ∷ b ∷ n ∷ [])) else bad bad_range) (sym q)
+        ∙ ap (λ (n : ℕ). when all_in_range (three H w) (a ∷ b ∷ n ∷ []) then good (row_of (some (record { 0 = n })) (a ∷ b ∷ n ∷ [])) else bad bad_range) (sym q)

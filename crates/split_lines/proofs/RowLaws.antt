@@ -5,7 +5,7 @@ use mathlib.Core.List.{List, [], ◌∷◌}
 use mathlib.Core.Bool.{Bool, true, false, ◌&&◌}
 use Prim.Native.Nat.{ℕ, ◌+◌, ◌≤◌, ◌<◌}
 use lib.ListN.{length}
-use Rattle.spec.specs.Choice.{if◌then◌else◌}
+use Rattle.spec.specs.Choice.{when◌then◌else◌}
 use Rattle.spec.specs.Text.{lines, Field}
 use Rattle.spec.specs.Reading.{split_sheet, Result, refuse, Place, LineResult, good, bad, bad_range, ensure, below, in_range, all_in_range, passed, read_line}
 use Rattle.spec.specs.Split.{Row, row_of, start_range, may_be_empty, empty_fault}
@@ -157,14 +157,14 @@ module _ (purpose : Purpose) (H : Header) (w : Word) {text : List ℕ} {c : Curs
             ∙ ap (λ (k : ℕ). k + 1) (comma_kept text c₂ c₃ second_placed lead₂.1 lead₂.2 ∙ comma_kept text c c₂ p lead.1 lead.2)
 
         -- the row, once its numbers are tested
-        given_judged : (row : RowNumbers) (x y : Bool) → behind_two (first_field (rest text c₃) ∷ []) ≡ (if x && y then good (row_decoded row) else bad bad_range)
-            → RowAnswer text out (if x then (if y then row_read.Read row d else row_read.Refused (SplitRange (c.line + 1))) else row_read.Refused (SplitRange (c.line + 1)))
+        given_judged : (row : RowNumbers) (x y : Bool) → behind_two (first_field (rest text c₃) ∷ []) ≡ (when x && y then good (row_decoded row) else bad bad_range)
+            → RowAnswer text out (when x then (when y then row_read.Read row d else row_read.Refused (SplitRange (c.line + 1))) else row_read.Refused (SplitRange (c.line + 1)))
         given_judged row true true e = (row_closed ∙ shows_entry text c d (row_decoded row) e last_line, last_placed)
         given_judged row true false e = row_closed ∙ shows_range (c.line + 1) (lines (rest text d)) e
         given_judged row false y e = row_closed ∙ shows_range (c.line + 1) (lines (rest text d)) e
 
-        empty_judged : (row : RowNumbers) (x y : Bool) → behind_two (first_field (rest text c₃) ∷ []) ≡ ensure y (empty_fault w) (if x then good (row_decoded row) else bad bad_range)
-            → RowAnswer text out (if x then (if y then row_read.Read row d else row_read.Refused (empty_refusal w (c.line + 1))) else row_read.Refused (SplitRange (c.line + 1)))
+        empty_judged : (row : RowNumbers) (x y : Bool) → behind_two (first_field (rest text c₃) ∷ []) ≡ ensure y (empty_fault w) (when x then good (row_decoded row) else bad bad_range)
+            → RowAnswer text out (when x then (when y then row_read.Read row d else row_read.Refused (empty_refusal w (c.line + 1))) else row_read.Refused (SplitRange (c.line + 1)))
         unfolding ensure
         empty_judged row true true e = (row_closed ∙ shows_entry text c d (row_decoded row) e last_line, last_placed)
         empty_judged row true false e = row_closed ∙ shows_empty (c.line + 1) (lines (rest text d)) w e
@@ -188,4 +188,4 @@ module _ (purpose : Purpose) (H : Header) (w : Word) {text : List ℕ} {c : Curs
           subst (RowAnswer text out) (sym (q ∙ ap (λ (r : RowNumbers). row_ranged (c.line + 1) r w H d) is))
           (given_judged d h.1 h.2 made (all_in_range (two H) (a ∷ b ∷ [])) (in_range (start_range w H) n)
           (row_given purpose H few w (first_field (rest text c)) (first_field (rest text c₂)) a b lead.0 lead₂.0 (first_field (rest text c₃)) n h.0
-          ∙ ap (λ (x : Bool). if x then good (row_decoded made) else bad bad_range) (three_tested H w a b n)))
+          ∙ ap (λ (x : Bool). when x then good (row_decoded made) else bad bad_range) (three_tested H w a b n)))

@@ -6,7 +6,7 @@ use mathlib.Core.Option.{none}
 use Prim.Native.Nat.{ℕ, ◌+◌, ◌≤◌, ◌<◌}
 use native.Mathlib.Omega.{arith}
 use lib.ListN.{length, get_or}
-use Rattle.spec.specs.Choice.{if◌then◌else◌}
+use Rattle.spec.specs.Choice.{when◌then◌else◌}
 use Rattle.spec.specs.Text.{Field, lines}
 use Rattle.spec.specs.Reading.{split_sheet, refuse, ok, good, bad, bad_range, seen, Range, below, in_range, all_in_range, numbers, form, passed, read_line}
 use Rattle.spec.specs.Split.{signature_of, signature_line}
@@ -52,12 +52,12 @@ module _ (H : Header) (text : List ℕ) (c : Cursor) where
   module _ (few : (H.types ≤ 64) × (H.maps ≤ 512)) (ns : List ℕ) (d : Cursor) (h : LineRead text c 4 ns d) where
     reads : read_line split_sheet (signature_line H) (place_at text c)
         ≡ passed split_sheet (c.line + 1) (lines (rest text d))
-        (seen signature_of (if all_in_range (pair H) (get_or ns 0 0 ∷ get_or ns 1 0 ∷ []) && all_in_range (pair H) (get_or ns 2 0 ∷ get_or ns 3 0 ∷ []) then good ns else bad bad_range))
+        (seen signature_of (when all_in_range (pair H) (get_or ns 0 0 ∷ get_or ns 1 0 ∷ []) && all_in_range (pair H) (get_or ns 2 0 ∷ get_or ns 3 0 ∷ []) then good ns else bad bad_range))
     unfolding numbers_from
     reads =
         next_at split_sheet text (signature_line H) c
         ∙ numerals_read split_sheet (signature_line H) c.line (both H) (seen signature_of) text c shows (omega arith, (omega arith, (omega arith, (omega arith, tt)))) ns (rest text d) h.numbers
-        ∙ ap (λ (x : Bool). passed split_sheet (c.line + 1) (lines (rest text d)) (seen signature_of (if x then good ns else bad bad_range)))
+        ∙ ap (λ (x : Bool). passed split_sheet (c.line + 1) (lines (rest text d)) (seen signature_of (when x then good ns else bad bad_range)))
         (ap (all_in_range (both H)) (one_by_one 4 ns h.long) ∙ four_tested H (get_or ns 0 0) (get_or ns 1 0) (get_or ns 2 0) (get_or ns 3 0))
 
     pub first_out : all_in_range (pair H) (get_or ns 0 0 ∷ get_or ns 1 0 ∷ []) ≡ false → read_line split_sheet (signature_line H) (place_at text c) ≡ refuse (SplitRange (c.line + 1))

@@ -6,9 +6,9 @@ use mathlib.Core.Option.{none, some}
 use Prim.Native.Nat.{ℕ, ◌+◌, ◌≤◌, ◌<◌}
 use native.Mathlib.Omega.{arith}
 use lib.ListN.{length, get_or}
-use Rattle.spec.specs.Choice.{if◌then◌else◌}
+use Rattle.spec.specs.Choice.{when◌then◌else◌}
 use Rattle.spec.specs.Text.{Field, lines}
-use Rattle.spec.specs.Reading.{split_sheet, refuse, good, bad, bad_form, bad_range, seen, Range, ◌to◌, all_in_range, numerals, numbers, form, faulty, passed, next_line, read_line, or_bad_form}
+use Rattle.spec.specs.Reading.{split_sheet, refuse, good, bad, bad_form, bad_range, seen, Range, all_in_range, numerals, numbers, form, faulty, passed, next_line, read_line, or_bad_form}
 use Rattle.spec.specs.Split.{out_range, type_line}
 use Rattle.spec.specs.declared.Header.{Header}
 use Rattle.spec.specs.declared.Heading.{Heading}
@@ -56,11 +56,11 @@ module _ (H : Header) (own : ℕ) where
   kind_alone kind.Rwlock = refl
   kind_alone kind.Unknown = refl
 
-seen_ranged : (rs : List Range) (f : List ℕ → TypeLine) (ns : List ℕ) → seen f (if all_in_range rs ns then good ns else bad bad_range) ≡ type_decoded (ranged_type rs f ns)
+seen_ranged : (rs : List Range) (f : List ℕ → TypeLine) (ns : List ℕ) → seen f (when all_in_range rs ns then good ns else bad bad_range) ≡ type_decoded (ranged_type rs f ns)
 unfolding seen ranged_type type_decoded
 seen_ranged rs f ns = go (all_in_range rs ns)
   where
-    go : (x : Bool) → seen f (if x then good ns else bad bad_range) ≡ type_decoded (if x then type-seen.Right (f ns) else type-seen.BadRange)
+    go : (x : Bool) → seen f (when x then good ns else bad bad_range) ≡ type_decoded (when x then type-seen.Right (f ns) else type-seen.BadRange)
     go true = refl
     go false = refl
 

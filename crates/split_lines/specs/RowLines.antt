@@ -1,6 +1,6 @@
 -- The line of a procedure and the row of a step, as their readers see them.
 use Rattle.std.specs.Prelude.{List, [], ◌∷◌, ℕ}
-use Rattle.spec.specs.Choice.{if◌then◌else◌}
+use Rattle.spec.specs.Choice.{when◌then◌else◌}
 use Rattle.spec.specs.Text.{Field}
 use Rattle.spec.specs.Reading.{LineResult, below, in_range, all_in_range}
 use Rattle.spec.specs.Split.{Row, start_range, may_be_empty, row_line}
@@ -32,11 +32,11 @@ row_made typed post start = record { typed = record { 0 = typed }; post = record
 
 -- a row with its numbers in their ranges, and the cursor behind its line: its type and its post, then its start
 unfoldable pub start_ranged : (line : ℕ) → RowNumbers → RowStart → Word → Header → Cursor → RowRead
-start_ranged line row (declared_start.Given m) w H c = if in_range (start_range w H) m.0 then row_read.Read row c else row_read.Refused (SplitRange line)
-start_ranged line row declared_start.Empty w H c = if may_be_empty H.heading w then row_read.Read row c else row_read.Refused (empty_refusal w line)
+start_ranged line row (declared_start.Given m) w H c = when in_range (start_range w H) m.0 then row_read.Read row c else row_read.Refused (SplitRange line)
+start_ranged line row declared_start.Empty w H c = when may_be_empty H.heading w then row_read.Read row c else row_read.Refused (empty_refusal w line)
 
 unfoldable pub row_ranged : (line : ℕ) → RowNumbers → Word → Header → Cursor → RowRead
 row_ranged line row w H c =
-    if all_in_range (below H.types ∷ below H.maps ∷ []) (row.typed.0 ∷ row.post.0 ∷ [])
+    when all_in_range (below H.types ∷ below H.maps ∷ []) (row.typed.0 ∷ row.post.0 ∷ [])
     then start_ranged line row row.start w H c
     else row_read.Refused (SplitRange line)

@@ -1,6 +1,6 @@
 -- A line of a type and a line of a map, as their readers see them.
 use Rattle.std.specs.Prelude.{List, [], ◌∷◌, ℕ, replicate}
-use Rattle.spec.specs.Choice.{if◌then◌else◌}
+use Rattle.spec.specs.Choice.{when◌then◌else◌}
 use Rattle.spec.specs.Text.{Field}
 use Rattle.spec.specs.Reading.{LineResult, good, bad, bad_form, bad_range, Range, ◌to◌, below, all_in_range, numbers}
 use Rattle.spec.specs.Split.{Map, lock_of, out_range, nth_map, nth_type, nth_location}
@@ -17,7 +17,7 @@ use Rattle.split_lines.specs.declared.types.TypeSeen.TheVariants as type-seen
 
 -- a kind with its two numbers in their ranges
 unfoldable pub ranged_type : List Range → (List ℕ → TypeLine) → List ℕ → TypeSeen
-ranged_type rs f ns = if all_in_range rs ns then type-seen.Right (f ns) else type-seen.BadRange
+ranged_type rs f ns = when all_in_range rs ns then type-seen.Right (f ns) else type-seen.BadRange
 
 unfoldable pub lock_seen : Heading → (maps : ℕ) → List ℕ → TypeSeen
 lock_seen h maps ns = ranged_type (below maps ∷ out_range h maps ∷ []) (lock_of h) ns

@@ -1,7 +1,7 @@
 -- What counts of the outcome of a step or a `proc` line, by whether it refuses.
 use mathlib.Core.Path.{◌≡◌, refl, sym}
 use mathlib.Core.Bool.{Bool, true, false}
-use Rattle.spec.specs.Choice.{if◌then◌else◌}
+use Rattle.spec.specs.Choice.{when◌then◌else◌}
 use Rattle.spec.specs.Reading.{Result, refuse, ok, ◌>>=◌}
 use Rattle.spec.specs.declared.Purpose.{Purpose}
 use Rattle.spec.specs.declared.Purpose.TheVariants.{Check, Fill}
@@ -18,7 +18,7 @@ met_stops_nothing Fill = refl
 
 -- a refusal that counts or does not: when filling, one on types does
 abbrev counted_if : Bool → Refusal → Result (Unit {0})
-counted_if s r = if s then refuse r else ok tt
+counted_if s r = when s then refuse r else ok tt
 
 pub types_stop : (r : Refusal) → refuses_types r ≡ stops (on_types (refuse r))
 unfolding on_types

@@ -195,10 +195,12 @@ module _ (purpose : Purpose) (S : Split) (P : Program) (R : InRange P S) (few : 
         walk_first w k (1 + m) m (omega arith)
         ∙ rw (step_counted S P R few purpose (leaf x l v) r, leaf_passes S P R few x l v r, claims_one purpose S);
   }
-  walked (unary x l v e₁) m r = unary_walked x l v e₁ r m (walked e₁ m (part_ready x l v e₁ r))
-  walked (binary x l v e₁ e₂) m r =
-      binary_walked x l v e₁ e₂ r m (walked e₁ (size e₂ + m) (first_ready x l v e₁ e₂ r))
-      (walked e₂ m (second_ready x l v e₁ e₂ r (size e₂ + m) (walked e₁ (size e₂ + m) (first_ready x l v e₁ e₂ r))))
+  walked {w} {k} (unary x l v e₁) m r =
+      unary_walked x l v e₁ r m (walked {w = pass_on w k} {k = k + 1} e₁ m (part_ready x l v e₁ r))
+  walked {w} {k} (binary x l v e₁ e₂) m r =
+      let t = walked {w = pass_on w k} {k = k + 1} e₁ (size e₂ + m) (first_ready x l v e₁ e₂ r) in
+      binary_walked x l v e₁ e₂ r m t
+      (walked {w = t.after} {k = k + 1 + size e₁} e₂ m (second_ready x l v e₁ e₂ r (size e₂ + m) t))
 
   -- an expression that stands at index k, once the map before it is noted there
   pub expression_shown : {w : List ℕ} {k : ℕ} {inside : List (ℕ × ℕ)} {vars : List ℕ} {Γ : Env} {pre : Map} (e : Expr)

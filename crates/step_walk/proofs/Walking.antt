@@ -8,7 +8,7 @@ use lib.Dec.{ltb}
 use lib.ListN.{length, set}
 use lib.Seq.{get_or-set_same, get_or-set_other}
 use borrow.Author.Tests.{lt-ltb, ltb-true}
-use Rattle.spec.specs.Choice.{if◌then◌else◌}
+use Rattle.spec.specs.Choice.{when◌then◌else◌}
 use Rattle.spec.specs.Reading.{ok}
 use Rattle.spec.specs.Words.{pre_of_part, pre_of_second}
 use Rattle.spec.specs.declared.MapNumber.{MapNumber}
@@ -43,7 +43,7 @@ pub put_before : (w : List ℕ) (i b : ℕ) (m : MapNumber) → i < b → Change
 unfolding put_pre
 put_before w i b m h = either (ltb i 256)
   where
-    either : (t : Bool) → ChangedWithin pres_at (pres_at + b) w (if t then set w (pres_at + i) m.0 else w)
+    either : (t : Bool) → ChangedWithin pres_at (pres_at + b) w (when t then set w (pres_at + i) m.0 else w)
     either true = changed_store pres_at (pres_at + b) w (pres_at + i) m.0 (omega arith) (omega arith)
     either false = changed_nothing pres_at (pres_at + b) w
 
@@ -52,7 +52,7 @@ pub put_within : (w : List ℕ) (i : ℕ) (m : MapNumber) → ChangedWithin pres
 unfolding put_pre
 put_within w i m = either (ltb i 256) refl
   where
-    either : (t : Bool) → ltb i 256 ≡ t → ChangedWithin pres_at (pres_at + 256) w (if t then set w (pres_at + i) m.0 else w)
+    either : (t : Bool) → ltb i 256 ≡ t → ChangedWithin pres_at (pres_at + 256) w (when t then set w (pres_at + i) m.0 else w)
     either true e = changed_store pres_at (pres_at + 256) w (pres_at + i) m.0 (omega arith) (omega (arith, ltb-true i 256 e))
     either false e = changed_nothing pres_at (pres_at + 256) w
 
@@ -77,6 +77,6 @@ pub put_other : (w : List ℕ) (i j : ℕ) (m : MapNumber) → (j ≡ i → ⊥)
 unfolding put_pre
 put_other w i j m h = either (ltb i 256)
   where
-    either : (t : Bool) → cell (if t then set w (pres_at + i) m.0 else w) pres_at j ≡ cell w pres_at j
+    either : (t : Bool) → cell (when t then set w (pres_at + i) m.0 else w) pres_at j ≡ cell w pres_at j
     either true = get_or-set_other w (pres_at + i) (pres_at + j) m.0 0 (λ e. h (omega arith))
     either false = refl

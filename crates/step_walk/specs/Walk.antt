@@ -1,6 +1,6 @@
 -- The steps in line order: what counts of each for a purpose, and the map before each, which its step hands down.
 use Rattle.std.specs.Prelude.{Bool, true, false, List, ℕ, zero, suc, ◌+◌, eqb, ltb, set}
-use Rattle.spec.specs.Choice.{if◌then◌else◌}
+use Rattle.spec.specs.Choice.{when◌then◌else◌}
 use Rattle.spec.specs.Reading.{Result, refuse, ok}
 use Rattle.spec.specs.Words.{pre_of_part, pre_of_second}
 use Rattle.spec.specs.Verdict.{returned}
@@ -22,7 +22,7 @@ refuses_types r = eqb (returned (Refuse r)).number 31
 
 -- what an outcome says of types
 unfoldable pub on_types : Result (Unit {0}) → Result (Unit {0})
-on_types (refuse r) = if refuses_types r then refuse r else ok tt
+on_types (refuse r) = when refuses_types r then refuse r else ok tt
 on_types (ok a) = ok tt
 
 -- what counts of the outcome of a step or a `proc` line: when filling, what it says of types
@@ -37,7 +37,7 @@ stops (ok a) = false
 
 -- the map before step i is m
 unfoldable pub put_pre : (w : List ℕ) → (i : ℕ) → MapNumber → List ℕ
-put_pre w i m = if ltb i 256 then set w (pres_at + i) m.0 else w
+put_pre w i m = when ltb i 256 then set w (pres_at + i) m.0 else w
 
 unfoldable pub pass_word : Word → (w : List ℕ) → (k : ℕ) → (pre post post₁ start : MapNumber) → (second : ℕ) → List ℕ
 pass_word (Leaf l) w k pre post post₁ start second = w

@@ -9,7 +9,7 @@ use native.Mathlib.Omega.{arith}
 use lib.Dec.{eqb, leb, lit<}
 use lib.ListN.{length}
 use borrow.Author.Tests.{eqb-false, eqb-true, leb-true, not-true}
-use Rattle.spec.specs.Choice.{if◌then◌else◌}
+use Rattle.spec.specs.Choice.{when◌then◌else◌}
 use Rattle.spec.specs.Text.{Line, closed, unclosed, on_line, lines, Field, on_field, fields, digit_limit, digits, leading_zero, value, numeral}
 use Rattle.spec.specs.Reading.{LineResult, good, Range, with_numeral, numerals, numbers}
 use Rattle.spec.specs.WellFormed.{Parses, nothing, line as shown}
@@ -73,7 +73,7 @@ all_digits (b ∷ c ∷ t) h d z =
     ∙ more_digits (b - 48) (c ∷ t) (omega arith) rest
     ∙ ap (λ (s : List ℕ). s ++ (c ∷ t)) (first_digit b here)
 
-chosen : (b : Bool) (v n : ℕ) → (if b then some v else none) ≡ some n → (b ≡ true) × (v ≡ n)
+chosen : (b : Bool) (v n : ℕ) → (when b then some v else none) ≡ some n → (b ≡ true) × (v ≡ n)
 chosen true v n e = (refl, cc)
 chosen false v n e = none_is_not_some e
 
@@ -132,7 +132,7 @@ unfolding fields
 fields_some [] = omega arith
 fields_some (b ∷ t) = either (eqb b 44)
   where
-    either : (x : Bool) → 1 ≤ length (if x then [] ∷ fields t else on_field b (fields t))
+    either : (x : Bool) → 1 ≤ length (when x then [] ∷ fields t else on_field b (fields t))
     either true = omega arith
     either false = on_field_some b (fields t)
 
@@ -142,7 +142,7 @@ unfolding fields joined
 joined_fields [] = refl
 joined_fields (b ∷ t) = either (eqb b 44) refl (joined_fields t)
   where
-    either : (x : Bool) → eqb b 44 ≡ x → joined (fields t) ≡ t → joined (if x then [] ∷ fields t else on_field b (fields t)) ≡ b ∷ t
+    either : (x : Bool) → eqb b 44 ≡ x → joined (fields t) ≡ t → joined (when x then [] ∷ fields t else on_field b (fields t)) ≡ b ∷ t
     either true e rest = let c : b ≡ 44 = eqb-true b 44 e in joined_cons [] (fields t) (fields_some t) ∙ cc
     either false e rest = on_field_lem b (fields t) (fields_some t) ∙ ap (λ (r : List ℕ). b ∷ r) rest
 
@@ -164,7 +164,7 @@ unfolding lines unlined
 unlined_lines [] = refl
 unlined_lines (b ∷ t) = either (eqb b 10) refl (unlined_lines t)
   where
-    either : (x : Bool) → eqb b 10 ≡ x → unlined (lines t) ≡ t → unlined (if x then closed [] ∷ lines t else on_line b (lines t)) ≡ b ∷ t
+    either : (x : Bool) → eqb b 10 ≡ x → unlined (lines t) ≡ t → unlined (when x then closed [] ∷ lines t else on_line b (lines t)) ≡ b ∷ t
     either true e rest = let c : b ≡ 10 = eqb-true b 10 e in cc
     either false e rest = on_line_lem b (lines t) ∙ ap (λ (r : List ℕ). b ∷ r) rest
 

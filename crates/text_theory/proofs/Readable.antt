@@ -9,7 +9,7 @@ use Prim.Native.Nat.{ℕ, zero, suc, ◌+◌, ◌<◌}
 use native.Mathlib.Omega.{arith}
 use lib.ListN.{length, get_or, replicate}
 use borrow.Author.Tests.{ltb-true}
-use Rattle.spec.specs.Choice.{if◌then◌else◌}
+use Rattle.spec.specs.Choice.{when◌then◌else◌}
 use Rattle.spec.specs.Text.{Line, bytes, same, Field}
 use Rattle.spec.specs.Reading.{good, ◌to◌, below, in_range, all_in_range, numerals, seen, numbers}
 use Rattle.spec.specs.Words.{takes_start}
@@ -108,7 +108,7 @@ start_on_spawn : (w : Word) (H : Header) (n : ℕ) → in_range (start_range w H
 unfolding start_range in_range
 start_on_spawn w H n h = by_cases (takes_start w) (ltb-true n _ h)
   where
-    by_cases : (b : Bool) → n < (if b then H.maps else 0) → b ≡ true
+    by_cases : (b : Bool) → n < (when b then H.maps else 0) → b ≡ true
     by_cases true q = refl
     by_cases false q = absurd (omega arith)
 

@@ -10,7 +10,7 @@ use native.Mathlib.Omega.{arith}
 use lib.ListN.{length, get_or, replicate, drop, drop_of_length-le}
 use lib.Seq.{drop-cons}
 use borrow.Author.Tests.{ltb-true}
-use Rattle.spec.specs.Choice.{if◌then◌else◌}
+use Rattle.spec.specs.Choice.{when◌then◌else◌}
 use Rattle.spec.specs.Text.{Line, bytes, same, Field, fields, look_up}
 use Rattle.spec.specs.Reading.{LineResult, good, seen, Range, ◌to◌, below, in_range, numerals, numbers}
 use Rattle.spec.specs.Expression.{Step}
@@ -53,7 +53,7 @@ line_numbers_lem rs fs ns h = numbers_canonical rs fs ns h ∙ ap (map decimal) 
 -- ------------------------------------------------------------------ words
 
 pub choice_right : {A : Type 0} (Q : A → Type 0) (b : Bool) (x y : LineResult A) → (b ≡ true → (a : A) → x ≡ good a → Q a) → ((a : A) → y ≡ good a → Q a)
-    → (a : A) → (if b then x else y) ≡ good a → Q a
+    → (a : A) → (when b then x else y) ≡ good a → Q a
 choice_right Q true x y f g a h = f refl a h
 choice_right Q false x y f g a h = g a h
 
@@ -69,7 +69,7 @@ unfolding Named look_up
 named_found [] f h names e = none_is_not_some e
 named_found (w ∷ ws) f h names e = by_test (same w.0 f) refl e (named_found ws f h names.1)
   where
-    by_test : (b : Bool) → same w.0 f ≡ b → (if b then some w.1 else look_up ws f) ≡ some h → (look_up ws f ≡ some h → f ≡ heading_name h)
+    by_test : (b : Bool) → same w.0 f ≡ b → (when b then some w.1 else look_up ws f) ≡ some h → (look_up ws f ≡ some h → f ≡ heading_name h)
         → f ≡ heading_name h
     by_test true t e others = let it : w.1 ≡ h = cc in sym (same_equal w.0 f t) ∙ names.0 ∙ ap heading_name it
     by_test false t e others = others e

@@ -1,6 +1,6 @@
 -- The records of a run's threads, and what becomes of them.
 use Rattle.std.specs.Prelude.{ℕ, ◌+◌, Bool, true, false, leb, ltb, get_or, set, replicate}
-use Rattle.spec.specs.Choice.{if◌then◌else◌}
+use Rattle.spec.specs.Choice.{when◌then◌else◌}
 use Rattle.replay_theory.specs.declared.Status.{Status}
 use Rattle.replay_theory.specs.declared.Status.TheVariants.{Running, Finished, Joined}
 use Rattle.threads.specs.declared.Threads.{Threads}
@@ -12,14 +12,14 @@ started tid = record { records = replicate 16 (record { state = Running; tid = t
 
 unfoldable pub spawned : Threads → (tid : ℕ) → Threads
 spawned T tid =
-    if ltb T.count 16
+    when ltb T.count 16
     then record { records = set T.records T.count (record { state = Running; tid = tid }); count = T.count + 1 }
     else T
 
 -- thread t keeps its identifier
 unfoldable pub turned : Status → Threads → (t : ℕ) → Threads
 turned s T t =
-    if ltb t 16
+    when ltb t 16
     then record { records = set T.records t (record { state = s; tid = (get_or T.records t no_record).tid }); count = T.count }
     else T
 
@@ -35,4 +35,4 @@ is_running Finished = false
 is_running Joined = false
 
 unfoldable pub runs : Threads → (t : ℕ) → Bool
-runs T t = if leb T.count t then false else if leb 16 t then false else is_running (get_or T.records t no_record).state
+runs T t = when leb T.count t then false else when leb 16 t then false else is_running (get_or T.records t no_record).state

@@ -9,7 +9,7 @@ use lib.Dec.{eqb}
 use lib.ListN.{length, get_or, take, drop, length-drop}
 use lib.Seq.{get_or-drop, drop-drop}
 use borrow.Author.Tests.{lt-ltb, le-ltb, eq-eqb, ne_eqb, eqb-true}
-use Rattle.spec.specs.Choice.{if◌then◌else◌}
+use Rattle.spec.specs.Choice.{when◌then◌else◌}
 use Rattle.spec.specs.Text.{Field, numeral}
 use Rattle.spec.specs.Reading.{with_numeral, numerals}
 use Rattle.lexer.specs.Views.{width, end_of, first_field, behind, with_field, line_at}
@@ -75,7 +75,7 @@ end_is [] = omega arith
 end_is (b ∷ t) = go (eqb b 44) refl (eqb b 10) refl (end_is t)
   where
     go : (x : Bool) → eqb b 44 ≡ x → (y : Bool) → eqb b 10 ≡ y → EndIs (end_of t) (width t) t
-        → EndIs (if x then Comma else if y then Newline else end_of t) (if x then 0 else if y then 0 else suc (width t)) (b ∷ t)
+        → EndIs (when x then Comma else when y then Newline else end_of t) (when x then 0 else when y then 0 else suc (width t)) (b ∷ t)
     go true p y q h = (omega arith, eqb-true b 44 p)
     go false p true q h = (omega arith, eqb-true b 10 q)
     go false p false q h = one_more b (width t) t (end_of t) h

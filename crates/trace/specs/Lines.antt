@@ -1,7 +1,7 @@
 -- A line of a trace, by its fields and as the shapes that the code hands back.
 use Rattle.std.specs.Prelude.{List, [], ◌∷◌, ℕ, ◌+◌, ◌-◌, eqb, ltb, length, get_or}
 use Rattle.std.proofs.Math.Option.{Option, none, some}
-use Rattle.spec.specs.Choice.{if◌then◌else◌}
+use Rattle.spec.specs.Choice.{when◌then◌else◌}
 use Rattle.spec.specs.Text.{Field, numeral}
 use Rattle.spec.specs.Reading.{numerals}
 use Rattle.lexer.specs.Views.{width, first_field}
@@ -33,8 +33,8 @@ closed_number (some n) next = closed.Number (stored n) next
 -- the numeral in front of a text, which begins at that byte, where the byte `end` closes it
 unfoldable pub closed_by : (end from : ℕ) → List ℕ → Closed
 closed_by end from t =
-    if ltb (width t) (length t)
-    then (if eqb (get_or t (width t) 0) end then closed_number (numeral (first_field t)) (from + width t + 1) else closed.Malformed)
+    when ltb (width t) (length t)
+    then (when eqb (get_or t (width t) 0) end then closed_number (numeral (first_field t)) (from + width t + 1) else closed.Malformed)
     else closed.Malformed
 
 unfoldable pub choice_by : (thread : ℕ) → Closed → TraceLine

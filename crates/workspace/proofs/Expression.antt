@@ -7,7 +7,7 @@ use Prim.Native.Nat.{ℕ, ◌+◌, ◌<◌, ◌≤◌}
 use native.Mathlib.Omega.{arith}
 use lib.ListN.{length, get_or, length-map}
 use Rattle.spec.specs.Expression.{Step, Position, Expr, leaf, unary, binary, size, index_of, line_of, among}
-use Rattle.spec.specs.Choice.{if◌then◌else◌}
+use Rattle.spec.specs.Choice.{when◌then◌else◌}
 use Rattle.spec.specs.Words.{role, binding, calls}
 use Rattle.spec.specs.WellFormed.{prefix, IndexesFrom, StepInside, UsedInside}
 use Rattle.spec.proofs.Listing.{prefix_length}
@@ -208,7 +208,7 @@ module _ {w : List ℕ} {count k : ℕ} {inside : List (ℕ × ℕ)} {vars : Lis
 
   pub here_called : (x : UnaryWord) (p : Position) (f : ℕ) (e : Expr) → calls x ≡ true → Here w count k inside vars (unary x p f e) → f < count
   unfolding UsedInside StepInside role
-  here_called x p f e q H = subst (λ (b : Bool). StepInside count vars (if b then Calls else Neither) f) q H.used.0
+  here_called x p f e q H = subst (λ (b : Bool). StepInside count vars (when b then Calls else Neither) f) q H.used.0
 
   -- that of a step with two parts
   pub binary_number_lem : (x : BinaryWord) (p : Position) (v : ℕ) (e₁ e₂ : Expr) → Here w count k inside vars (binary x p v e₁ e₂) → get_or w (values_at + k) 0 ≡ v

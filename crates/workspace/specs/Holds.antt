@@ -1,7 +1,7 @@
 -- What the work space holds of a program and of a split, column by column.
 use Rattle.std.specs.Prelude.{List, [], ◌∷◌, ◌++◌, map, ℕ, suc, ◌+◌, ◌*◌, ◌<◌, eqb, length, get_or, replicate}
 use Rattle.std.proofs.Math.Option.{Option, none, some}
-use Rattle.spec.specs.Choice.{if◌then◌else◌}
+use Rattle.spec.specs.Choice.{when◌then◌else◌}
 use Rattle.spec.specs.Expression.{Step, Expr, leaf, unary, binary, size, Procedure}
 use Rattle.spec.specs.Words.{role, binding}
 use Rattle.spec.specs.Program.{Program}
@@ -27,7 +27,7 @@ ends k (binary w l v e₁ e₂) = (k + suc (size e₁ + size e₂)) ∷ (ends (k
 -- the index of the let of a variable, of those whose e2 this is in
 unfoldable pub let_in : List (ℕ × ℕ) → (v : ℕ) → ℕ
 let_in [] v = 0
-let_in (b ∷ inside) v = if eqb b.0 v then b.1 else let_in inside v
+let_in (b ∷ inside) v = when eqb b.0 v then b.1 else let_in inside v
 
 -- the index of the let of a step's variable, if the step uses one, else 0
 unfoldable pub let_of : Role → List (ℕ × ℕ) → (v : ℕ) → ℕ

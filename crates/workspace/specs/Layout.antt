@@ -1,6 +1,6 @@
 -- What stands where in the work space, and the numbers that stand for words and types.
 use Rattle.std.specs.Prelude.{List, [], ◌∷◌, ℕ, zero, suc, ◌+◌, ◌*◌, eqb, get_or}
-use Rattle.spec.specs.Choice.{if◌then◌else◌}
+use Rattle.spec.specs.Choice.{when◌then◌else◌}
 use Rattle.spec.specs.Split.{Map}
 use Rattle.spec.specs.Kinds.{ref, lock, tid, sem, rwlock, code, kind_of}
 use Rattle.spec.specs.declared.TypeNumber.{TypeNumber}
@@ -227,11 +227,11 @@ second_of (declared_type.Rwlock r w) = w.0
 
 unfoldable pub type_of : (kind first second : ℕ) → TypeLine
 type_of kind first second =
-    if eqb kind (code ref) then declared_type.Ref (record { 0 = first }) (record { 0 = second })
-    else if eqb kind (code lock) then declared_type.Lock (record { 0 = first }) (record { 0 = second })
-    else if eqb kind (code tid) then declared_type.Tid (record { 0 = first })
-    else if eqb kind (code sem) then declared_type.Sem (record { 0 = first })
-    else if eqb kind (code rwlock) then declared_type.Rwlock (record { 0 = first }) (record { 0 = second })
+    when eqb kind (code ref) then declared_type.Ref (record { 0 = first }) (record { 0 = second })
+    else when eqb kind (code lock) then declared_type.Lock (record { 0 = first }) (record { 0 = second })
+    else when eqb kind (code tid) then declared_type.Tid (record { 0 = first })
+    else when eqb kind (code sem) then declared_type.Sem (record { 0 = first })
+    else when eqb kind (code rwlock) then declared_type.Rwlock (record { 0 = first }) (record { 0 = second })
     else declared_type.Int
 
 unfoldable pub type_at : List ℕ → TypeNumber → TypeLine

@@ -1,5 +1,4 @@
 use Rattle.conditions.specs.Relation.{asked}
-use borrow.Author.Rules.{rules}
 use Rattle.conditions.proofs.asked.Goals as goal
 
 pub returns-in-Equal : goal.returns-in-Equal

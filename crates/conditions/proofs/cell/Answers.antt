@@ -3,7 +3,6 @@ use Prim.Native.Nat.{ℕ}
 use native.Mathlib.Omega.{arith}
 use lib.ListN.{get_or}
 use Rattle.workspace.specs.Layout.{map_cell}
-use borrow.Author.Rules.{rules}
 use Rattle.conditions.proofs.cell.Goals as goal
 
 pub returns : goal.returns

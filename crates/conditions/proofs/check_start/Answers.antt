@@ -2,7 +2,6 @@ use Rattle.spec.specs.Verdict.{refuse_over}
 use Rattle.conditions.specs.Outcome.{outcome}
 use Rattle.conditions.specs.SheetOutcomes.{start_outcome}
 use Rattle.conditions.proofs.Relations.{below_here, below_none}
-use borrow.Author.Rules.{rules}
 use Rattle.conditions.proofs.check_start.Goals as goal
 
 pub returns-then-p-locations : goal.returns-then-p-locations

@@ -1,6 +1,5 @@
 use mathlib.Core.Path.{sym, ◌∙◌}
 use Rattle.conditions.proofs.Relations.{itself_everywhere, told_everywhere}
-use borrow.Author.Rules.{rules}
 use Rattle.conditions.proofs.everywhere.Goals as goal
 
 pub returns-then-of_itself : goal.returns-then-of_itself

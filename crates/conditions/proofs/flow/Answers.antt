@@ -2,7 +2,6 @@ use mathlib.Core.Path.{sym, ◌∙◌}
 use Rattle.spec.specs.StepContexts.{judge}
 use Rattle.conditions.specs.Outcome.{outcome}
 use Rattle.conditions.proofs.Relations.{itself_flows, below_here, below_none}
-use borrow.Author.Rules.{rules}
 use Rattle.conditions.proofs.flow.Goals as goal
 
 pub returns-then-of_itself : goal.returns-then-of_itself

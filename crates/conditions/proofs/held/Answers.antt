@@ -1,6 +1,5 @@
 use native.Mathlib.Omega.{arith}
 use Rattle.conditions.proofs.Relations.{held_whole, held_none}
-use borrow.Author.Rules.{rules}
 use Rattle.conditions.proofs.held.Goals as goal
 
 pub returns-then-index-work : goal.returns-then-index-work

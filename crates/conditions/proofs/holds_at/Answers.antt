@@ -3,7 +3,6 @@
 use native.Mathlib.Omega.{arith}
 use Rattle.conditions.specs.Relation.{HasCells, holds_at}
 use Rattle.workspace.proofs.Products.{product_fits}
-use borrow.Author.Rules.{rules}
 use Rattle.conditions.proofs.holds_at.Goals as goal
 
 pub cell-requires : goal.cell-requires

@@ -3,7 +3,6 @@ use borrow.Author.Tests.{le-leb, lt-leb}
 use Rattle.workspace.specs.Layout.{map_cell}
 use Rattle.conditions.specs.Outcome.{outcome}
 use Rattle.spec.specs.StepContexts.{judge}
-use borrow.Author.Rules.{rules}
 use Rattle.conditions.proofs.holds_at_least.Goals as goal
 
 pub returns-then-least-map_cell : goal.returns-then-least-map_cell

@@ -1,11 +1,8 @@
-use Prim.Native.Nat.{◌≤◌, ◌-◌}
-use mathlib.Core.Path.{◌≡◌, refl, sym, ◌∙◌}
+use mathlib.Core.Path.{refl, sym, ◌∙◌}
 use native.Mathlib.Omega.{arith}
 use native.Mathlib.Nat.{sub-zero}
-use borrow.Author.Tests.{not-true, not-false}
-use Rattle.conditions.specs.Relation.{asked, fails_from, fails}
+use Rattle.conditions.specs.Relation.{fails}
 use Rattle.conditions.proofs.Relations.{below_here, below_none, asked_within, fails_later, fails_here, fails_nowhere}
-use borrow.Author.Rules.{rules}
 use Rattle.conditions.proofs.lowest_failing.Goals as goal
 
 pub loop-l-init : goal.loop-l-init
@@ -22,7 +19,7 @@ returns-then-not-holds_at c =
     let loop = c.loop-l.invariant in
     let test = c.loop-l-test.true in
     below_here _ _ (asked_within _ _ _ _ _ loop.0 test).0
-    ∙ sym (loop.2 ∙ fails_here _ _ _ _ test (sym c.holds_at.ensures ∙ not-true _ c.if-not-holds_at.true))
+    ∙ sym (loop.2 ∙ fails_here _ _ _ _ test (sym c.holds_at.ensures ∙ c.if-not-holds_at.true))
 
 pub overflow_add-l : goal.overflow_add-l
 overflow_add-l c = omega arith
@@ -36,7 +33,7 @@ loop-l-preserved c =
     let test = c.loop-l-test.true in (
       loop.0,
       omega arith,
-      loop.2 ∙ fails_later _ _ _ _ test (sym c.holds_at.ensures ∙ not-false _ c.if-not-holds_at.false),
+      loop.2 ∙ fails_later _ _ _ _ test (sym c.holds_at.ensures ∙ c.if-not-holds_at.false),
     )
 
 pub returns : goal.returns

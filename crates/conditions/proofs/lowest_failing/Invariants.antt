@@ -1,12 +1,7 @@
 -- The loop's invariant: the lowest location from l on at which the relation fails is the lowest of all.
 use Prim.Native.Nat.{◌≤◌, ◌-◌}
-use mathlib.Core.Path.{◌≡◌, refl, sym, ◌∙◌}
-use native.Mathlib.Omega.{arith}
-use native.Mathlib.Nat.{sub-zero}
-use borrow.Author.Tests.{not-true, not-false}
+use mathlib.Core.Path.{◌≡◌}
 use Rattle.conditions.specs.Relation.{asked, fails_from, fails}
-use Rattle.conditions.proofs.Relations.{below_here, below_none, asked_within, fails_later, fails_here, fails_nowhere}
-use borrow.Author.Rules.{rules}
 use Rattle.conditions.proofs.lowest_failing.Given as goal
 
 abbrev pub invariant-loop-l : goal.invariant-loop-l

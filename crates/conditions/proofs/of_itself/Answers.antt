@@ -1,5 +1,4 @@
 use Rattle.conditions.specs.Relation.{of_itself}
-use borrow.Author.Rules.{rules}
 use Rattle.conditions.proofs.of_itself.Goals as goal
 
 pub returns-in-Equal : goal.returns-in-Equal

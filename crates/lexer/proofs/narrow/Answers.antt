@@ -1,5 +1,4 @@
 -- The two cases of the definition.
-use borrow.Author.Rules.{rules}
 use borrow.Author.Tests.{le-leb, lt-leb}
 use Rattle.lexer.specs.Numbers.{stored}
 use Rattle.lexer.proofs.narrow.Goals as goal

@@ -1,13 +1,8 @@
 -- The loop's invariant: the digits read so far come to `value`, and what they come to with the rest is the whole.
-use mathlib.Core.Path.{◌≡◌, refl, ap, sym, ◌∙◌}
-use mathlib.Core.Option.{some}
+use mathlib.Core.Path.{◌≡◌}
 use Prim.Native.Nat.{◌≤◌, ◌<◌, ◌-◌, ◌^◌}
-use native.Mathlib.Omega.{arith}
 use lib.ListN.{length, drop}
-use borrow.Author.Rules.{rules}
-use Rattle.spec.specs.Text.{digit_limit, digits, value as value_of}
-use Rattle.lexer.specs.Numbers.{numeral_of}
-use Rattle.lexer.proofs.Digits.{digits_low, digits_high, digits_on, digits_end, value_at_lem, value_end, ten_more, ten_limit, not_short, not_long_lem, not_leading, not_digits, is_numeral}
+use Rattle.spec.specs.Text.{digits, value as value_of}
 use Rattle.lexer.proofs.numeral_of.Given as goal
 
 abbrev pub invariant-loop-i : goal.invariant-loop-i

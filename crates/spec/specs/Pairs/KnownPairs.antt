@@ -14,14 +14,14 @@ use Rattle.spec.specs.Agreement.{same_maps, same_tree, tree_of, trees, tree, agr
 use Rattle.spec.specs.StepContexts.{step_contexts, numbered, claims_at, claims, body_step_contexts, claims_of_procedure, claims_of_procedures, claims_of, judge, first_false}
 use Rattle.spec.specs.Workspace.{workspace_size}
 use Rattle.spec.specs.Verdict.{takes_enough, all_take_enough, locks_take_enough, refuse_over, start_at_most_one, conditions_hold, sheets, checked, answer, verdict, numbers4, returned}
-use Rattle.spec.specs.Choice.{if◌then◌else◌}
+use Rattle.spec.specs.Choice.{when◌then◌else◌}
 use Rattle.spec.specs.declared.Returned.{Returned}
 
 -- ------------------------------------------------------------------ tables of pairs
 
 -- "Bar (|) stands for byte 10"
 unfoldable pub barred : String → List ℕ
-barred s = map (λ b. if eqb b 124 then 10 else b) (bytes s)
+barred s = map (λ b. when eqb b 124 then 10 else b) (bytes s)
 
 pub record Pair : Type 0 where
   pub program : String

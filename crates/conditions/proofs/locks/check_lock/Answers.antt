@@ -4,12 +4,11 @@ use Rattle.spec.specs.Kinds.{lock}
 use Rattle.conditions.specs.Outcome.{outcome}
 use Rattle.conditions.proofs.TypeKinds.{not_of}
 use Rattle.conditions.proofs.LockLines.{no_lock_line, lock_line}
-use borrow.Author.Rules.{rules}
 use Rattle.conditions.proofs.locks.check_lock.Goals as goal
 
 pub returns-in_default : goal.returns-in_default
 unfolding outcome
-returns-in_default c = no_lock_line _ _ _ c.type_at.ensures (not_of lock _ c.in_default.in_default-own.keys2)
+returns-in_default c = no_lock_line _ _ _ c.type_at.ensures (not_of lock _ c.in_default.not-Lock)
 
 pub returns-then-everywhere : goal.returns-then-everywhere
 unfolding outcome require

@@ -1,11 +1,8 @@
-use mathlib.Core.Path.{◌≡◌, refl, sym, ◌∙◌}
-use Prim.Native.Nat.{◌≤◌, ◌-◌}
+use mathlib.Core.Path.{refl, sym, ◌∙◌}
 use native.Mathlib.Nat.{sub-zero}
 use native.Mathlib.Omega.{arith}
 use Rattle.conditions.specs.Outcome.{outcome}
-use Rattle.conditions.specs.SheetOutcomes.{locks_outcome}
 use Rattle.conditions.proofs.LockLines.{locks_refused, locks_later, locks_done}
-use borrow.Author.Rules.{rules}
 use Rattle.conditions.proofs.locks.check_locks.Goals as goal
 
 pub loop-t-init : goal.loop-t-init
@@ -25,11 +22,10 @@ pub loop-t-smaller : goal.loop-t-smaller
 loop-t-smaller c = omega arith
 
 pub loop-t-preserved : goal.loop-t-preserved
-loop-t-preserved c =
-    (
-      omega arith,
-      c.loop-t.invariant.1 ∙ locks_later _ _ _ _ c.loop-t-test.true _ c.check_lock-ruling.ensures c.in-Holds.is,
-    )
+loop-t-preserved c = (
+  omega arith,
+  c.loop-t.invariant.1 ∙ locks_later _ _ _ _ c.loop-t-test.true _ c.check_lock-ruling.ensures c.in-Holds.is,
+)
 
 pub returns : goal.returns
 unfolding outcome

@@ -6,28 +6,27 @@ use Rattle.spec.proofs.Tests.{and_true}
 use Rattle.conditions.specs.Agreement.{maps_agree, lines_agree}
 use Rattle.conditions.proofs.TypeKinds.{not_of}
 use Rattle.conditions.proofs.Agreement.{no_contents}
-use borrow.Author.Rules.{rules}
 use Rattle.conditions.proofs.types.agree_plain.Goals as goal
 
 pub returns-in_default : goal.returns-in_default
 unfolding lines_agree
-returns-in_default c = rw (c.in-Int.is, not_of int _ c.in_default.in_default-own.keys2)
+returns-in_default c = rw (c.in-Int.is, not_of int _ c.in_default.not-Int)
 
 pub returns-in_default-other : goal.returns-in_default-other
 unfolding lines_agree
-returns-in_default-other c = rw (c.in-Lock.is, not_of lock _ c.in_default-other.in_default-other-own.keys2)
+returns-in_default-other c = rw (c.in-Lock.is, not_of lock _ c.in_default-other.not-Lock)
 
 pub returns-in_default-other-2 : goal.returns-in_default-other-2
 unfolding lines_agree
-returns-in_default-other-2 c = rw (c.in-Tid.is, not_of tid _ c.in_default-other-2.in_default-other-2-own.keys2)
+returns-in_default-other-2 c = rw (c.in-Tid.is, not_of tid _ c.in_default-other-2.not-Tid)
 
 pub returns-in_default-other-3 : goal.returns-in_default-other-3
 unfolding lines_agree
-returns-in_default-other-3 c = rw (c.in-Sem.is, not_of sem _ c.in_default-other-3.in_default-other-3-own.keys2)
+returns-in_default-other-3 c = rw (c.in-Sem.is, not_of sem _ c.in_default-other-3.not-Sem)
 
 pub returns-in_default-other-4 : goal.returns-in_default-other-4
 unfolding lines_agree
-returns-in_default-other-4 c = rw (c.in-Rwlock.is, not_of rwlock _ c.in_default-other-4.in_default-other-4-own.keys2)
+returns-in_default-other-4 c = rw (c.in-Rwlock.is, not_of rwlock _ c.in_default-other-4.not-Rwlock)
 
 pub returns-in-Int-other : goal.returns-in-Int-other
 unfolding lines_agree maps_agree is same_kind

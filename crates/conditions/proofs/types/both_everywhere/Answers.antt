@@ -1,4 +1,3 @@
-use borrow.Author.Rules.{rules}
 use Rattle.conditions.proofs.types.both_everywhere.Goals as goal
 
 pub returns-then-everywhere : goal.returns-then-everywhere

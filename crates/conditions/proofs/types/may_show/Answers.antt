@@ -3,14 +3,13 @@ use mathlib.Core.Path.{◌∙◌}
 use Rattle.spec.specs.Kinds.{lock}
 use Rattle.conditions.proofs.TypeKinds.{not_of}
 use Rattle.conditions.proofs.Agreement.{shown_no_lock, own_no_lock, both_locks}
-use borrow.Author.Rules.{rules}
 use Rattle.conditions.proofs.types.may_show.Goals as goal
 
 pub returns-in_default : goal.returns-in_default
-returns-in_default c = c.agrees.ensures ∙ shown_no_lock _ _ _ _ c.type_at.ensures (not_of lock _ c.in_default.in_default-own.keys2)
+returns-in_default c = c.agrees.ensures ∙ shown_no_lock _ _ _ _ c.type_at.ensures (not_of lock _ c.in_default.not-Lock)
 
 pub returns-in_default-type_at : goal.returns-in_default-type_at
-returns-in_default-type_at c = c.agrees-in_default-type_at.ensures ∙ own_no_lock _ _ _ _ c.type_at-2.ensures (not_of lock _ c.in_default-type_at.in_default-type_at-own.keys2)
+returns-in_default-type_at c = c.agrees-in_default-type_at.ensures ∙ own_no_lock _ _ _ _ c.type_at-2.ensures (not_of lock _ c.in_default-type_at.not-Lock)
 
 pub returns : goal.returns
 returns c =

@@ -1,6 +1,5 @@
 -- Nothing is left where the cursor is at the text's end.
 use mathlib.Core.Path.{sym}
-use borrow.Author.Rules.{rules}
 use Rattle.lexer.proofs.Places.{nothing_left}
 use Rattle.lexer.proofs.Cursor.at_end.Goals as goal
 

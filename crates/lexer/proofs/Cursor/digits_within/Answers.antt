@@ -1,10 +1,9 @@
 use mathlib.Core.Path.{◌≡◌, refl}
-use Prim.Native.Nat.{◌≤◌, ◌<◌, ◌+◌, ◌-◌, ◌^◌}
+use Prim.Native.Nat.{◌+◌, ◌-◌}
 use native.Mathlib.Omega.{arith}
-use borrow.Author.Rules.{rules}
 use Rattle.spec.specs.Text.{digit_limit}
 use Rattle.lexer.proofs.Digits.{ten_more, ten_limit}
-use Rattle.lexer.proofs.FirstDigits.{Reached, reached_more, low_first, high_first, none_first, digits_taken}
+use Rattle.lexer.proofs.FirstDigits.{reached_more, low_first, high_first, none_first, digits_taken}
 use Rattle.lexer.proofs.Cursor.digits_within.Goals as goal
 
 pub overflow_add-stop : goal.overflow_add-stop

@@ -1,11 +1,6 @@
 -- The loop's invariant: the digits taken so far, with what is left of the field from the byte reached, are the field.
-use mathlib.Core.Path.{◌≡◌, refl}
-use Prim.Native.Nat.{◌≤◌, ◌<◌, ◌+◌, ◌-◌, ◌^◌}
-use native.Mathlib.Omega.{arith}
-use borrow.Author.Rules.{rules}
-use Rattle.spec.specs.Text.{digit_limit}
-use Rattle.lexer.proofs.Digits.{ten_more, ten_limit}
-use Rattle.lexer.proofs.FirstDigits.{Reached, reached_more, low_first, high_first, none_first, digits_taken}
+use Prim.Native.Nat.{◌≤◌, ◌<◌, ◌-◌, ◌^◌}
+use Rattle.lexer.proofs.FirstDigits.{Reached}
 use Rattle.lexer.proofs.Cursor.digits_within.Given as goal
 
 abbrev pub invariant-loop-to : goal.invariant-loop-to

@@ -1,9 +1,6 @@
-use mathlib.Core.Path.{◌≡◌, refl, ◌∙◌}
-use Prim.Native.Nat.{◌≤◌, ◌+◌, ◌-◌}
+use mathlib.Core.Path.{refl, ◌∙◌}
 use native.Mathlib.Omega.{arith}
-use lib.ListN.{length, drop}
 use borrow.Author.Rules.{rules}
-use Rattle.lexer.specs.Views.{width, end_of}
 use Rattle.lexer.specs.Cursors.{rest, past, span_to}
 use Rattle.lexer.specs.declared.FieldEnd.TheVariants.{Comma, Newline, Text}
 use Rattle.lexer.proofs.Fields.{comma_width, comma_end, newline_width, newline_end, byte_width, byte_end, text_width, text_end}

@@ -1,14 +1,8 @@
 -- The loop's invariant: from the cursor and from the byte reached, the field ends at the same byte and in the same way.
-use mathlib.Core.Path.{◌≡◌, refl, ◌∙◌}
+use mathlib.Core.Path.{◌≡◌}
 use Prim.Native.Nat.{◌≤◌, ◌+◌, ◌-◌}
-use native.Mathlib.Omega.{arith}
 use lib.ListN.{length, drop}
-use borrow.Author.Rules.{rules}
 use Rattle.lexer.specs.Views.{width, end_of}
-use Rattle.lexer.specs.Cursors.{rest, past, span_to}
-use Rattle.lexer.specs.declared.FieldEnd.TheVariants.{Comma, Newline, Text}
-use Rattle.lexer.proofs.Fields.{comma_width, comma_end, newline_width, newline_end, byte_width, byte_end, text_width, text_end}
-use Rattle.lexer.proofs.Places.{span_is}
 use Rattle.lexer.proofs.Cursor.field.Given as goal
 
 abbrev pub invariant-loop-to : goal.invariant-loop-to

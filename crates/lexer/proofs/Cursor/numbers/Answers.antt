@@ -1,16 +1,13 @@
 use mathlib.Core.Path.{◌≡◌, refl, sym, ap, ◌∙◌}
 use mathlib.Core.List.{[], ◌∷◌, ◌++◌}
-use Prim.Native.Nat.{ℕ, ◌≤◌, ◌+◌, ◌-◌}
+use Prim.Native.Nat.{ℕ, ◌+◌}
 use native.Mathlib.Numerals.{add-one}
 use native.Mathlib.Omega.{arith}
 use lib.ListN.{length, take, set, length-set, length-append}
 use lib.Seq.{take-suc-set, length-take-le}
-use borrow.Author.Rules.{rules}
-use Rattle.lexer.specs.Views.{line_at}
-use Rattle.lexer.specs.Cursors.{Placed, rest}
-use Rattle.lexer.specs.Numbers.{stored, numbers_in}
+use Rattle.lexer.specs.Numbers.{stored}
 use Rattle.lexer.proofs.Walks.{number_placed, number_line_kept, number_line_passed}
-use Rattle.lexer.proofs.LineNumbers.{ahead, ahead_none, few_counted, many_counted, all_counted, stop_malformed, stop_text, after_comma, after_newline, whole, stands, refused, accepted}
+use Rattle.lexer.proofs.LineNumbers.{ahead_none, few_counted, many_counted, all_counted, stop_malformed, stop_text, after_comma, after_newline, whole, stands, refused, accepted}
 use Rattle.lexer.proofs.Cursor.numbers.Goals as goal
 
 pub loop-i-init : goal.loop-i-init

@@ -6,3 +6,7 @@ use Rattle.lexer.proofs.Cursor.take_digits.Goals as goal
 pub returns : goal.returns
 unfolding digit_limit
 returns c = search rules
+
+pub digits_within-requires : goal.digits_within-requires
+unfolding digit_limit
+digits_within-requires c = search rules

@@ -10,3 +10,11 @@ returns-then-left-lt-DIGIT_LIMIT c = search rules
 pub returns : goal.returns
 unfolding digit_limit
 returns c = search rules
+
+pub digits_within-requires : goal.digits_within-requires
+unfolding digit_limit
+digits_within-requires c = search rules
+
+pub digits_within-requires-2 : goal.digits_within-requires-2
+unfolding digit_limit
+digits_within-requires-2 c = search rules

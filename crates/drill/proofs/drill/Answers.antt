@@ -1,0 +1,45 @@
+-- Both lengths are learned first; the texts are written only if both fit.
+use mathlib.Core.Path.{ap, ◌∙◌}
+use native.Mathlib.Omega.{arith}
+use lib.ListN.{length}
+use Rattle.writer.specs.Buffer.{overwrite}
+use Rattle.drill_theory.proofs.Accepted.{readers_drawable}
+use Rattle.drill.proofs.Drilling.{program_of_lem, split_of_lem, program_short, split_short, both_written}
+use Rattle.drill.proofs.drill.Goals as goal
+
+pub program_length-program_size-requires : goal.program_length-program_size-requires
+program_length-program_size-requires c = rw c.readers-k.ensures (readers_drawable _)
+
+pub split_length-split_size-requires : goal.split_length-split_size-requires
+split_length-split_size-requires c = rw c.readers-k.ensures (readers_drawable _)
+
+pub returns-then-program-program_size : goal.returns-then-program-program_size
+returns-then-program-program_size c =
+    let p = program_of_lem _ _ _ c.draw-x.ensures c.readers-k.ensures in
+    let d = program_short c.args.seed c.args.program.now c.args.split.now (omega (arith, c.program_length-program_size.ensures, ap length p)) in
+    record { answer = d.0; written = d.1.0; unchanged = d.1.1.0; accepted = d.1.1.1 }
+
+pub returns-then-split-split_size : goal.returns-then-split-split_size
+returns-then-split-split_size c =
+    let q = split_of_lem _ _ _ c.draw-x.ensures c.readers-k.ensures in
+    let d = split_short c.args.seed c.args.program.now c.args.split.now (omega (arith, c.split_length-split_size.ensures, ap length q)) in
+    record { answer = d.0; written = d.1.0; unchanged = d.1.1.0; accepted = d.1.1.1 }
+
+pub write_program-requires : goal.write_program-requires
+write_program-requires c = rw c.readers-k.ensures (readers_drawable _)
+
+pub write_split-requires : goal.write_split-requires
+write_split-requires c = rw c.readers-k.ensures (readers_drawable _)
+
+pub returns : goal.returns
+returns c =
+    let p = program_of_lem _ _ _ c.draw-x.ensures c.readers-k.ensures in
+    let q = split_of_lem _ _ _ c.draw-x.ensures c.readers-k.ensures in
+    let d =
+    both_written c.args.seed _ _ _ c.args.program.now c.args.split.now _ _ c.draw-x.ensures
+    (c.program_length-program_size.ensures ∙ ap length p)
+    (c.split_length-split_size.ensures ∙ ap length q)
+    c.if-program-program_size.false c.if-split-split_size.false
+    (c.write_program.ensures.holds ∙ ap (overwrite c.args.program.now 0) p)
+    (c.write_split.ensures.holds ∙ ap (overwrite c.args.split.now 0) q) in
+    record { answer = d.0; written = d.1.0; unchanged = d.1.1.0; accepted = d.1.1.1 }

@@ -1,0 +1,12 @@
+-- What is written into nothing is counted, and its length is far below the last number of 32 bits.
+use native.Mathlib.Omega.{arith}
+use Rattle.drill.proofs.Drilling.{split_within}
+use Rattle.drill.proofs.split_length.Goals as goal
+
+pub overflow_cast-result : goal.overflow_cast-result
+overflow_cast-result c =
+    let l = split_within c.requires in
+    record { fits = omega (arith, c.write_split.ensures.moved) }
+
+pub returns : goal.returns
+returns c = let l = split_within c.requires in omega (arith, c.write_split.ensures.moved)

@@ -1,0 +1,21 @@
+-- The start is the machine's, so the lines come to what they come to there.
+use mathlib.Core.Path.{refl}
+use native.Mathlib.Omega.{arith}
+use Rattle.replay.proofs.Starting.{start_count, start_goes}
+use Rattle.replay.proofs.start.first_point.Goals as goal
+
+pub overflow_cast-count : goal.overflow_cast-count
+overflow_cast-count c =
+    let low = start_count _ _ c.requires.long c.requires.listed c.requires.stands _ _ c.start-threads.ensures in
+    omega (arith, low)
+
+pub race_after-race-requires : goal.race_after-race-requires
+race_after-race-requires c =
+    start_count _ _ c.requires.long c.requires.listed c.requires.stands _ _ c.start-threads.ensures
+
+pub returns : goal.returns
+returns c = (
+  λ P A.
+      start_goes _ _ c.requires.long P A _ _ c.start-threads.ensures c.race_after-race.ensures,
+  refl,
+)

@@ -1,0 +1,11 @@
+use Rattle.replay_objects.specs.Uses.{spawned_of}
+use borrow.Author.Tests.{eq-eqb, ne_eqb}
+use Rattle.replay_objects.proofs.spawned.Goals as goal
+
+pub returns-then-x-eq-IDENTIFIER : goal.returns-then-x-eq-IDENTIFIER
+unfolding spawned_of
+returns-then-x-eq-IDENTIFIER c = rw (eq-eqb _ _ c.if-x-eq-IDENTIFIER.true)
+
+pub returns : goal.returns
+unfolding spawned_of
+returns c = rw (ne_eqb _ _ c.if-x-eq-IDENTIFIER.false)

@@ -1,0 +1,4 @@
+use Rattle.rule_rows.proofs.columns.cell.Goals as goal
+
+pub returns : goal.returns
+returns c = cc

@@ -1,0 +1,15 @@
+use Rattle.spec.specs.Kinds.{int}
+use Rattle.spec.proofs.TypeKinds.{of_is}
+use Rattle.conditions.proofs.FirstFalse.{last, next, pass, fail}
+use Rattle.conditions.proofs.TypeKinds.{not_of}
+use Rattle.sequential_rules.proofs.rows.check_while.Goals as goal
+
+pub returns-in_default : goal.returns-in_default
+returns-in_default c = rw (← c.type_at.ensures) (fail _ _ _ _ (not_of int _ c.in_default.not-Int) c.type_false.ensures)
+
+pub returns : goal.returns
+returns c =
+    rw (← c.type_at.ensures)
+    (pass _ _ _ _ (of_is c.in-Int.is)
+    (next _ _ _ _ _ _ c.and_then.ensures c.at_least.ensures
+    (last _ _ _ c.at_least-2.ensures)))

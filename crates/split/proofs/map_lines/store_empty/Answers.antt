@@ -1,0 +1,6 @@
+use Rattle.split.proofs.Stores.{empty_stored}
+use Rattle.split.proofs.map_lines.store_empty.Goals as goal
+
+pub returns : goal.returns
+returns c =
+    empty_stored c.args.work.now c.clear.new.s c.requires c.clear.ensures
