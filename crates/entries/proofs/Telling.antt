@@ -30,12 +30,12 @@ module _ (run : List ℕ) (t : Told) (told : (program trace job space : List ℕ
   stops program trace job space K =
       subst (λ (x : Told). TraceFollowed (length space) program trace x.steps x.ending) (sym (told program trace job space K)) (trace_is_followed (length space) program trace)
 
-  pub first_race_lem : (program trace job space : List ℕ) → KeptRun program trace job space run → Stored (RaceFound (length space) program trace) t.race.state t.race.first t.race.second
-  first_race_lem program trace job space K = record { race = _; told = (reports program trace job space K).1; holds = race_is_found (length space) program trace }
+  pub first_race : (program trace job space : List ℕ) → KeptRun program trace job space run → Stored (RaceFound (length space) program trace) t.race.state t.race.first t.race.second
+  first_race program trace job space K = record { race = _; told = (reports program trace job space K).1; holds = race_is_found (length space) program trace }
 
   pub safe : (program trace job space : List ℕ) → KeptRun program trace job space run → (room : ℕ) (split : List ℕ) → verdict room program split ≡ Accept → t.race ≡ race_numbers None
   safe program trace job space K room split accepted = (reports program trace job space K).1 ∙ ap race_numbers (none_if_accepted (length space) program trace room split accepted)
 
-pub short_told_lem : (t : Told) → t ≡ told_numbers (refused ShortWorkspace) → (t.ending ≡ returned_for (refused ShortWorkspace).ending) × (t.steps ≡ 0) × (t.race ≡ race_numbers None)
+pub short_told : (t : Told) → t ≡ told_numbers (refused ShortWorkspace) → (t.ending ≡ returned_for (refused ShortWorkspace).ending) × (t.steps ≡ 0) × (t.race ≡ race_numbers None)
 unfolding told_numbers refused
-short_told_lem t e = (ap (λ (x : Told). x.ending) e, ap (λ (x : Told). x.steps) e, ap (λ (x : Told). x.race) e)
+short_told t e = (ap (λ (x : Told). x.ending) e, ap (λ (x : Told). x.steps) e, ap (λ (x : Told). x.race) e)
