@@ -205,20 +205,20 @@ module _ (text : List ℕ) (fits : length text ≤ 16384) where
           record { P = P; read = q; counted = y; listed = x; few = omega (arith, y, l); procs = omega (arith, x, k); holds = h }
 
   module _ (w : List ℕ) (n m : ℕ) (F : Sheet w n m) where
-    well_formed_lem : WellFormedProgram text F.P
+    well_formed : WellFormedProgram text F.P
     unfolding program_limit
-    well_formed_lem = program_well_formed text fits F.read
+    well_formed = program_well_formed text fits F.read
 
     here : AllHere w (length F.P.procedures) 0 0 F.P.procedures F.P.root
-    here = program_here_of w F.P F.holds well_formed_lem
+    here = program_here_of w F.P F.holds well_formed
 
     work_held : HeldAs F.P w n m
     work_held = record {
       standing = all_standing w (length F.P.procedures) 0 0 F.P.procedures F.P.root here;
       firsts = firsts_at w (length F.P.procedures) 0 0 F.P.procedures F.P.root here;
-      variables = variables_at w (length F.P.procedures) 0 0 F.P.procedures F.P.root here (well_formed_parameters text F.P well_formed_lem);
-      ranged = well_formed_ranged text F.P well_formed_lem;
-      counted = sized F.P.procedures F.P.root ∙ ap length (sym well_formed_lem.stepped) ∙ F.counted;
+      variables = variables_at w (length F.P.procedures) 0 0 F.P.procedures F.P.root here (well_formed_parameters text F.P well_formed);
+      ranged = well_formed_ranged text F.P well_formed;
+      counted = sized F.P.procedures F.P.root ∙ ap length (sym well_formed.stepped) ∙ F.counted;
       listed = F.listed;
     }
 
