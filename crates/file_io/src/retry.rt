@@ -1,5 +1,6 @@
 // Calls of the system that are made again when they failed for a reason that passes. Every loop has to end, so a call is made at
-// most a million times; then it counts as one that failed.
+// most a million times; then it counts as one that failed. Where a signal interrupts an open, the library makes that call again by
+// itself, and its limit is larger.
 ghost use Rattle.std.specs.Prelude.{◌≤◌, IfNone, IfSome, length, take};
 ghost use Rattle.std.specs.Io.KnownBytes.{Appends, Keeps};
 
