@@ -6,3 +6,6 @@ use Rattle.racefill.proofs.run.Goals as goal
 pub output_of-n-requires : goal.output_of-n-requires
 unfolding split_limit
 output_of-n-requires g c = (c.read_program-p.ensures.within, c.read_split-s.ensures.within, search rules)
+
+pub write_output-requires : goal.write_output-requires
+write_output-requires g c = c.output_of-n.ensures.are
