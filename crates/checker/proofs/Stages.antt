@@ -1,10 +1,11 @@
 -- From what the stages found to the verdict.
+use Rattle.std.proofs.Common.{Result}
 use mathlib.Core.Path.{◌≡◌, sym, ap, ◌∙◌}
 use mathlib.Core.List.{List}
 use Prim.Native.Nat.{ℕ, ◌≤◌}
 use native.Mathlib.Omega.{arith}
 use borrow.Author.Tests.{le-leb}
-use Rattle.spec.specs.Reading.{Result, ◌>>=◌, require}
+use Rattle.spec.specs.Reading.{◌>>=◌, require}
 use Rattle.spec.specs.Workspace.{workspace_size}
 use Rattle.spec.specs.Verdict.{checked, answer, verdict}
 use Rattle.spec.specs.declared.Answer.{Answer}
@@ -19,17 +20,17 @@ use Rattle.sheets.specs.declared.Reading.{Reading}
 use Rattle.sheets.specs.declared.Reading.TheVariants as reading
 use Rattle.sheets.proofs.Found.{refused_by, held_by}
 use Rattle.conditions.specs.Outcome.{outcome}
-use Rattle.spec.specs.declared.Ruling.{Ruling}
-use Rattle.spec.specs.declared.Ruling.TheVariants.{Holds, Refused}
+use Rattle.workspace.specs.declared.Ruling.{Ruling}
+use Rattle.workspace.specs.declared.Ruling.TheVariants.{Holds, Refused}
 use Rattle.checker.specs.Stages.{RulesAnswered}
 
 -- ------------------------------------------------------------------ the rules
 
-pub met_accepts : {o : Result (Unit {0})} (r : Ruling) → r ≡ Holds → outcome r ≡ o → Accept ≡ answer o
+pub met_accepts : {o : Result (Unit {0}) Refusal} (r : Ruling) → r ≡ Holds → outcome r ≡ o → Accept ≡ answer o
 unfolding outcome answer
 met_accepts r e h = ap answer (sym (ap outcome e) ∙ h)
 
-pub refused_refuses : {o : Result (Unit {0})} (r : Ruling) (x : Refusal) → r ≡ Refused x → outcome r ≡ o → Refuse x ≡ answer o
+pub refused_refuses : {o : Result (Unit {0}) Refusal} (r : Ruling) (x : Refusal) → r ≡ Refused x → outcome r ≡ o → Refuse x ≡ answer o
 unfolding outcome answer
 refused_refuses r x e h = ap answer (sym (ap outcome e) ∙ h)
 

@@ -12,7 +12,8 @@ ghost use Rattle.checker.specs.Promise.{RefutedBy};
 ghost use Rattle.checker.specs.Stages.{RulesAsked, RulesAnswered};
 
 use sheets::Reading;
-use spec::{Answer, Header, Purpose, Refusal, Ruling};
+use spec::{Answer, Header, Purpose, Refusal};
+use workspace::Ruling;
 
 // 44 and 30 to 33, for the sheets that the work space holds.
 fn check_rules(work: &mut [u32], steps: usize, procedures: usize, header: Header) -> Answer

@@ -1,16 +1,17 @@
 -- Request (vii): with 0 written for an empty start, each line of a split is read as it was, and so the sheet.
+use Rattle.std.proofs.Common.{Option, None, Some, Result, Ok, Err}
 use mathlib.Core.Path.{◌≡◌, refl, ap, sym, ◌∙◌}
 use mathlib.Core.List.{List, [], ◌∷◌, ◌++◌, map}
 use mathlib.Core.Bool.{Bool, true, false, ◌&&◌, not}
-use mathlib.Core.Option.{Option, none, some}
 use Prim.Native.Nat.{ℕ, zero, suc, ◌+◌, ◌≤◌}
 use native.Mathlib.Omega.{arith}
 use lib.Dec.{eqb, ltb}
 use lib.ListN.{length, replicate}
 use borrow.Author.Tests.{ltb-true, lt-ltb, le-leb}
+use Rattle.spec.specs.declared.Refusal.{Refusal}
 use Rattle.spec.specs.Choice.{when◌then◌else◌}
 use Rattle.spec.specs.Text.{bytes, Line, closed, unclosed, lines, Field, on_field, fields, digit_limit, digits, leading_zero, value, numeral}
-use Rattle.spec.specs.Reading.{Result, refuse, ok, ◌>>=◌, LineResult, good, bad, bad_range, seen, below, in_range, all_in_range, with_numeral, numerals, numbers, split_sheet, Place, passed, next_line, read_line, read_lines, begin, end, or_bad_form}
+use Rattle.spec.specs.Reading.{◌>>=◌, LineResult, good, bad, bad_range, seen, below, in_range, all_in_range, with_numeral, numerals, numbers, split_sheet, Place, passed, next_line, read_line, read_lines, begin, end, or_bad_form}
 use Rattle.spec.specs.Words.{takes_start, keeps_back}
 use Rattle.spec.specs.Expression.{Step}
 use Rattle.spec.specs.Program.{Program, program}
@@ -61,21 +62,21 @@ zero_in_range types maps t m = ap (ltb t types &&◌) (by_map (ltb m maps) refl)
     by_map false h = rw h
 
 judged_alike : (t m : ℕ) (b : Bool)
-    → seen (row_of (some (record { 0 = 0 }))) (when b then good (t ∷ m ∷ []) else bad bad_range)
-    ≡ seen (λ ns. row_of (some (nth_map 2 ns)) ns) (when b then good (t ∷ m ∷ 0 ∷ []) else bad bad_range)
+    → seen (row_of (Some (record { 0 = 0 }))) (when b then good (t ∷ m ∷ []) else bad bad_range)
+    ≡ seen (λ ns. row_of (Some (nth_map 2 ns)) ns) (when b then good (t ∷ m ∷ 0 ∷ []) else bad bad_range)
 unfolding seen row_of
 judged_alike t m true = refl
 judged_alike t m false = refl
 
 module _ (H : Header) (s : Step) where
   numbers_alike : (t m : Option ℕ)
-      → seen (row_of (some (record { 0 = 0 }))) (ranged (below H.types ∷ below H.maps ∷ []) (with_numeral t (with_numeral m (some []))))
-      ≡ seen (λ ns. row_of (some (nth_map 2 ns)) ns)
-      (ranged (below H.types ∷ below H.maps ∷ below H.maps ∷ []) (with_numeral t (with_numeral m (some (0 ∷ [])))))
+      → seen (row_of (Some (record { 0 = 0 }))) (ranged (below H.types ∷ below H.maps ∷ []) (with_numeral t (with_numeral m (Some []))))
+      ≡ seen (λ ns. row_of (Some (nth_map 2 ns)) ns)
+      (ranged (below H.types ∷ below H.maps ∷ below H.maps ∷ []) (with_numeral t (with_numeral m (Some (0 ∷ [])))))
   unfolding seen or_bad_form with_numeral
-  numbers_alike none m = refl
-  numbers_alike (some t) none = refl
-  numbers_alike (some t) (some m) =
+  numbers_alike None m = refl
+  numbers_alike (Some t) None = refl
+  numbers_alike (Some t) (Some m) =
       rw (zero_in_range H.types H.maps t m) (judged_alike t m (all_in_range (below H.types ∷ below H.maps ∷ []) (t ∷ m ∷ [])))
 
   -- a spawn's row with an empty start, and the same with 0
@@ -115,24 +116,24 @@ data Alike {A : Type 0} : (reads reads' : List (List Field → LineResult A)) �
       → Alike reads reads' fs gs
       → Alike (read ∷ reads) (read' ∷ reads') (f ∷ fs) gs
 
-bind_assoc : {A B C : Type 0} (m : Result A) (f : A → Result B) (g : B → Result C) → (m >>= f >>= g) ≡ (m >>= λ a. f a >>= g)
+bind_assoc : {A B C : Type 0} (m : Result A Refusal) (f : A → Result B Refusal) (g : B → Result C Refusal) → (m >>= f >>= g) ≡ (m >>= λ a. f a >>= g)
 unfolding ◌>>=◌
-bind_assoc (refuse r) f g = refl
-bind_assoc (ok a) f g = refl
+bind_assoc (Err r) f g = refl
+bind_assoc (Ok a) f g = refl
 
 -- lines read alike, and what comes of the lines behind them alike
 module _ {A B : Type 0} where
-  one_alike : (x : LineResult A) (k : ℕ) (ls ls' : List Line) (more more' : Place → Result (List A × Place)) (go go' : List A × Place → Result B)
+  one_alike : (x : LineResult A) (k : ℕ) (ls ls' : List Line) (more more' : Place → Result (List A × Place) Refusal) (go go' : List A × Place → Result B Refusal)
       → ((a : A) → (more (record { last = k; rest = ls }) >>= λ (as', end). go (a ∷ as', end))
       ≡ (more' (record { last = k; rest = ls' }) >>= λ (as', end). go' (a ∷ as', end)))
-      → (passed split_sheet k ls x >>= (λ (a, after). more after >>= λ (as', end). ok (a ∷ as', end)) >>= go)
-      ≡ (passed split_sheet k ls' x >>= (λ (a, after). more' after >>= λ (as', end). ok (a ∷ as', end)) >>= go')
+      → (passed split_sheet k ls x >>= (λ (a, after). more after >>= λ (as', end). Ok (a ∷ as', end)) >>= go)
+      ≡ (passed split_sheet k ls' x >>= (λ (a, after). more' after >>= λ (as', end). Ok (a ∷ as', end)) >>= go')
   unfolding passed ◌>>=◌
   one_alike (bad w) k ls ls' more more' go go' h = refl
   one_alike (good a) k ls ls' more more' go go' h = bind_assoc (more _) _ go ∙ h a ∙ sym (bind_assoc (more' _) _ go')
 
   all_alike : {reads reads' : List (List Field → LineResult A)} {fs gs : List (List ℕ → List ℕ)} → Alike reads reads' fs gs
-      → (k : ℕ) (ls : List Line) (go go' : List A × Place → Result B)
+      → (k : ℕ) (ls : List Line) (go go' : List A × Place → Result B Refusal)
       → ((as' : List A) (k : ℕ) (rest : List Line) → go (as', record { last = k; rest = rest }) ≡ go' (as', record { last = k; rest = changed_in_turn gs rest }))
       → (read_lines split_sheet reads (record { last = k; rest = ls }) >>= go)
       ≡ (read_lines split_sheet reads' (record { last = k; rest = changed_in_turn fs ls }) >>= go')
@@ -192,7 +193,7 @@ sheets_alike p t t' fits fits' written = rw (le-leb _ _ fits, le-leb _ _ fits') 
     bind_alike _ _ _ λ _ _.
     bind_alike _ _ _ λ P reads.
     bind_alike _ _ _ λ _ _.
-    ap (◌>>= λ S. ok (P, S)) (sheet_alike P t t' (lines t) refl (written P reads)))
+    ap (◌>>= λ S. Ok (P, S)) (sheet_alike P t t' (lines t) refl (written P reads)))
 
 pub zero_keeps_the_answer : ZeroKeepsTheAnswer
 unfolding verdict_with_map_zero verdict_by verdict checked_by checked

@@ -1,9 +1,11 @@
 -- Pairs with an empty start on a spawn: what they used to get, what they get, and that they get with 0 written what they used to get.
+use Rattle.std.proofs.Common.{Result, Ok}
 use mathlib.Core.Path.{◌≡◌, refl}
 use mathlib.Core.List.{List, [], ◌∷◌, map}
 use Prim.Native.String.{String, ◌++◌}
+use Rattle.spec.specs.declared.Refusal.{Refusal}
 use Rattle.spec.specs.Text.{Line, lines}
-use Rattle.spec.specs.Reading.{Result, ok, ◌>>=◌}
+use Rattle.spec.specs.Reading.{◌>>=◌}
 use Rattle.spec.specs.Program.{program}
 use Rattle.spec.specs.Workspace.{workspace_size}
 use Rattle.spec.specs.Verdict.{numbers4, returned}
@@ -28,14 +30,14 @@ unfoldable pub answered_v1 : Pair → Returned
 answered_v1 r = returned (verdict_with_map_zero workspace_size (barred r.program) (barred r.split))
 
 -- the lines of a pair's split, with 0 written
-unfoldable pub lines_written : Pair → Result (List Line)
-lines_written r = program (barred r.program) >>= λ Q. ok (zeros_written Q (lines (barred r.split)))
+unfoldable pub lines_written : Pair → Result (List Line) Refusal
+lines_written r = program (barred r.program) >>= λ Q. Ok (zeros_written Q (lines (barred r.split)))
 
 pub record SpawnsAnswered : Type 0 where
   pub formerly : map answered_v1 (spawns "") ≡ map (λ (r : Pair). r.expected) (spawns "")
   pub now : map found (spawns "") ≡ numbers4 40 6 0 0 ∷ numbers4 40 10 0 0 ∷ numbers4 40 13 0 0 ∷ numbers4 32 2 4 0 ∷ []
   pub with_zero : Answered (spawns "0")
-  pub written : map lines_written (spawns "") ≡ map (λ (r : Pair). ok (lines (barred r.split))) (spawns "0")
+  pub written : map lines_written (spawns "") ≡ map (λ (r : Pair). Ok (lines (barred r.split))) (spawns "0")
 
 pub spawns_answered : SpawnsAnswered
 unfolding start_left row_line_with_map_zero split_by sheets_by checked_by verdict_by verdict_with_map_zero ◌with◌is◌ found Answered P S rows spawning naming spawns answered_v1 write_zero as_it_was on_closed changed_in_turn zeros_behind zeros_written lines_written

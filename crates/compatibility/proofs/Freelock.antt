@@ -1,4 +1,5 @@
 -- Request (x): with `lock` written for `freelock`, each line of a program is read as it was, and so the sheet.
+use Rattle.std.proofs.Common.{Result, Ok, Err}
 use mathlib.Core.Path.{◌≡◌, refl, ap, sym, ◌∙◌}
 use mathlib.Core.List.{List, [], ◌∷◌, map}
 use mathlib.Core.Bool.{Bool, true, false}
@@ -7,9 +8,10 @@ use native.Mathlib.Omega.{arith}
 use lib.Dec.{leb}
 use lib.ListN.{length, drop, length-append, length-drop, length-map}
 use borrow.Author.Tests.{leb-true, le-leb}
+use Rattle.spec.specs.declared.Refusal.{Refusal}
 use Rattle.spec.specs.Choice.{when◌then◌else◌}
 use Rattle.spec.specs.Text.{bytes, same, Line, closed, unclosed, lines, Field, fields, look_up}
-use Rattle.spec.specs.Reading.{Result, refuse, ok, ◌>>=◌, require, LineResult, good, bad, or_bad_form, program_sheet, Place, passed, next_line, read_line, read_lines, begin, end}
+use Rattle.spec.specs.Reading.{◌>>=◌, require, LineResult, good, bad, or_bad_form, program_sheet, Place, passed, next_line, read_line, read_lines, begin, end}
 use Rattle.spec.specs.Words.{leaf_words, cell_words, lock_words, unary_words, words, words_under}
 use Rattle.spec.specs.Expression.{Item}
 use Rattle.spec.specs.Program.{program_limit, Counts, program_headings, count_line, item_line, item_lines, Program, program}
@@ -80,8 +82,8 @@ count_alike = changed_alike count_line count_line refl (λ fs. unfold count_line
 unfoldable changed_place : Place → Place
 changed_place p = record { last = p.last; rest = map (on_closed lock_instead) p.rest }
 
-unfoldable moved : {A : Type 0} → A × Place → Result (A × Place)
-moved (a, p) = ok (a, changed_place p)
+unfoldable moved : {A : Type 0} → A × Place → Result (A × Place) Refusal
+moved (a, p) = Ok (a, changed_place p)
 
 module _ {A : Type 0} where
   passed_moved : (k : ℕ) (rest : List Line) (x : LineResult A)
@@ -103,18 +105,18 @@ module _ {A : Type 0} where
     unfolding read_line changed_place
     next_moved p = line_moved p.last p.rest
 
-    then_moved : (o : Result (A × Place)) (more more' : Place → Result (List A × Place))
+    then_moved : (o : Result (A × Place) Refusal) (more more' : Place → Result (List A × Place) Refusal)
         → ((p : Place) → more' (changed_place p) ≡ (more p >>= moved))
-        → (o >>= moved >>= λ (a, after). more' after >>= λ (as', end). ok (a ∷ as', end))
-        ≡ (o >>= (λ (a, after). more after >>= λ (as', end). ok (a ∷ as', end)) >>= moved)
+        → (o >>= moved >>= λ (a, after). more' after >>= λ (as', end). Ok (a ∷ as', end))
+        ≡ (o >>= (λ (a, after). more after >>= λ (as', end). Ok (a ∷ as', end)) >>= moved)
     unfolding ◌>>=◌ moved
-    then_moved (refuse r) more more' h = refl
-    then_moved (ok (a, p)) more more' h = rw (h p) (behind (more p))
+    then_moved (Err r) more more' h = refl
+    then_moved (Ok (a, p)) more more' h = rw (h p) (behind (more p))
       where
-        behind : (o : Result (List A × Place))
-            → (o >>= moved >>= λ (as', end). ok (a ∷ as', end)) ≡ (o >>= (λ (as', end). ok (a ∷ as', end)) >>= moved)
-        behind (refuse r) = refl
-        behind (ok (as', q)) = refl
+        behind : (o : Result (List A × Place) Refusal)
+            → (o >>= moved >>= λ (as', end). Ok (a ∷ as', end)) ≡ (o >>= (λ (as', end). Ok (a ∷ as', end)) >>= moved)
+        behind (Err r) = refl
+        behind (Ok (as', q)) = refl
 
 items_moved : (h : ProgramHeading) (k n : ℕ) (p : Place)
     → read_lines program_sheet (item_lines h k n) (changed_place p) ≡ (read_lines program_sheet (item_lines_with_freelock h k n) p >>= moved)
@@ -131,15 +133,15 @@ end_moved p = rw (length-map p.rest (on_closed lock_instead)) refl
 
 -- ------------------------------------------------------------------ the sheet
 
-tree_moved : (k : ℕ) (o : Result (List Item × Place)) → (o >>= moved >>= after_items k) ≡ (o >>= after_items k)
+tree_moved : (k : ℕ) (o : Result (List Item × Place) Refusal) → (o >>= moved >>= after_items k) ≡ (o >>= after_items k)
 unfolding ◌>>=◌ moved after_items
-tree_moved k (refuse r) = refl
-tree_moved k (ok (items, p)) = rw (end_moved p) (unfold changed_place in refl)
+tree_moved k (Err r) = refl
+tree_moved k (Ok (items, p)) = rw (end_moved p) (unfold changed_place in refl)
 
-count_moved : (o : Result (Counts × Place)) → (o >>= moved >>= after_count item_lines) ≡ (o >>= after_count item_lines_with_freelock)
+count_moved : (o : Result (Counts × Place) Refusal) → (o >>= moved >>= after_count item_lines) ≡ (o >>= after_count item_lines_with_freelock)
 unfolding ◌>>=◌ moved after_count
-count_moved (refuse r) = refl
-count_moved (ok (N, p)) = unfold changed_place in
+count_moved (Err r) = refl
+count_moved (Ok (N, p)) = unfold changed_place in
     ap (◌>>= after_items N.procedures) (items_moved N.heading (p.last + 1) (N.steps + N.procedures) p)
     ∙ tree_moved N.procedures (read_lines program_sheet (item_lines_with_freelock N.heading (p.last + 1) (N.steps + N.procedures)) p)
 
@@ -216,7 +218,7 @@ pub lock_instead_as_formerly : (room : ℕ) (p s : List ℕ) → length p ≤ pr
 unfolding verdict_with_freelock verdict_by verdict
 lock_instead_as_formerly room p s fits = ap answer (checked_alike room p s fits)
 
-long_refused : (b : Bool) (m : Result (Program × Split)) (f : Program × Split → Result (Unit {0}))
+long_refused : (b : Bool) (m : Result (Program × Split) Refusal) (f : Program × Split → Result (Unit {0}) Refusal)
     → judged_by_rules (answer (require b ShortWorkspace >>= λ enough. (require false LongProgram >>= λ fits. m) >>= f)) ≡ false
 unfolding judged_by_rules answer returned numbers4 require ◌>>=◌
 long_refused true m f = refl

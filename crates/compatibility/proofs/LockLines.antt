@@ -1,10 +1,10 @@
 -- A `C2` sheet and the same sheet under `C3`, with each `lock,k,0` written `lock,k,k`, get the same answer. The second is read as the first
 -- but for its heading, which no condition looks at.
+use Rattle.std.proofs.Common.{Option, None, Some, Ok}
 use mathlib.Core.Path.{◌≡◌, refl, sym, ap, ◌∙◌}
 use mathlib.Core.Path.{subst as along}
 use mathlib.Core.List.{List, [], ◌∷◌, map}
 use mathlib.Core.Bool.{Bool, true, false, ◌&&◌}
-use mathlib.Core.Option.{Option, none, some}
 use Prim.Native.Nat.{ℕ, zero, suc, ◌+◌, ◌≤◌}
 use native.Mathlib.Omega.{arith}
 use lib.Dec.{ltb}
@@ -12,7 +12,7 @@ use lib.ListN.{length}
 use borrow.Author.Tests.{le-leb}
 use Rattle.spec.specs.Choice.{when◌then◌else◌}
 use Rattle.spec.specs.Text.{bytes, same, Line, closed, lines, Field, look_up, numeral}
-use Rattle.spec.specs.Reading.{ok, ◌>>=◌, good, bad, bad_range, seen, ◌to◌, below, in_range, all_in_range, with_numeral, numerals, numbers, or_bad_form}
+use Rattle.spec.specs.Reading.{◌>>=◌, good, bad, bad_range, seen, ◌to◌, below, in_range, all_in_range, with_numeral, numerals, numbers, or_bad_form}
 use Rattle.spec.specs.Expression.{Step}
 use Rattle.spec.specs.Program.{Program}
 use Rattle.spec.specs.Split.{headings, header_ranges, start_of, header_of, header_line, lock_of, out_range, type_line, type_lines, map_line, signature_line, start_range, may_be_empty, post_range, row_line, Split, split, split_limit}
@@ -35,12 +35,12 @@ use Rattle.compatibility.proofs.NoHeading.{headed_as, under, ruling, same_ruling
 module _ (maps : ℕ) where
   -- the numbers of the one and of the other
   out_numbers : (k z : Option ℕ) (x : TypeLine)
-      → seen (lock_of C2) (ranged (below maps ∷ (0 to 0) ∷ []) (with_numeral k (with_numeral z (some [])))) ≡ good x
-      → seen (lock_of C3) (ranged (below maps ∷ below maps ∷ []) (with_numeral k (with_numeral k (some [])))) ≡ good x
+      → seen (lock_of C2) (ranged (below maps ∷ (0 to 0) ∷ []) (with_numeral k (with_numeral z (Some [])))) ≡ good x
+      → seen (lock_of C3) (ranged (below maps ∷ below maps ∷ []) (with_numeral k (with_numeral k (Some [])))) ≡ good x
   unfolding with_numeral or_bad_form seen all_in_range in_range lock_of
-  out_numbers none z x h = wrong_is_not_right h
-  out_numbers (some k) none x h = wrong_is_not_right h
-  out_numbers (some k) (some z) x h = in_range_lem (ltb k maps) (in_range (0 to 0) z && true) h
+  out_numbers None z x h = wrong_is_not_right h
+  out_numbers (Some k) None x h = wrong_is_not_right h
+  out_numbers (Some k) (Some z) x h = in_range_lem (ltb k maps) (in_range (0 to 0) z && true) h
     where
       in_range_lem : (a b : Bool) → seen (lock_of C2) (when a && b then good (k ∷ z ∷ []) else bad bad_range) ≡ good x
           → seen (lock_of C3) (when a && (a && true) then good (k ∷ k ∷ []) else bad bad_range) ≡ good x
@@ -150,7 +150,7 @@ module _ (P : Program) (S : Split) where
                 (λ i. map (λ s fs. sym (same_row S.header second s fs) i) P.steps) w.rowed;
           }
 
-sheet_alike : (P : Program) (S : Split) (t t' : List ℕ) → length t ≤ split_limit → length t' ≤ split_limit → split Check P t ≡ ok S
+sheet_alike : (P : Program) (S : Split) (t t' : List ℕ) → length t ≤ split_limit → length t' ≤ split_limit → split Check P t ≡ Ok S
     → WrittenOut S.header.types (lines t) (lines t') → (split Check P t >>= ruling P) ≡ (split Check P t' >>= ruling P)
 unfolding ◌>>=◌
 sheet_alike P S t t' fits fits' read out =

@@ -1,12 +1,13 @@
 -- 44 and 30 to 33 do not look at the heading: two splits that differ in nothing else get the same outcome.
+use Rattle.std.proofs.Common.{Option, None, Some, Result}
 use mathlib.Core.Path.{◌≡◌, refl, ap, ◌∙◌}
 use mathlib.Core.List.{List, [], ◌∷◌, ◌++◌, map}
 use mathlib.Core.Bool.{Bool, ◌&&◌}
-use mathlib.Core.Option.{Option, none, some}
 use Prim.Native.Nat.{ℕ, ◌+◌}
 use lib.ListN.{get_or}
+use Rattle.spec.specs.declared.Refusal.{Refusal}
 use Rattle.spec.specs.Choice.{when◌then◌else◌}
-use Rattle.spec.specs.Reading.{Result, ◌>>=◌, require}
+use Rattle.spec.specs.Reading.{◌>>=◌, require}
 use Rattle.spec.specs.Words.{role, binding, pre_of_part, pre_of_second}
 use Rattle.spec.specs.Expression.{Expr, leaf, unary, binary, Procedure}
 use Rattle.spec.specs.Program.{Program}
@@ -42,7 +43,7 @@ unfoldable pub under : Heading → Split → Split
 under h S = record { header = headed_as h S.header; types = S.types; maps = S.maps; signatures = S.signatures; rows = S.rows }
 
 -- 44, 30 and 31 to 33
-unfoldable pub ruling : Program → Split → Result (Unit {0})
+unfoldable pub ruling : Program → Split → Result (Unit {0}) Refusal
 ruling P S = locks_take_enough S >>= λ locks. start_at_most_one P S >>= λ whole. conditions_hold P S
 
 module _ (h : Heading) (S : Split) where
@@ -82,7 +83,7 @@ module _ (h : Heading) (S : Split) where
   same_all_enough k [] = refl
   same_all_enough k (x ∷ xs) =
       ap (λ (b : Bool). require b (LockTakesLess k) >>= λ enough. all_take_enough (under h S) (k + 1) xs) (same_enough x)
-      ∙ ap (λ (o : Result (Unit {0})). require (takes_enough S x) (LockTakesLess k) >>= λ enough. o) (same_all_enough (k + 1) xs)
+      ∙ ap (λ (o : Result (Unit {0}) Refusal). require (takes_enough S x) (LockTakesLess k) >>= λ enough. o) (same_all_enough (k + 1) xs)
 
   same_locks : locks_take_enough (under h S) ≡ locks_take_enough S
   unfolding locks_take_enough under
@@ -96,8 +97,8 @@ module _ (h : Heading) (S : Split) where
 
   same_start_in : (o : Option MapNumber) → start_or (under h S) o ≡ start_or S o
   unfolding start_or map_at under headed_as
-  same_start_in none = refl
-  same_start_in (some m) = refl
+  same_start_in None = refl
+  same_start_in (Some m) = refl
 
   module _ (Γ : Env) (pre : Map) (e : Expr) where
     same_type : (t : TypeTerm) → type_term (under h S) Γ pre e t ≡ type_term S Γ pre e t

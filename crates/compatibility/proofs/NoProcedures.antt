@@ -1,16 +1,17 @@
 -- A `P` sheet and the `P2` sheet of the same steps and no procedures get the same answer, if no line has the word `proc` or `call`, which
 -- a `P` sheet does not know. Line 1 says the same of both; behind it each line is read alike.
+use Rattle.std.proofs.Common.{Option, None, Some, Result, Ok}
 use mathlib.Core.Path.{◌≡◌, refl, sym, ap, ◌∙◌}
 use mathlib.Core.List.{List, [], ◌∷◌, ◌++◌}
 use mathlib.Core.Bool.{Bool, true, false, ◌||◌}
-use mathlib.Core.Option.{Option, none, some}
 use Prim.Native.Nat.{ℕ, zero, suc, ◌+◌, ◌≤◌}
 use native.Mathlib.Omega.{arith}
 use lib.ListN.{length, length-append}
 use borrow.Author.Tests.{le-leb, ne_eqb}
+use Rattle.spec.specs.declared.Refusal.{Refusal}
 use Rattle.spec.specs.Choice.{when◌then◌else◌}
 use Rattle.spec.specs.Text.{bytes, same, Line, closed, unclosed, lines, Field, on_field, fields, look_up}
-use Rattle.spec.specs.Reading.{Result, ok, ◌>>=◌, program_sheet, LineResult, good, bad, bad_range, freelock, seen, refuse_after, ◌to◌, in_range, all_in_range, numerals, numbers, Place, passed, next_line, read_line, read_lines, or_bad_form}
+use Rattle.spec.specs.Reading.{◌>>=◌, program_sheet, LineResult, good, bad, bad_range, freelock, seen, refuse_after, ◌to◌, in_range, all_in_range, numerals, numbers, Place, passed, next_line, read_line, read_lines, or_bad_form}
 use Rattle.spec.specs.Words.{words, words_under}
 use Rattle.spec.specs.Expression.{Item, Procedure}
 use Rattle.spec.specs.Program.{program_limit, Counts, program_headings, count_ranges, procedures_of, counts_of, count_line, word_line, proc_line, item_line, item_lines, Program, program}
@@ -38,15 +39,15 @@ under_p2 N = record { heading = P2; steps = N.steps; procedures = N.procedures }
 judged : (o : Option (List ℕ))
     → seen (counts_of P2) (ranged (count_ranges P2) (with_zero o)) ≡ seen under_p2 (seen (counts_of P) (ranged (count_ranges P) o))
 unfolding with_zero or_bad_form seen count_ranges all_in_range in_range counts_of procedures_of under_p2
-judged none = refl
-judged (some []) = refl
-judged (some (n ∷ [])) = go (all_in_range (count_ranges P) (n ∷ []))
+judged None = refl
+judged (Some []) = refl
+judged (Some (n ∷ [])) = go (all_in_range (count_ranges P) (n ∷ []))
   where
     go : (x : Bool) → seen (counts_of P2) (when x then good (n ∷ 0 ∷ []) else bad bad_range)
         ≡ seen under_p2 (seen (counts_of P) (when x then good (n ∷ []) else bad bad_range))
     go true = refl
     go false = refl
-judged (some (n ∷ k ∷ ns)) =
+judged (Some (n ∷ k ∷ ns)) =
     rw (
       ne_eqb (length (n ∷ k ∷ ns)) 1 (λ e. omega (arith, e)),
       ne_eqb (length (n ∷ k ∷ ns ++ 0 ∷ [])) 2 (λ e. omega (arith, e, length-append ns (0 ∷ []))),
@@ -80,7 +81,7 @@ item_same k (f ∷ fs) h = by_word (same f (bytes "proc")) (same (bytes "call") 
   where
     by_word : (b c : Bool) → (b || c) ≡ false
         → (when same f (bytes "freelock") then refuse_after freelock (numbers ((0 to 0) ∷ []) fs)
-        else when b then proc_line P2 k fs else or_bad_form (when c then some (Unary Call) else look_up words f) λ w. word_line k w fs)
+        else when b then proc_line P2 k fs else or_bad_form (when c then Some (Unary Call) else look_up words f) λ w. word_line k w fs)
         ≡ (when same f (bytes "freelock") then refuse_after freelock (numbers ((0 to 0) ∷ []) fs)
         else when b then proc_line P k fs else or_bad_form (look_up words f) λ w. word_line k w fs)
     by_word true c h = true_is_not_false h
@@ -88,12 +89,12 @@ item_same k (f ∷ fs) h = by_word (same f (bytes "proc")) (same (bytes "call") 
     by_word false false h = refl
 
 -- an item found alike, and the lines behind it read alike
-then_same : (k : ℕ) (rest : List Line) (x : LineResult Item) (more more' : Place → Result (List Item × Place))
+then_same : (k : ℕ) (rest : List Line) (x : LineResult Item) (more more' : Place → Result (List Item × Place) Refusal)
     → more (record { last = k; rest = rest }) ≡ more' (record { last = k; rest = rest })
-    → ◌≡◌ {A = Result (List Item × Place)} (passed program_sheet k rest x >>= λ (a, after). more after >>= λ (as', end). ok (a ∷ as', end))
-    (passed program_sheet k rest x >>= λ (a, after). more' after >>= λ (as', end). ok (a ∷ as', end))
+    → ◌≡◌ {A = Result (List Item × Place) Refusal} (passed program_sheet k rest x >>= λ (a, after). more after >>= λ (as', end). Ok (a ∷ as', end))
+    (passed program_sheet k rest x >>= λ (a, after). more' after >>= λ (as', end). Ok (a ∷ as', end))
 unfolding passed ◌>>=◌
-then_same k rest (good a) more more' h = ap (λ (o : Result (List Item × Place)). o >>= λ (as', end). ok (a ∷ as', end)) h
+then_same k rest (good a) more more' h = ap (λ (o : Result (List Item × Place) Refusal). o >>= λ (as', end). Ok (a ∷ as', end)) h
 then_same k rest (bad w) more more' h = refl
 
 items_same : (k n last : ℕ) (ls : List Line) → NoNewWords ls

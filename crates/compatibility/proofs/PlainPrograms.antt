@@ -1,12 +1,12 @@
 -- Request (xiv): behind a line 1 headed `P` each line of a program is read as it was; another line 1 was of the wrong form.
+use Rattle.std.proofs.Common.{Option, Some, Result}
 use mathlib.Core.Path.{◌≡◌, refl, ap, sym}
 use mathlib.Core.List.{List, [], ◌∷◌}
 use mathlib.Core.Bool.{Bool, true, false}
-use mathlib.Core.Option.{Option, some}
 use Prim.Native.Nat.{ℕ, zero, suc, ◌+◌}
 use Rattle.spec.specs.Choice.{when◌then◌else◌}
 use Rattle.spec.specs.Text.{bytes, same as same_bytes, Line, closed, unclosed, lines, Field, fields, look_up}
-use Rattle.spec.specs.Reading.{Result, ◌>>=◌, Fault, bad_form, LineResult, good, bad, freelock, refuse_after, ◌to◌, numbers, program_sheet, form, faulty, passed, next_line, read_line, begin, or_bad_form, seen}
+use Rattle.spec.specs.Reading.{◌>>=◌, Fault, bad_form, LineResult, good, bad, freelock, refuse_after, ◌to◌, numbers, program_sheet, form, faulty, passed, next_line, read_line, begin, or_bad_form, seen}
 use Rattle.spec.specs.Words.{leaf_words, unary_words, cell_words, lock_words, hold_words, binary_words, words, words_under}
 use Rattle.spec.specs.Expression.{Item}
 use Rattle.spec.specs.Program.{Counts, program_headings, counts_of, count_line, word_line, proc_line, item_line, item_lines, program, count_ranges}
@@ -68,7 +68,7 @@ count_alike (f ∷ fs) = by_heading (same_bytes (bytes "P") f) _
         plain_read N (sym (ap (λ (x : Counts). x.heading) is))
 
     by_heading : (b : Bool) (other : Option ProgramHeading) → CountAlike (when b then seen (counts_of P) (numbers (count_ranges P) fs) else bad bad_form)
-        (or_bad_form (when b then some P else other) λ h. seen (counts_of h) (numbers (count_ranges h) fs))
+        (or_bad_form (when b then Some P else other) λ h. seen (counts_of h) (numbers (count_ranges h) fs))
     by_heading true other = headed _ refl
     by_heading false other = refused _
 
@@ -105,6 +105,6 @@ pub plain_programs_stay : PlainProgramsStay
 unfolding verdict_of_plain verdict_by verdict
 plain_programs_stay room p s = by_cases (checked_alike room p s)
   where
-    by_cases : {o o' : Result (Unit {0})} → Unless Gone o o' → (answer o ≡ Refuse (ProgramForm 1) → ⊥) → answer o' ≡ answer o
+    by_cases : {o o' : Result (Unit {0}) Refusal} → Unless Gone o o' → (answer o ≡ Refuse (ProgramForm 1) → ⊥) → answer o' ≡ answer o
     by_cases same h = refl
     by_cases (gone e) h = unfold answer in absurd (h (ap Refuse e))

@@ -1,4 +1,5 @@
 -- Request (iii): a line that was not refused on form or on range is read as it was, and so the sheets.
+use Rattle.std.proofs.Common.{Result}
 use mathlib.Core.Path.{◌≡◌, refl}
 use mathlib.Core.List.{List}
 use mathlib.Core.Bool.{Bool, true, false}
@@ -6,7 +7,7 @@ use Prim.Native.Nat.{ℕ}
 use lib.ListN.{length}
 use Rattle.spec.specs.Choice.{when◌then◌else◌}
 use Rattle.spec.specs.Text.{Field}
-use Rattle.spec.specs.Reading.{Result, Fault, bad_form, bad_range, LineResult, good, bad, program_sheet, split_sheet, SheetName, form, outside, faulty}
+use Rattle.spec.specs.Reading.{Fault, bad_form, bad_range, LineResult, good, bad, program_sheet, split_sheet, SheetName, form, outside, faulty}
 use Rattle.spec.specs.Program.{Program, program, count_line, item_lines}
 use Rattle.spec.specs.Split.{header_line, type_lines, map_line, signature_line, row_line, split}
 use Rattle.spec.specs.Verdict.{sheets, conditions_hold, checked, answer, verdict}
@@ -105,6 +106,6 @@ pub other_ranges_stay : OtherRangesStay
 unfolding verdict_by_seven verdict_by verdict
 other_ranges_stay room p s = by_cases (checked_alike room p s)
   where
-    by_cases : {o o' : Result (Unit {0})} → Unless Gone o o' → (OnFormOrRange (answer o) → ⊥) → answer o' ≡ answer o
+    by_cases : {o o' : Result (Unit {0}) Refusal} → Unless Gone o o' → (OnFormOrRange (answer o) → ⊥) → answer o' ≡ answer o
     by_cases same h = refl
     by_cases (gone w) h = unfold answer in absurd (h w)

@@ -1,18 +1,19 @@
 -- A `C` sheet and the `C2` sheet that names map 0 for the start get the same answer, unless the `C` sheet is turned away by 40: where
 -- it leaves out the start of a spawn, the `C2` sheet means something else.
+use Rattle.std.proofs.Common.{Option, None, Some, Result, Ok, Err}
 use mathlib.Core.Path.{◌≡◌, refl, sym, ap, ◌∙◌}
 use mathlib.Core.Path.{subst as along}
 use mathlib.Core.List.{List, [], ◌∷◌, ◌++◌, map}
 use mathlib.Core.Bool.{Bool, true, false}
-use mathlib.Core.Option.{Option, none, some}
 use Prim.Native.Nat.{ℕ, zero, suc, ◌≤◌, ◌+◌}
 use native.Mathlib.Omega.{arith}
 use lib.Dec.{leb}
 use lib.ListN.{length, replicate, length-append}
 use borrow.Author.Tests.{le-leb, ne_eqb}
+use Rattle.spec.specs.declared.Refusal.{Refusal}
 use Rattle.spec.specs.Choice.{when◌then◌else◌}
 use Rattle.spec.specs.Text.{bytes, same, Line, closed, unclosed, lines, Field, on_field, fields, look_up}
-use Rattle.spec.specs.Reading.{split_sheet, Result, refuse, ok, ◌>>=◌, require, no_start, LineResult, good, bad, bad_range, seen, ensure, all_in_range, numerals, numbers, faulty, passed, next_line, read_line, read_lines, begin, end, Place, or_bad_form}
+use Rattle.spec.specs.Reading.{split_sheet, ◌>>=◌, require, no_start, LineResult, good, bad, bad_range, seen, ensure, all_in_range, numerals, numbers, faulty, passed, next_line, read_line, read_lines, begin, end, Place, or_bad_form}
 use Rattle.spec.specs.Expression.{Step}
 use Rattle.spec.specs.Words.{keeps_back}
 use Rattle.spec.specs.Program.{Program, program_limit, program}
@@ -41,12 +42,12 @@ use Rattle.spec.specs.declared.Purpose.TheVariants.{Check}
 judged : (o : Option (List ℕ))
     → seen (header_of C2) (ranged (header_ranges C2 (maps_in (with_zero o))) (with_zero o)) ≡ seen (headed_as C2) (seen (header_of C) (ranged (header_ranges C (maps_in o)) o))
 unfolding with_zero maps_in or_bad_form seen header_ranges maps_of header_of start_of headed_as
-judged none = refl
-judged (some []) = refl
-judged (some (d ∷ [])) = refl
-judged (some (d ∷ l ∷ [])) = refl
-judged (some (d ∷ l ∷ t ∷ [])) = refl
-judged (some (d ∷ l ∷ t ∷ m ∷ [])) =
+judged None = refl
+judged (Some []) = refl
+judged (Some (d ∷ [])) = refl
+judged (Some (d ∷ l ∷ [])) = refl
+judged (Some (d ∷ l ∷ t ∷ [])) = refl
+judged (Some (d ∷ l ∷ t ∷ m ∷ [])) =
     ap (λ (x : Bool). seen (header_of C2) (when x then good (d ∷ l ∷ t ∷ m ∷ 0 ∷ []) else bad bad_range)) (sym (first_map_fits d l t m))
     ∙ go (all_in_range (header_ranges C m) (d ∷ l ∷ t ∷ m ∷ []))
   where
@@ -54,7 +55,7 @@ judged (some (d ∷ l ∷ t ∷ m ∷ [])) =
         ≡ seen (headed_as C2) (seen (header_of C) (when x then good (d ∷ l ∷ t ∷ m ∷ []) else bad bad_range))
     go true = refl
     go false = refl
-judged (some (d ∷ l ∷ t ∷ m ∷ r ∷ ns)) =
+judged (Some (d ∷ l ∷ t ∷ m ∷ r ∷ ns)) =
     rw (
       ne_eqb (length (d ∷ l ∷ t ∷ m ∷ r ∷ ns)) 4 (λ e. omega (arith, e)),
       ne_eqb (length (d ∷ l ∷ t ∷ m ∷ r ∷ ns ++ 0 ∷ [])) 5 (λ e. omega (arith, e, length-append ns (0 ∷ []))),
@@ -127,29 +128,29 @@ module _ (H : Header) where
   row_alike s (t ∷ m ∷ f ∷ g ∷ fs) = same_row refl
 
 -- an outcome that is not stopped by 40
-Started : {A : Type 0} → Result A → Type 0
-Started o = (k : ℕ) → o ≡ refuse (NoStart k) → ⊥
+Started : {A : Type 0} → Result A Refusal → Type 0
+Started o = (k : ℕ) → o ≡ Err (NoStart k) → ⊥
 
 -- two outcomes that go on alike from whatever was found, but for 40
-same_on : {A B E : Type 0} (o : Result A) (f g : A → Result B) (j k : B → Result E) → ((a : A) → Started (g a >>= k) → (f a >>= j) ≡ (g a >>= k))
+same_on : {A B E : Type 0} (o : Result A Refusal) (f g : A → Result B Refusal) (j k : B → Result E Refusal) → ((a : A) → Started (g a >>= k) → (f a >>= j) ≡ (g a >>= k))
     → Started (o >>= g >>= k) → (o >>= f >>= j) ≡ (o >>= g >>= k)
 unfolding ◌>>=◌
-same_on (refuse r) f g j k h started = refl
-same_on (ok a) f g j k h started = h a started
+same_on (Err r) f g j k h started = refl
+same_on (Ok a) f g j k h started = h a started
 
-same_then : {A B : Type 0} (o : Result A) (f g : A → Result B) → ((a : A) → Started (g a) → f a ≡ g a) → Started (o >>= g) → (o >>= f) ≡ (o >>= g)
+same_then : {A B : Type 0} (o : Result A Refusal) (f g : A → Result B Refusal) → ((a : A) → Started (g a) → f a ≡ g a) → Started (o >>= g) → (o >>= f) ≡ (o >>= g)
 unfolding ◌>>=◌
-same_then (refuse r) f g h started = refl
-same_then (ok a) f g h started = h a started
+same_then (Err r) f g h started = refl
+same_then (Ok a) f g h started = h a started
 
-first_started : {A B : Type 0} (o : Result A) (f : A → Result B) → Started (o >>= f) → Started o
+first_started : {A B : Type 0} (o : Result A Refusal) (f : A → Result B Refusal) → Started (o >>= f) → Started o
 unfolding ◌>>=◌ Started
 first_started o f started k e = started k (rw e)
 
 -- ------------------------------------------------------------------ the rows
 
 module _ (H : Header) where
-  away : {x : LineResult Row} (k : ℕ) (ls : List Line) → x ≡ bad no_start → passed split_sheet k ls x ≡ refuse (NoStart k)
+  away : {x : LineResult Row} (k : ℕ) (ls : List Line) → x ≡ bad no_start → passed split_sheet k ls x ≡ Err (NoStart k)
   unfolding passed faulty
   away k ls e = rw e
 
@@ -178,21 +179,21 @@ module _ (H : Header) where
 
 -- from the header on, stage by stage
 module _ (P : Program) (H : Header) where
-  unfoldable after_rows : List TypeLine → List Map → List Signature → List Row × Place → Result Split
+  unfoldable after_rows : List TypeLine → List Map → List Signature → List Row × Place → Result Split Refusal
   after_rows types maps signatures (rows, p) = do
     done ← end split_sheet p
-    ok (record { header = H; types = types; maps = maps; signatures = signatures; rows = rows })
+    Ok (record { header = H; types = types; maps = maps; signatures = signatures; rows = rows })
 
-  unfoldable after_signatures : List TypeLine → List Map → List Signature × Place → Result Split
+  unfoldable after_signatures : List TypeLine → List Map → List Signature × Place → Result Split Refusal
   after_signatures types maps (signatures, p) = read_lines split_sheet (map (row_line Check H) P.steps) p >>= after_rows types maps signatures
 
-  unfoldable after_maps : List TypeLine → List Map × Place → Result Split
+  unfoldable after_maps : List TypeLine → List Map × Place → Result Split Refusal
   after_maps types (maps, p) = read_lines split_sheet (replicate (length P.procedures) (signature_line H)) p >>= after_signatures types maps
 
-  unfoldable after_types : List TypeLine × Place → Result Split
+  unfoldable after_types : List TypeLine × Place → Result Split Refusal
   after_types (types, p) = read_lines split_sheet (replicate H.maps (map_line H)) p >>= after_maps types
 
-  unfoldable after_header : Place → Result Split
+  unfoldable after_header : Place → Result Split Refusal
   after_header p = read_lines split_sheet (type_lines H 0 H.types) p >>= after_types
 
 module _ (P : Program) (H : Header) (plain : H.heading ≡ C) where
@@ -209,7 +210,7 @@ module _ (P : Program) (H : Header) (plain : H.heading ≡ C) where
       → (after_signatures P (headed_as C2 H) types maps x >>= ruling P) ≡ (after_signatures P H types maps x >>= ruling P)
   unfolding after_signatures
   signatures_same types maps (signatures, p) started =
-      ap (λ (o : Result (List Row × Place)). o >>= after_rows P (headed_as C2 H) types maps signatures >>= ruling P)
+      ap (λ (o : Result (List Row × Place) Refusal). o >>= after_rows P (headed_as C2 H) types maps signatures >>= ruling P)
       (rows_alike H P.steps p (first_started _ _ (first_started _ (ruling P) started)))
       ∙ same_on (read_lines split_sheet (map (row_line Check H) P.steps) p) _ _ (ruling P) (ruling P) (rows_same types maps signatures) started
 
@@ -235,7 +236,7 @@ module _ (P : Program) (H : Header) (plain : H.heading ≡ C) where
 
 -- ------------------------------------------------------------------ the sheet
 
-unfoldable behind : Program → Header × Place → Result Split
+unfoldable behind : Program → Header × Place → Result Split Refusal
 behind P (H, p) = after_header P H p
 
 by_lines : (P : Program) (l t : List ℕ) → OneLine l
@@ -264,11 +265,11 @@ module _ (a t : List ℕ) (one : OneLine a) where
   sheet_same : (P : Program) → Started (split Check P (header_unnamed a above t) >>= ruling P)
       → (split Check P (header_named a above t) >>= ruling P) ≡ (split Check P (header_unnamed a above t) >>= ruling P)
   sheet_same P started =
-      ap (λ (o : Result Split). o >>= ruling P) (by_lines P (header_named a) t named_line)
+      ap (λ (o : Result Split Refusal). o >>= ruling P) (by_lines P (header_named a) t named_line)
       ∙ ap (λ (s : LineResult Header). passed split_sheet 1 (lines t) s >>= behind P >>= ruling P) (line_named a)
       ∙ passed_same P (lines t) (header_line Check (fields (header_unnamed a))) (line_plain a)
-      (along Started (ap (λ (o : Result Split). o >>= ruling P) (by_lines P (header_unnamed a) t unnamed_line)) started)
-      ∙ sym (ap (λ (o : Result Split). o >>= ruling P) (by_lines P (header_unnamed a) t unnamed_line))
+      (along Started (ap (λ (o : Result Split Refusal). o >>= ruling P) (by_lines P (header_unnamed a) t unnamed_line)) started)
+      ∙ sym (ap (λ (o : Result Split Refusal). o >>= ruling P) (by_lines P (header_unnamed a) t unnamed_line))
 
   module _ (fits : length (header_named a above t) ≤ split_limit) where
     shorter : length (header_unnamed a above t) ≤ split_limit

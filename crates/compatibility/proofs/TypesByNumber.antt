@@ -1,10 +1,12 @@
 -- Request (i): the conditions hold where they held with types compared by their numbers.
+use Rattle.std.proofs.Common.{Result, Ok}
 use mathlib.Core.Path.{◌≡◌, ap}
 use mathlib.Core.List.{List, [], ◌∷◌, map}
 use mathlib.Core.Bool.{true}
 use Prim.Native.Nat.{ℕ, ◌+◌}
 use borrow.Author.Tests.{eqb-true}
-use Rattle.spec.specs.Reading.{Result, ok, ◌>>=◌}
+use Rattle.spec.specs.declared.Refusal.{Refusal}
+use Rattle.spec.specs.Reading.{◌>>=◌}
 use Rattle.spec.specs.Expression.{Expr, Procedure}
 use Rattle.spec.specs.Program.{Program, program}
 use Rattle.spec.specs.Split.{Map, Split, split}
@@ -101,12 +103,12 @@ module _ (S : Split) where
       (claims_hold (step_contexts S [] (start_map S) P.root) root)
 
 -- what goes on after m by one continuation does so by another
-goes_on_too : {A B : Type 0} {b : B} (m : Result A) (f g : A → Result B) → ((a : A) → f a ≡ ok b → g a ≡ ok b) → (m >>= f) ≡ ok b → (m >>= g) ≡ ok b
+goes_on_too : {A B : Type 0} {b : B} (m : Result A Refusal) (f g : A → Result B Refusal) → ((a : A) → f a ≡ Ok b → g a ≡ Ok b) → (m >>= f) ≡ Ok b → (m >>= g) ≡ Ok b
 goes_on_too m f g too h =
     let (a, e, k) = bind_goes_on m f h in
     goes_on_bind m g e (too a k)
 
-checked_too : (room : ℕ) (p s : List ℕ) → checked_by program (split Check) ruled_by_number room p s ≡ ok tt → checked room p s ≡ ok tt
+checked_too : (room : ℕ) (p s : List ℕ) → checked_by program (split Check) ruled_by_number room p s ≡ Ok tt → checked room p s ≡ Ok tt
 unfolding checked_by sheets_by checked sheets ruled_by_number conditions_hold
 checked_too room p s =
     goes_on_too _ _ _ λ _.

@@ -1,21 +1,22 @@
 -- Two outcomes that are the same unless the first, a former one, was stopped by a refusal of a kind that is gone: what is read or judged
 -- behind them is so too.
+use Rattle.std.proofs.Common.{Result, Ok, Err}
 use mathlib.Core.List.{List, [], ◌∷◌, map}
 use Prim.Native.Nat.{ℕ, zero, suc, ◌+◌}
 use lib.ListN.{replicate}
 use Rattle.spec.specs.Text.{Line, closed, unclosed, Field, fields}
-use Rattle.spec.specs.Reading.{Result, refuse, ok, ◌>>=◌, Fault, LineResult, bad, SheetName, faulty, Place, passed, next_line, read_line, read_lines}
+use Rattle.spec.specs.Reading.{◌>>=◌, Fault, LineResult, bad, SheetName, faulty, Place, passed, next_line, read_line, read_lines}
 use Rattle.spec.specs.declared.Refusal.{Refusal}
 
 module _ (Gone : Refusal → Type 0) where
-  pub data Unless {A : Type 0} : (former now : Result A) → Type 0 where
-    same : {o : Result A} → Unless o o
-    gone : {r : Refusal} {o : Result A} → Gone r → Unless (refuse r) o
+  pub data Unless {A : Type 0} : (former now : Result A Refusal) → Type 0 where
+    same : {o : Result A Refusal} → Unless o o
+    gone : {r : Refusal} {o : Result A Refusal} → Gone r → Unless (Err r) o
 
-  pub then_unless : {A B : Type 0} {o o' : Result A} (f g : A → Result B) → Unless o o' → ((a : A) → Unless (f a) (g a)) → Unless (o >>= f) (o' >>= g)
+  pub then_unless : {A B : Type 0} {o o' : Result A Refusal} (f g : A → Result B Refusal) → Unless o o' → ((a : A) → Unless (f a) (g a)) → Unless (o >>= f) (o' >>= g)
   unfolding ◌>>=◌
-  then_unless f g (same {o = refuse r}) h = same
-  then_unless f g (same {o = ok a}) h = h a
+  then_unless f g (same {o = Err r}) h = same
+  then_unless f g (same {o = Ok a}) h = h a
   then_unless f g (gone w) h = gone w
 
   -- what two readers show of a line, the former first, for a sheet some of whose faults are gone

@@ -1,7 +1,7 @@
 -- A line with one field more, a `0`: its numerals, and that it is one line.
+use Rattle.std.proofs.Common.{Option, None, Some}
 use mathlib.Core.Path.{◌≡◌, refl, ap, ◌∙◌}
 use mathlib.Core.List.{List, [], ◌∷◌, ◌++◌}
-use mathlib.Core.Option.{Option, none, some}
 use Prim.Native.Nat.{ℕ, ◌<◌}
 use native.Mathlib.Omega.{arith}
 use Rattle.spec.specs.Text.{Field, digit_limit, digits, leading_zero, value, numeral}
@@ -9,16 +9,16 @@ use Rattle.spec.specs.Reading.{with_numeral, numerals}
 use Rattle.compatibility.specs.Texts.{OneLine}
 
 unfoldable pub with_zero : Option (List ℕ) → Option (List ℕ)
-with_zero none = none
-with_zero (some ns) = some (ns ++ 0 ∷ [])
+with_zero None = None
+with_zero (Some ns) = Some (ns ++ 0 ∷ [])
 
 zero_behind : (n : Option ℕ) (o : Option (List ℕ)) → with_numeral n (with_zero o) ≡ with_zero (with_numeral n o)
 unfolding with_numeral with_zero
-zero_behind none o = refl
-zero_behind (some n) none = refl
-zero_behind (some n) (some ns) = refl
+zero_behind None o = refl
+zero_behind (Some n) None = refl
+zero_behind (Some n) (Some ns) = refl
 
-zero_numeral : numeral (48 ∷ []) ≡ some 0
+zero_numeral : numeral (48 ∷ []) ≡ Some 0
 unfolding numeral digit_limit digits leading_zero value
 zero_numeral = refl
 

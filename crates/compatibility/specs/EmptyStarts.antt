@@ -1,9 +1,8 @@
 -- Request (vii), "A spawn with no start given". Before it an empty start meant map 0.
-use Rattle.std.specs.Prelude.{◌≡◌, List, [], ◌∷◌, ◌++◌, map, Bool, false, ◌&&◌, not, ℕ, ◌≤◌, length, replicate, take}
-use Rattle.std.proofs.Math.Option.{some}
+use Rattle.std.specs.Prelude.{◌≡◌, List, [], ◌∷◌, ◌++◌, map, Bool, false, ◌&&◌, not, ℕ, ◌≤◌, length, replicate, take, Some, Ok}
 use Rattle.spec.specs.Choice.{when◌then◌else◌}
 use Rattle.spec.specs.Text.{bytes, Line, closed, unclosed, lines, Field, fields}
-use Rattle.spec.specs.Reading.{ok, LineResult, good, bad, seen, below, numbers}
+use Rattle.spec.specs.Reading.{LineResult, good, bad, seen, below, numbers}
 use Rattle.spec.specs.Words.{takes_start, keeps_back}
 use Rattle.spec.specs.Expression.{Step}
 use Rattle.spec.specs.Program.{Program, program}
@@ -30,7 +29,7 @@ start_left s (t ∷ m ∷ f ∷ g ∷ fs) = false
 unfoldable pub row_line_with_map_zero : Header → Step → List Field → LineResult Row
 row_line_with_map_zero H s fs =
     when start_left s fs
-    then seen (row_of (some (record { 0 = 0 }))) (numbers (below H.types ∷ below H.maps ∷ []) (take 2 fs))
+    then seen (row_of (Some (record { 0 = 0 }))) (numbers (below H.types ∷ below H.maps ∷ []) (take 2 fs))
     else row_line Check H s fs
 
 abbrev pub lines_with_map_zero : SplitLines
@@ -76,7 +75,7 @@ zeros_written P (closed l ∷ ls) = closed l ∷ zeros_behind (header_line Check
 
 -- t' is t with 0 written, for the program p
 abbrev pub ZeroWritten : (p t t' : List ℕ) → Type 0
-ZeroWritten p t t' = (P : Program) → program p ≡ ok P → lines t' ≡ zeros_written P (lines t)
+ZeroWritten p t t' = (P : Program) → program p ≡ Ok P → lines t' ≡ zeros_written P (lines t)
 
 -- "A `C` sheet that leaned on the old meaning is turned away; its owner writes 0": then it gets what it got, refused or accepted, under
 -- each heading

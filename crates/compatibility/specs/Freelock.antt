@@ -1,8 +1,9 @@
 -- Request (x), "Freelock goes". Before it `freelock` was a word with the conditions of `lock`.
-use Rattle.std.specs.Prelude.{◌≡◌, List, [], ◌∷◌, map, Bool, true, false, ◌&&◌, ◌||◌, ℕ, zero, suc, ◌+◌, eqb, leb, drop}
+use Rattle.std.specs.Prelude.{◌≡◌, List, [], ◌∷◌, map, Bool, true, false, ◌&&◌, ◌||◌, ℕ, zero, suc, ◌+◌, eqb, leb, drop, Result}
+use Rattle.spec.specs.declared.Refusal.{Refusal}
 use Rattle.spec.specs.Choice.{when◌then◌else◌}
 use Rattle.spec.specs.Text.{bytes, same, lines, Field, fields}
-use Rattle.spec.specs.Reading.{Result, LineResult}
+use Rattle.spec.specs.Reading.{LineResult}
 use Rattle.spec.specs.Expression.{Item}
 use Rattle.spec.specs.Program.{count_line, word_line, item_line, Program}
 use Rattle.spec.specs.Split.{split}
@@ -26,7 +27,7 @@ unfoldable pub item_lines_with_freelock : ProgramHeading → (line n : ℕ) → 
 item_lines_with_freelock h k zero = []
 item_lines_with_freelock h k (suc n) = item_line_with_freelock h k ∷ item_lines_with_freelock h (k + 1) n
 
-unfoldable pub program_with_freelock : List ℕ → Result Program
+unfoldable pub program_with_freelock : List ℕ → Result Program Refusal
 program_with_freelock = program_by count_line item_lines_with_freelock
 
 unfoldable pub verdict_with_freelock : (room : ℕ) → (program_text split_text : List ℕ) → Answer

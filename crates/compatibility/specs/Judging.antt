@@ -1,7 +1,8 @@
 -- The check of document 01 with its readers and its conditions handed in, so that a former check is said by what was otherwise.
-use Rattle.std.specs.Prelude.{List, [], map, ℕ, ◌+◌, leb, length, replicate}
+use Rattle.std.specs.Prelude.{List, [], map, ℕ, ◌+◌, leb, length, replicate, Result, Ok}
+use Rattle.spec.specs.declared.Refusal.{Refusal}
 use Rattle.spec.specs.Text.{lines, Field}
-use Rattle.spec.specs.Reading.{program_sheet, split_sheet, Result, ◌>>=◌, ok, require, LineResult, read_line, read_lines, begin, end}
+use Rattle.spec.specs.Reading.{program_sheet, split_sheet, ◌>>=◌, require, LineResult, read_line, read_lines, begin, end}
 use Rattle.spec.specs.Expression.{Step, Item, steps_among, structure, scopes}
 use Rattle.spec.specs.Program.{Counts, Program, program_limit}
 use Rattle.spec.specs.Split.{Map, header_line, type_lines, map_line, signature_line, Row, row_line, Split, split_limit}
@@ -16,7 +17,7 @@ use Rattle.spec.specs.declared.Refusal.TheVariants.{ShortWorkspace, LongProgram,
 use Rattle.spec.specs.declared.TypeLine.{TypeLine}
 
 -- `program` of crates/spec, with the reader of line 1 and those of the lines behind it
-unfoldable pub program_by : (List Field → LineResult Counts) → (ProgramHeading → (line n : ℕ) → List (List Field → LineResult Item)) → List ℕ → Result Program
+unfoldable pub program_by : (List Field → LineResult Counts) → (ProgramHeading → (line n : ℕ) → List (List Field → LineResult Item)) → List ℕ → Result Program Refusal
 program_by count items text = do
   top ← begin program_sheet (lines text)
   (N, first) ← read_line program_sheet count top
@@ -24,7 +25,7 @@ program_by count items text = do
   done ← end program_sheet last
   (ps, e) ← structure last.last N.procedures 0 read
   bound ← scopes N.procedures ps e []
-  ok (record { steps = steps_among read; procedures = ps; root = e })
+  Ok (record { steps = steps_among read; procedures = ps; root = e })
 
 -- the readers of the lines of a split sheet
 pub record SplitLines : Type 0 where
@@ -45,7 +46,7 @@ lines_to_check = record {
 }
 
 -- `split` of crates/spec, with these
-unfoldable pub split_by : SplitLines → Program → List ℕ → Result Split
+unfoldable pub split_by : SplitLines → Program → List ℕ → Result Split Refusal
 split_by L P text = do
   top ← begin split_sheet (lines text)
   (H, p₁) ← read_line split_sheet L.header top
@@ -54,19 +55,19 @@ split_by L P text = do
   (signatures, p₄) ← read_lines split_sheet (replicate (length P.procedures) (L.signature H)) p₃
   (rows, p₅) ← read_lines split_sheet (map (L.row H) P.steps) p₄
   done ← end split_sheet p₅
-  ok (record { header = H; types = types; maps = maps; signatures = signatures; rows = rows })
+  Ok (record { header = H; types = types; maps = maps; signatures = signatures; rows = rows })
 
 -- `verdict` of crates/spec, with the readers of the two sheets and with 31 to 33
-module _ (program : List ℕ → Result Program) (split : Program → List ℕ → Result Split) (ruled : Program → Split → Result (Unit {0})) where
-  unfoldable pub sheets_by : (program_text split_text : List ℕ) → Result (Program × Split)
+module _ (program : List ℕ → Result Program Refusal) (split : Program → List ℕ → Result Split Refusal) (ruled : Program → Split → Result (Unit {0}) Refusal) where
+  unfoldable pub sheets_by : (program_text split_text : List ℕ) → Result (Program × Split) Refusal
   sheets_by program_text split_text = do
     fits ← require (leb (length program_text) program_limit) LongProgram
     P ← program program_text
     fits' ← require (leb (length split_text) split_limit) LongSplit
     S ← split P split_text
-    ok (P, S)
+    Ok (P, S)
 
-  unfoldable pub checked_by : (room : ℕ) → (program_text split_text : List ℕ) → Result (Unit {0})
+  unfoldable pub checked_by : (room : ℕ) → (program_text split_text : List ℕ) → Result (Unit {0}) Refusal
   checked_by room program_text split_text = do
     enough ← require (leb workspace_size room) ShortWorkspace
     (P, S) ← sheets_by program_text split_text

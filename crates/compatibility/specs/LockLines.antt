@@ -1,8 +1,8 @@
 -- Request (ix), "Locks that take more than they give". Before it a lock line was `lock,k,0`.
-use Rattle.std.specs.Prelude.{◌≡◌, List, [], ◌∷◌, ℕ, zero, suc, ◌≤◌, length}
+use Rattle.std.specs.Prelude.{◌≡◌, List, [], ◌∷◌, ℕ, zero, suc, ◌≤◌, length, Ok}
 use Rattle.spec.specs.Choice.{when◌then◌else◌}
 use Rattle.spec.specs.Text.{bytes, same, Line, closed, lines, Field, fields}
-use Rattle.spec.specs.Reading.{ok}
+
 use Rattle.spec.specs.Program.{Program, program}
 use Rattle.spec.specs.Split.{Split, split, split_limit}
 use Rattle.spec.specs.Verdict.{verdict}
@@ -33,7 +33,7 @@ pub data WrittenOut (n : ℕ) : List Line → List Line → Type 0 where
 
 -- t' is the `C2` sheet t written out, for the steps of the program p, which reads t
 abbrev pub LocksWritten : (p t t' : List ℕ) → Type 0
-LocksWritten p t t' = (P : Program) → program p ≡ ok P → (S : Split) × (split Check P t ≡ ok S) × WrittenOut S.header.types (lines t) (lines t')
+LocksWritten p t t' = (P : Program) → program p ≡ Ok P → (S : Split) × (split Check P t ≡ Ok S) × WrittenOut S.header.types (lines t) (lines t')
 
 -- "Older lock lines mean in = out": the sheet that says so gets the same answer
 abbrev pub InIsOutStays : Type 0

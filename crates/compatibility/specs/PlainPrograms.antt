@@ -1,8 +1,9 @@
 -- Request (xiv), "Procedures". Before it a program sheet had the heading `P`, and neither `proc` nor `call` was a word.
-use Rattle.std.specs.Prelude.{◌≡◌, List, [], ◌∷◌, ◌++◌, Bool, false, ◌||◌, ℕ, zero, suc, ◌+◌, ◌≤◌, length}
+use Rattle.std.specs.Prelude.{◌≡◌, List, [], ◌∷◌, ◌++◌, Bool, false, ◌||◌, ℕ, zero, suc, ◌+◌, ◌≤◌, length, Result}
+use Rattle.spec.specs.declared.Refusal.{Refusal}
 use Rattle.spec.specs.Choice.{when◌then◌else◌}
 use Rattle.spec.specs.Text.{bytes, same, Line, closed, unclosed, lines, Field, fields, look_up}
-use Rattle.spec.specs.Reading.{Result, LineResult, bad, bad_form, freelock, seen, refuse_after, ◌to◌, numbers, or_bad_form}
+use Rattle.spec.specs.Reading.{LineResult, bad, bad_form, freelock, seen, refuse_after, ◌to◌, numbers, or_bad_form}
 use Rattle.spec.specs.Words.{words}
 use Rattle.spec.specs.Expression.{Item}
 use Rattle.spec.specs.Program.{program_limit, Counts, count_ranges, counts_of, word_line, Program}
@@ -32,7 +33,7 @@ unfoldable pub plain_item_lines : ProgramHeading → (line n : ℕ) → List (Li
 plain_item_lines h k zero = []
 plain_item_lines h k (suc n) = plain_item_line k ∷ plain_item_lines h (k + 1) n
 
-unfoldable pub plain_program : List ℕ → Result Program
+unfoldable pub plain_program : List ℕ → Result Program Refusal
 plain_program = program_by plain_count_line plain_item_lines
 
 unfoldable pub verdict_of_plain : (room : ℕ) → (program_text split_text : List ℕ) → Answer

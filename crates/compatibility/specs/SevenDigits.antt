@@ -1,8 +1,9 @@
 -- Request (iii), "Finer fractions". Before it a numeral had up to 7 digits, and D and the numbers of map lines went to 1,000,000.
-use Rattle.std.specs.Prelude.{◌≡◌, List, [], ◌∷◌, map, Bool, true, false, ◌&&◌, ◌||◌, ℕ, leb, ltb, length}
+use Rattle.std.specs.Prelude.{◌≡◌, List, [], ◌∷◌, map, Bool, true, false, ◌&&◌, ◌||◌, ℕ, leb, ltb, length, Result}
+use Rattle.spec.specs.declared.Refusal.{Refusal}
 use Rattle.spec.specs.Choice.{when◌then◌else◌}
 use Rattle.spec.specs.Text.{Field, digits}
-use Rattle.spec.specs.Reading.{Result, LineResult, good, bad, bad_form, bad_range}
+use Rattle.spec.specs.Reading.{LineResult, good, bad, bad_form, bad_range}
 use Rattle.spec.specs.Program.{count_line, item_lines, Program}
 use Rattle.spec.specs.Split.{Map, header_line, type_lines, map_line, signature_line, row_line}
 use Rattle.spec.specs.declared.Header.{Header}
@@ -40,7 +41,7 @@ lines_by_seven = record {
   row = λ H s. by_seven (row_line Check H s);
 }
 
-unfoldable pub program_by_seven : List ℕ → Result Program
+unfoldable pub program_by_seven : List ℕ → Result Program Refusal
 program_by_seven = program_by (by_seven count_line) (λ h k n. map by_seven (item_lines h k n))
 
 unfoldable pub verdict_by_seven : (room : ℕ) → (program_text split_text : List ℕ) → Answer

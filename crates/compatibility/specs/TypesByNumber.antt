@@ -1,6 +1,7 @@
 -- Request (i), "The same type under two numbers". Before it two types agreed when their numbers agreed.
-use Rattle.std.specs.Prelude.{◌≡◌, List, [], ◌∷◌, ◌++◌, Bool, ℕ, ◌+◌, eqb}
-use Rattle.spec.specs.Reading.{Result}
+use Rattle.std.specs.Prelude.{◌≡◌, List, [], ◌∷◌, ◌++◌, Bool, ℕ, ◌+◌, eqb, Result}
+
+use Rattle.spec.specs.declared.Refusal.{Refusal}
 use Rattle.spec.specs.Expression.{Expr, line_of, Procedure}
 use Rattle.spec.specs.Program.{Program, program}
 use Rattle.spec.specs.Split.{Map, Split, split, map_at}
@@ -41,7 +42,7 @@ module _ (S : Split) where
   unfoldable pub claims_of_by_number : Program → List NumberedCondition
   claims_of_by_number P = claims_of_procedures_by_number 0 P.procedures ++ claims_by_number (step_contexts S [] (start_map S) P.root)
 
-unfoldable pub ruled_by_number : Program → Split → Result (Unit {0})
+unfoldable pub ruled_by_number : Program → Split → Result (Unit {0}) Refusal
 ruled_by_number P S = first_false (claims_of_by_number S P)
 
 unfoldable pub verdict_by_number : (room : ℕ) → (program_text split_text : List ℕ) → Answer

@@ -9,7 +9,8 @@ ghost use Rattle.rule_rows.specs.Table.{flows, row_in};
 
 use conditions::type_false;
 use rule_rows::{StepView, sum};
-use spec::{MapNumber, Ruling, TypeLine};
+use spec::{MapNumber, TypeLine};
+use workspace::Ruling;
 use workspace::type_at;
 
 // The last condition of a word that takes: post = post of part + load.

@@ -9,7 +9,8 @@ ghost use Rattle.rule_rows.specs.Table.{row_in};
 
 use conditions::{Relation, and_then, flow, type_false};
 use rule_rows::{StepView, at_least, equal, sum};
-use spec::{Ruling, TypeLine};
+use spec::TypeLine;
+use workspace::Ruling;
 use workspace::type_at;
 
 // NEWT: 1 a tid type; 2 post = pre.

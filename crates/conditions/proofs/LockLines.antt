@@ -1,4 +1,5 @@
 -- 44 at a type line and over the type lines, as the code goes through them, and for the split that the work space holds.
+use Rattle.std.proofs.Common.{Ok}
 use mathlib.Core.Path.{◌≡◌, sym, ap, ◌∙◌}
 use mathlib.Core.Bool.{Bool, false}
 use mathlib.Core.List.{List}
@@ -7,7 +8,7 @@ use native.Mathlib.Omega.{arith}
 use native.Mathlib.Numerals.{add-one}
 use lib.ListN.{length, get_or, drop, drop_of_length-le}
 use lib.Seq.{drop-cons}
-use Rattle.spec.specs.Reading.{ok, require}
+use Rattle.spec.specs.Reading.{require}
 use Rattle.spec.specs.Program.{Program}
 use Rattle.spec.specs.Split.{Split, type_at}
 use Rattle.spec.specs.Kinds.{lock, same_kind, is, first_map, second_map}
@@ -26,15 +27,15 @@ use Rattle.conditions.specs.Relation.{everywhere}
 use Rattle.conditions.specs.Agreement.{takes_enough_in}
 use Rattle.conditions.specs.SheetOutcomes.{lock_outcome, locks_outcome}
 use Rattle.conditions.specs.declared.Relation.TheVariants.{AtLeast}
-use Rattle.spec.specs.declared.Ruling.{Ruling}
-use Rattle.spec.specs.declared.Ruling.TheVariants.{Holds, Refused}
+use Rattle.workspace.specs.declared.Ruling.{Ruling}
+use Rattle.workspace.specs.declared.Ruling.TheVariants.{Holds, Refused}
 use Rattle.conditions.proofs.FirstFalse.{refused_stops, met_goes_on}
 use Rattle.conditions.proofs.Agreement.{takes_enough_shown}
 
 -- ------------------------------------------------------------------ a line
 
 module _ (w : List ℕ) (n : ℕ) (t : TypeNumber) {x : TypeLine} (e : x ≡ layout.type_at w t) where
-  pub no_lock_line : is lock x ≡ false → ok tt ≡ lock_outcome w n t
+  pub no_lock_line : is lock x ≡ false → Ok tt ≡ lock_outcome w n t
   unfolding lock_outcome require takes_enough_in
   no_lock_line h = rw (← e, h)
 
@@ -62,7 +63,7 @@ module _ (w : List ℕ) (n t types : ℕ) where
     pub locks_later : r ≡ Holds → locks_outcome w n t (types - t) ≡ locks_outcome w n (t + 1) (types - (t + 1))
     locks_later e = sym here ∙ met_goes_on r _ e
 
-  pub locks_done : types ≤ t → ok tt ≡ locks_outcome w n t (types - t)
+  pub locks_done : types ≤ t → Ok tt ≡ locks_outcome w n t (types - t)
   unfolding locks_outcome
   locks_done h =
       let none_left : types - t ≡ 0 = omega arith in

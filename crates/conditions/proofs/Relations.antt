@@ -1,8 +1,8 @@
 -- A relation between maps, one location at a time, as the loops over locations go through them.
+use Rattle.std.proofs.Common.{None, Some, Ok}
 use mathlib.Core.Path.{◌≡◌, refl, sym}
 use mathlib.Core.Bool.{Bool, true, false}
 use mathlib.Core.List.{List}
-use mathlib.Core.Option.{none, some}
 use Prim.Native.Nat.{ℕ, zero, suc, ◌+◌, ◌*◌, ◌-◌, ◌<◌, ◌≤◌}
 use native.Mathlib.Omega.{arith}
 use lib.Dec.{leb, ltb}
@@ -10,7 +10,7 @@ use lib.ListN.{length}
 use borrow.Author.Tests.{eqb-true, eq-eqb, ltb-true, ltb-false, lt-ltb, le-ltb, lt-leb, le-leb, leb-true}
 use Rattle.spec.specs.Choice.{when◌then◌else◌}
 use Rattle.spec.specs.Maps.{lowest, at_least, ◌+ᵐ◌, ◌×ᵐ◌, over_whole, holds_everywhere}
-use Rattle.spec.specs.Reading.{ok}
+
 use Rattle.spec.specs.Conditions.{F}
 use Rattle.spec.specs.StepContexts.{judge}
 use Rattle.spec.specs.declared.Location.{Location}
@@ -27,7 +27,7 @@ left l n h = omega arith
 
 module _ (w : List ℕ) where
   one_more : (r : Relation) (l n : ℕ)
-      → fails_from w r l (suc n) ≡ (when holds_at w r l then fails_from w r (l + 1) n else some l)
+      → fails_from w r l (suc n) ≡ (when holds_at w r l then fails_from w r (l + 1) n else Some l)
   unfolding fails_from holds_at map_from lowest at_least ◌+ᵐ◌ ◌×ᵐ◌ over_whole
   one_more (Equal a b) l n = refl
   one_more (AtLeast a b) l n = refl
@@ -35,7 +35,7 @@ module _ (w : List ℕ) where
   one_more (Sum a b c) l n = refl
   one_more (Within a d) l n = refl
 
-  at_end_lem : (r : Relation) (l : ℕ) → fails_from w r l 0 ≡ none
+  at_end_lem : (r : Relation) (l : ℕ) → fails_from w r l 0 ≡ None
   unfolding fails_from map_from lowest ◌+ᵐ◌ ◌×ᵐ◌ over_whole
   at_end_lem (Equal a b) l = refl
   at_end_lem (AtLeast a b) l = refl
@@ -47,10 +47,10 @@ module _ (w : List ℕ) where
     pub fails_later : l < n → holds_at w r l ≡ true → fails_from w r l (n - l) ≡ fails_from w r (l + 1) (n - (l + 1))
     fails_later h e = rw (left l n h, one_more r l (n - (l + 1)), e)
 
-    pub fails_here : l < n → holds_at w r l ≡ false → fails_from w r l (n - l) ≡ some l
+    pub fails_here : l < n → holds_at w r l ≡ false → fails_from w r l (n - l) ≡ Some l
     fails_here h e = rw (left l n h, one_more r l (n - (l + 1)), e)
 
-    pub fails_nowhere : n ≤ l → fails_from w r l (n - l) ≡ none
+    pub fails_nowhere : n ≤ l → fails_from w r l (n - l) ≡ None
     fails_nowhere h =
         let none_left : n - l ≡ 0 = omega arith in
         rw (none_left, at_end_lem r l)
@@ -70,7 +70,7 @@ module _ (w : List ℕ) where
   itself_holds (Sum a b c) e l = true_is_not_false (sym e)
   itself_holds (Within a d) e l = true_is_not_false (sym e)
 
-  pub itself_nowhere : (r : Relation) → of_itself r ≡ true → (l n : ℕ) → fails_from w r l n ≡ none
+  pub itself_nowhere : (r : Relation) → of_itself r ≡ true → (l n : ℕ) → fails_from w r l n ≡ None
   itself_nowhere r e l zero = at_end_lem r l
   itself_nowhere r e l (suc n) = rw (one_more r l n, itself_holds r e l) (itself_nowhere r e (l + 1) n)
 
@@ -79,7 +79,7 @@ module _ (w : List ℕ) where
   itself_everywhere r e n = rw (itself_nowhere r e 0 (asked w r n))
 
   -- a flow condition on a map and itself
-  pub itself_flows : (line i : ℕ) (r : Relation) → of_itself r ≡ true → (n : ℕ) → ok tt ≡ judge line i (F (fails w n r))
+  pub itself_flows : (line i : ℕ) (r : Relation) → of_itself r ≡ true → (n : ℕ) → Ok tt ≡ judge line i (F (fails w n r))
   unfolding judge fails
   itself_flows line i r e n = rw (itself_nowhere r e 0 (asked w r n))
 
@@ -127,11 +127,11 @@ module _ (w : List ℕ) where
 
 -- ------------------------------------------------------------------ the location that the code hands back
 
-pub below_here : (n : ℕ) (p : Location) → p.0 < n → below n p ≡ some p.0
+pub below_here : (n : ℕ) (p : Location) → p.0 < n → below n p ≡ Some p.0
 unfolding below
 below_here n p h = rw (lt-ltb p.0 n h)
 
-pub below_none : (n : ℕ) (p : Location) → n ≤ p.0 → below n p ≡ none
+pub below_none : (n : ℕ) (p : Location) → n ≤ p.0 → below n p ≡ None
 unfolding below
 below_none n p h = rw (le-ltb p.0 n h)
 

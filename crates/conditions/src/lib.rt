@@ -14,7 +14,8 @@ ghost use Rattle.conditions.specs.SheetOutcomes.{start_outcome};
 ghost use Rattle.conditions.specs.Relation.{HasCell, HasCells, holds_at, held, asked, of_itself, fails, below, everywhere, has_at_least};
 
 pub use locks::check_locks;
-use spec::{Location, MapNumber, Refusal, Ruling};
+use spec::{Location, MapNumber, Refusal};
+use workspace::Ruling;
 pub use types::{agrees, may_show};
 use workspace::{MAPS, STRIDE, index, map_cell, wide};
 

@@ -4,7 +4,8 @@ ghost use Rattle.conditions.specs.Outcome.{outcome};
 ghost use Rattle.conditions.specs.SheetOutcomes.{lock_outcome, locks_outcome};
 
 use super::{Relation, everywhere};
-use spec::{Refusal, Ruling, TypeLine, TypeNumber};
+use spec::{Refusal, TypeLine, TypeNumber};
+use workspace::Ruling;
 use workspace::type_at;
 
 // The line of the split sheet's first type.

@@ -1,7 +1,7 @@
 -- The bytes of a file that was read, and of a line that was written, are a part of their buffer.
+use Rattle.std.proofs.Common.{Some}
 use mathlib.Core.Path.{◌≡◌, sym, ap, subst, ◌∙◌}
 use mathlib.Core.List.{List, ◌++◌}
-use mathlib.Core.Option.{some}
 use Prim.Native.Nat.{ℕ, ◌≤◌, ◌<◌}
 use native.Mathlib.Omega.{arith}
 use lib.ListN.{length, take, drop, length-take}
@@ -18,7 +18,7 @@ bytes_within {room = room} e w = subst (λ y. Within y room) e w
 pub bytes_part : {x : Contents} {n : ℕ} (buffer : List ℕ) → x ≡ Bytes n → Within x (length buffer) → n ≡ length (take n buffer)
 bytes_part {n = n} buffer e w = sym (length-take-le n buffer (bytes_within e w))
 
-pub text_read : {x : Contents} {n : ℕ} (buffer : List ℕ) → x ≡ Bytes n → text_in x buffer ≡ some (take n buffer)
+pub text_read : {x : Contents} {n : ℕ} (buffer : List ℕ) → x ≡ Bytes n → text_in x buffer ≡ Some (take n buffer)
 text_read buffer e = ap (λ (y : Contents). text_in y buffer) e
 
 -- the bytes in front of a part that is read into are as they were

@@ -1,6 +1,5 @@
 -- What goes between the programs and their files.
-use Rattle.std.specs.Prelude.{ℕ, ◌+◌, ◌≤◌, ◌≡◌, List, length, take}
-use Rattle.std.proofs.Math.Option.{Option, none, some}
+use Rattle.std.specs.Prelude.{ℕ, ◌+◌, ◌≤◌, ◌≡◌, List, length, take, Option, None, Some}
 use Rattle.spec.specs.Text.{bytes}
 use Rattle.spec.specs.Program.{program_limit}
 use Rattle.spec.specs.Split.{split_limit}
@@ -26,8 +25,8 @@ NoFewer held Unread = Unit {0}
 
 -- the text that was read into a buffer, or none
 abbrev pub text_in : Contents → (buffer : List ℕ) → Option (List ℕ)
-text_in (Bytes n) buffer = some (take n buffer)
-text_in Unread buffer = none
+text_in (Bytes n) buffer = Some (take n buffer)
+text_in Unread buffer = None
 
 -- the first n bytes of a buffer are a text
 pub record InFront (text : List ℕ) (n : ℕ) (buffer : List ℕ) : Type 0 where

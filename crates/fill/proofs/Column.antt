@@ -1,8 +1,8 @@
 -- A column of the new maps: from the posts that are found at a location to those that are stored.
+use Rattle.std.proofs.Common.{Option, None, Some}
 use mathlib.Core.Path.{◌≡◌, refl, sym, ap, ◌∙◌}
 use mathlib.Core.Bool.{Bool, true, false}
 use mathlib.Core.List.{List}
-use mathlib.Core.Option.{Option, none, some}
 use Prim.Native.Nat.{ℕ, ◌≤◌, ◌<◌}
 use native.Mathlib.Omega.{arith}
 use lib.ListN.{length, take}
@@ -28,7 +28,7 @@ use Rattle.fill.specs.Columns.{Room, PostsStored, ColumnGiven, ColumnFilled}
 
 -- a post for each step
 pub posts_counted : {w ps : List ℕ} {steps procedures denominator locations start : ℕ} (P : Program) (S : Split) (l : ℕ)
-    → HoldsSheets w steps procedures denominator locations start P S → posts_at P S l ≡ some ps → length ps ≡ steps
+    → HoldsSheets w steps procedures denominator locations start P S → posts_at P S l ≡ Some ps → length ps ≡ steps
 unfolding posts_at roots_of
 posts_counted P S l H found =
     roots_counted (roots_of S (record { 0 = l }) P) found
@@ -75,19 +75,19 @@ module _ (w : List ℕ) (header : Header) (steps procedures : ℕ) (p : Location
       answers = λ P S H l. not_found (posts_at P S p.0) (posts_here P S H l);
     }
       where
-        not_found : (o : Option (List ℕ)) → Stored o 0 q r → o ≡ none
-        not_found none s = refl
-        not_found (some ps) s = let clash : ◌≡◌ {A = ℕ} 0 1 = cc in absurd (omega arith)
+        not_found : (o : Option (List ℕ)) → Stored o 0 q r → o ≡ None
+        not_found None s = refl
+        not_found (Some ps) s = let clash : ◌≡◌ {A = ℕ} 0 1 = cc in absurd (omega arith)
 
     -- the posts that are found stand in front
     module _ (e : r ≡ true) where
       found_here : (P : Program) (S : Split) → HoldsBoth w header steps procedures P S → p.0 < header.locations
-          → (ps : List ℕ) × (posts_at P S p.0 ≡ some ps) × (take steps q ≡ ps)
+          → (ps : List ℕ) × (posts_at P S p.0 ≡ Some ps) × (take steps q ≡ ps)
       found_here P S H l = go (posts_at P S p.0) refl (posts_here P S H l)
         where
-          go : (o : Option (List ℕ)) → posts_at P S p.0 ≡ o → Stored o 0 q r → (ps : List ℕ) × (posts_at P S p.0 ≡ some ps) × (take steps q ≡ ps)
-          go none h s = let clash : ◌≡◌ {A = ℕ} 0 1 = cc in absurd (omega arith)
-          go (some ps) h s = (ps, h, ap (λ (n : ℕ). take n q) (sym (posts_counted P S p.0 H.sheets h)) ∙ region_part q 0 ps s.1)
+          go : (o : Option (List ℕ)) → posts_at P S p.0 ≡ o → Stored o 0 q r → (ps : List ℕ) × (posts_at P S p.0 ≡ Some ps) × (take steps q ≡ ps)
+          go None h s = let clash : ◌≡◌ {A = ℕ} 0 1 = cc in absurd (omega arith)
+          go (Some ps) h s = (ps, h, ap (λ (n : ℕ). take n q) (sym (posts_counted P S p.0 H.sheets h)) ∙ region_part q 0 ps s.1)
 
       module _ (w' : List ℕ) (s : Bool) (T : PostsStored (take steps q) header.maps p.0 s w w') where
         pub column_large : s ≡ false → ColumnFilled w header steps procedures p.0 Large w'

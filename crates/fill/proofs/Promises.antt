@@ -1,4 +1,5 @@
 -- From what filling tells to the clauses of its contract.
+use Rattle.std.proofs.Common.{Result, Ok, Err}
 use mathlib.Core.Path.{◌≡◌, refl, sym, ap, ◌∙◌}
 use mathlib.Core.List.{List}
 use mathlib.Core.Logic.{◌↔◌}
@@ -7,7 +8,7 @@ use native.Mathlib.Omega.{arith}
 use lib.ListN.{length, take, drop}
 use lib.Seq.{take-append_seam}
 use borrow.Author.Tests.{le-leb}
-use Rattle.spec.specs.Reading.{Result, refuse, ok, ◌>>=◌, require}
+use Rattle.spec.specs.Reading.{◌>>=◌, require}
 use Rattle.spec.specs.Program.{Program}
 use Rattle.spec.specs.Split.{Map, Split}
 use Rattle.spec.specs.Workspace.{workspace_size, workspace_after}
@@ -35,37 +36,37 @@ room_enough room buffer p s h = rw (le-leb _ _ h)
 -- ------------------------------------------------------------------ the numbers of an outcome
 
 -- 41 and 42 are the numbers of one refusal each, of those that are left
-unsolvable_alone : {o : Result (List ℕ)} → Decided o → (returned_for o).number ≡ 41 → o ≡ refuse NoAfterMaps
+unsolvable_alone : {o : Result (List ℕ) Refusal} → Decided o → (returned_for o).number ≡ 41 → o ≡ Err NoAfterMaps
 unfolding returned_for returned numbers4
 unsolvable_alone refused_unsolvable h = refl
 unsolvable_alone refused_too_large h = absurd (omega (arith, h))
 unsolvable_alone (wrote_text t) h = absurd (omega (arith, h))
 
-too_large_alone : {o : Result (List ℕ)} → Decided o → (returned_for o).number ≡ 42 → o ≡ refuse TooLarge
+too_large_alone : {o : Result (List ℕ) Refusal} → Decided o → (returned_for o).number ≡ 42 → o ≡ Err TooLarge
 unfolding returned_for returned numbers4
 too_large_alone refused_unsolvable h = absurd (omega (arith, h))
 too_large_alone refused_too_large h = refl
 too_large_alone (wrote_text t) h = absurd (omega (arith, h))
 
-refused_number : (r : Refusal) → (returned (Refuse r)).number ≡ (returned_for (refuse r)).number
+refused_number : (r : Refusal) → (returned (Refuse r)).number ≡ (returned_for (Err r)).number
 unfolding returned_for
 refused_number r = refl
 
-text_line_lem : (t : List ℕ) → (returned_for (ok t)).line ≡ length t
+text_line_lem : (t : List ℕ) → (returned_for (Ok t)).line ≡ length t
 unfolding returned_for numbers4
 text_line_lem t = refl
 
 -- 0 is the number of a text alone, and the buffer begins with it
-pub record Begins (o : Result (List ℕ)) (line : ℕ) (after : List ℕ) : Type 0 where
+pub record Begins (o : Result (List ℕ) Refusal) (line : ℕ) (after : List ℕ) : Type 0 where
   pub text : List ℕ
-  pub is : o ≡ ok text
+  pub is : o ≡ Ok text
   pub taken : take line after ≡ text
 
-text_begins : (o : Result (List ℕ)) (before after : List ℕ) → after ≡ buffer_after o before → (returned_for o).number ≡ 0
+text_begins : (o : Result (List ℕ) Refusal) (before after : List ℕ) → after ≡ buffer_after o before → (returned_for o).number ≡ 0
     → Begins o (returned_for o).line after
 unfolding returned_for buffer_after in_front numbers4
-text_begins (refuse r) before after e h = absurd (omega (arith, refusal_number r, h))
-text_begins (ok t) before after e h = record { text = t; is = refl; taken = rw e (take-append_seam t (drop (length t) before)) }
+text_begins (Err r) before after e h = absurd (omega (arith, refusal_number r, h))
+text_begins (Ok t) before after e h = record { text = t; is = refl; taken = rw e (take-append_seam t (drop (length t) before)) }
 
 -- ------------------------------------------------------------------ the clauses
 
@@ -104,9 +105,9 @@ within_buffer : (room buffer : ℕ) (p s : List ℕ) (f : Filled) → returned_b
     → (returned_by f).number ≡ 0 → (returned_by f).line ≤ buffer
 within_buffer room buffer p s f e h = rw e (go (fill room buffer p s) refl (ap (λ (r : Returned). r.number) (sym e) ∙ h))
   where
-    go : (o : Result (List ℕ)) → fill room buffer p s ≡ o → (returned_for o).number ≡ 0 → (returned_for o).line ≤ buffer
-    go (refuse r) is zero = absurd (omega (arith, refusal_number r, refused_number r ∙ zero))
-    go (ok t) is zero =
+    go : (o : Result (List ℕ) Refusal) → fill room buffer p s ≡ o → (returned_for o).number ≡ 0 → (returned_for o).line ≤ buffer
+    go (Err r) is zero = absurd (omega (arith, refusal_number r, refused_number r ∙ zero))
+    go (Ok t) is zero =
         let W = (written_exactly room buffer p s t).0 is in
         omega (arith, W.limits.has_room, ap length W.is_text, text_line_lem t)
 

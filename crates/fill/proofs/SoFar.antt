@@ -1,9 +1,9 @@
 -- The columns so far: the invariant of the loop over locations.
+use Rattle.std.proofs.Common.{Some}
 use mathlib.Core.Path.{◌≡◌, sym, ap, ◌∙◌}
 use mathlib.Core.Logic.{⊎_elim}
 use mathlib.Core.Bool.{Bool, true, false}
 use mathlib.Core.List.{List}
-use mathlib.Core.Option.{some}
 use Prim.Native.Nat.{ℕ, ◌+◌, ◌*◌, ◌≤◌, ◌<◌}
 use native.Mathlib.Omega.{arith}
 use native.Mathlib.Nat.{eq-or-lt_of_le}
@@ -25,10 +25,10 @@ use Rattle.fill.specs.Columns.{OneColumn, ColumnStored, ColumnFilled}
 
 -- the columns of the locations below l: all are found; if none has been too large, all are stored
 pub record Columns (P : Program) (S : Split) (w : List ℕ) (maps l : ℕ) (large : Bool) : Type 0 where
-  pub found : (j : ℕ) → j < l → (ps : List ℕ) × (posts_at P S j ≡ some ps)
-  pub stored : large ≡ false → (j : ℕ) → j < l → (ps : List ℕ) → posts_at P S j ≡ some ps
+  pub found : (j : ℕ) → j < l → (ps : List ℕ) × (posts_at P S j ≡ Some ps)
+  pub stored : large ≡ false → (j : ℕ) → j < l → (ps : List ℕ) → posts_at P S j ≡ Some ps
       → (map_at_most number_limit ps ≡ true) × ColumnStored w maps j ps
-  pub over : large ≡ true → (j : ℕ) × (j < l) × ((ps : List ℕ) × (posts_at P S j ≡ some ps) × (map_at_most number_limit ps ≡ false))
+  pub over : large ≡ true → (j : ℕ) × (j < l) × ((ps : List ℕ) × (posts_at P S j ≡ Some ps) × (map_at_most number_limit ps ≡ false))
 
 -- from w₀ to w, for whichever sheets w₀ holds
 pub record SoFar (w₀ w : List ℕ) (header : Header) (steps procedures l : ℕ) (large : Bool) : Type 0 where
@@ -74,8 +74,8 @@ none_so_far w header steps procedures = record {
 module _ (w₀ w w' : List ℕ) (header : Header) (steps procedures l : ℕ) (large : Bool)
     (Z : SoFar w₀ w header steps procedures l large) (within : l < header.locations) where
   -- the posts of one more location are found
-  found_more : {P : Program} {S : Split} → Columns P S w header.maps l large → (ps : List ℕ) × (posts_at P S l ≡ some ps)
-      → (j : ℕ) → j < l + 1 → (qs : List ℕ) × (posts_at P S j ≡ some qs)
+  found_more : {P : Program} {S : Split} → Columns P S w header.maps l large → (ps : List ℕ) × (posts_at P S l ≡ Some ps)
+      → (j : ℕ) → j < l + 1 → (qs : List ℕ) × (posts_at P S j ≡ Some qs)
   found_more {P} {S} C (ps, found) j h =
       ⊎_elim
       (λ (e : j ≡ l). (ps, rw e found))

@@ -1,11 +1,12 @@
 -- What a stage of filling tells: a refusal with the buffer as it was, or a text in front of the buffer.
+use Rattle.std.proofs.Common.{Result, Ok, Err}
 use mathlib.Core.Path.{◌≡◌, refl, sym, ap, ◌∙◌}
 use mathlib.Core.List.{List, ◌++◌}
 use Prim.Native.Nat.{ℕ, ◌+◌, ◌≤◌, ◌<◌, min}
 use native.Mathlib.Omega.{arith}
 use lib.ListN.{length, drop}
 use borrow.Author.Tests.{le-leb, lt-leb}
-use Rattle.spec.specs.Reading.{Result, refuse, ok, ◌>>=◌, require}
+use Rattle.spec.specs.Reading.{◌>>=◌, require}
 use Rattle.spec.specs.Split.{split_limit}
 use Rattle.spec.specs.Verdict.{numbers4}
 use Rattle.spec.specs.declared.Refusal.{Refusal}
@@ -21,27 +22,27 @@ use Rattle.fill.specs.declared.Filled.TheVariants.{Written as WrittenSheet, Refu
 
 -- ------------------------------------------------------------------ outcomes
 
-pub refusal_sound : (r : Refusal) (buffer : List ℕ) → OutcomePost (refuse r) buffer buffer (Refused r)
+pub refusal_sound : (r : Refusal) (buffer : List ℕ) → OutcomePost (Err r) buffer buffer (Refused r)
 unfolding returned_by returned_for buffer_after
 refusal_sound r buffer = record { numbers = refl; buffer = refl }
 
 pub text_sound : {n : ℕ} {after : List ℕ} (text buffer : List ℕ) → n ≡ length text → after ≡ text ++ drop (length text) buffer
-    → OutcomePost (ok text) buffer after (WrittenSheet n)
+    → OutcomePost (Ok text) buffer after (WrittenSheet n)
 unfolding returned_by returned_for buffer_after in_front numbers4
 text_sound text buffer e h = record { numbers = rw e; buffer = h }
 
 -- the same outcome, found in another way
-pub told_as : {o o' : Result (List ℕ)} {before after : List ℕ} {f : Filled} → o ≡ o' → OutcomePost o before after f → OutcomePost o' before after f
+pub told_as : {o o' : Result (List ℕ) Refusal} {before after : List ℕ} {f : Filled} → o ≡ o' → OutcomePost o before after f → OutcomePost o' before after f
 told_as e t = record { numbers = t.numbers ∙ ap returned_for e; buffer = rw (← e) t.buffer }
 
 -- ------------------------------------------------------------------ 42 by length
 
 module _ (text before : List ℕ) where
-  over : min 65536 (length before) < length text → fitted (length before) text ≡ refuse TooLarge
+  over : min 65536 (length before) < length text → fitted (length before) text ≡ Err TooLarge
   unfolding fitted require ◌>>=◌ split_limit
   over h = rw (lt-leb _ _ h)
 
-  within : length text ≤ min 65536 (length before) → fitted (length before) text ≡ ok text
+  within : length text ≤ min 65536 (length before) → fitted (length before) text ≡ Ok text
   unfolding fitted require ◌>>=◌ split_limit
   within h = rw (le-leb _ _ h)
 

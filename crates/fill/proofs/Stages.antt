@@ -1,15 +1,15 @@
 -- From what the stages of filling find to what they tell.
+use Rattle.std.proofs.Common.{Some, Ok, Err}
 use mathlib.Core.Path.{◌≡◌, refl, sym, ap, ◌∙◌}
 use mathlib.Core.Path.{subst as along}
 use mathlib.Core.List.{List}
-use mathlib.Core.Option.{some}
 use mathlib.Core.Bool.{true}
 use Prim.Native.Nat.{ℕ, ◌≤◌, ◌<◌}
 use native.Mathlib.Omega.{arith}
 use lib.Dec.{leb}
 use lib.ListN.{length}
 use borrow.Author.Tests.{le-leb, lt-leb}
-use Rattle.spec.specs.Reading.{refuse, ok, ◌>>=◌, require}
+use Rattle.spec.specs.Reading.{◌>>=◌, require}
 use Rattle.spec.specs.Program.{Program}
 use Rattle.spec.specs.Split.{Map, Split}
 use Rattle.spec.specs.Workspace.{workspace_size}
@@ -28,8 +28,8 @@ use Rattle.sheets.specs.declared.Reading.TheVariants as reading
 use Rattle.sheets.proofs.Found.{refused_by, held_by}
 use Rattle.conditions.specs.Outcome.{outcome}
 use Rattle.walk.specs.Contract.{ruled_for, Ruled}
-use Rattle.spec.specs.declared.Ruling.{Ruling}
-use Rattle.spec.specs.declared.Ruling.TheVariants as ruling
+use Rattle.workspace.specs.declared.Ruling.{Ruling}
+use Rattle.workspace.specs.declared.Ruling.TheVariants as ruling
 use Rattle.walk.proofs.Procedures.{sheets_stay}
 use Rattle.text_theory.specs.Sheet.{sheet_text}
 use Rattle.split_writer.specs.Contract.{HoldsSheet, HoldsSome as HoldsSheetOfSome}
@@ -51,13 +51,13 @@ use Rattle.fill.proofs.Sound.{refusal_sound, told_as}
 -- ------------------------------------------------------------------ 41 and 42
 
 -- a test that holds
-passed : (a b : ℕ) (r : Refusal) → a ≤ b → require (leb a b) r ≡ ok tt
+passed : (a b : ℕ) (r : Refusal) → a ≤ b → require (leb a b) r ≡ Ok tt
 unfolding require
 passed a b r h = rw (le-leb _ _ h)
 
 -- the split with its greatest after-maps, once the work space holds it
 module _ {w w' : List ℕ} {header : Header} {steps procedures : ℕ} {P : Program} {S : Split} (B : HoldsBoth w header steps procedures P S)
-    (γ : List Map) (found : greatest_maps P S ≡ some γ)
+    (γ : List Map) (found : greatest_maps P S ≡ Some γ)
     (H : HoldsSheets w' steps procedures header.denominator header.locations header.start.0 P (filled S γ)) where
   step_maps : length γ ≡ steps
   step_maps =
@@ -79,7 +79,7 @@ module _ {w w' : List ℕ} {header : Header} {steps procedures : ℕ} {P : Progr
     few = omega (arith, H.procedures_counted, procedures_few P H.well_formed);
   }
 
-small_text : (buffer : ℕ) (P : Program) (S : Split) (γ : List Map) → greatest_maps P S ≡ some γ → all_at_most number_limit γ ≡ true
+small_text : (buffer : ℕ) (P : Program) (S : Split) (γ : List Map) → greatest_maps P S ≡ Some γ → all_at_most number_limit γ ≡ true
     → filled_text buffer P S ≡ fitted buffer (sheet_text (filled S γ))
 unfolding filled_text found_or require fitted ◌>>=◌
 small_text buffer P S γ found small = rw (found, small)
@@ -114,7 +114,7 @@ module _ {w w' : List ℕ} (header : Header) {steps procedures : ℕ} {r : Found
 -- ------------------------------------------------------------------ 43, 44, 30 and 31
 
 module _ (buffer : ℕ) (P : Program) (S : Split) where
-  many : 256 < S.header.maps → after_reading buffer P S ≡ refuse TooManyMaps
+  many : 256 < S.header.maps → after_reading buffer P S ≡ Err TooManyMaps
   unfolding after_reading require ◌>>=◌ given_limit
   many h = rw (lt-leb _ _ h)
 

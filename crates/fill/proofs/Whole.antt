@@ -1,9 +1,9 @@
 -- All columns: the greatest after-maps that they make, and that the work space holds the split with these filled in.
+use Rattle.std.proofs.Common.{Some}
 use mathlib.Core.Path.{◌≡◌, refl, sym, ap, ◌∙◌}
 use mathlib.Core.Logic.{inl, inr}
 use mathlib.Core.Bool.{Bool, true, false}
 use mathlib.Core.List.{List, [], ◌∷◌, ◌++◌, map}
-use mathlib.Core.Option.{some}
 use Prim.Native.Nat.{ℕ, ◌+◌, ◌-◌, ◌*◌, ◌≤◌, ◌<◌}
 use native.Mathlib.Omega.{arith}
 use native.Mathlib.Decide.{dec_lt}
@@ -156,20 +156,20 @@ module _ (w₀ w : List ℕ) (header : Header) (steps procedures l : ℕ) where
       abbrev n : ℕ
       n = length P.steps
 
-      all_found : (columns : List (List ℕ)) × (for_each (posts_at P S) 0 S.header.locations ≡ some columns)
+      all_found : (columns : List (List ℕ)) × (for_each (posts_at P S) 0 S.header.locations ≡ Some columns)
       all_found = find_each (posts_at P S) 0 S.header.locations (λ q k. (Z.columns P S H).found (0 + q) (omega (arith, H.sheets.locations_given)))
 
       abbrev columns : List (List ℕ)
       columns = all_found.0
 
-      greatest_found : greatest_maps P S ≡ some (made columns n)
+      greatest_found : greatest_maps P S ≡ Some (made columns n)
       unfolding greatest_maps
       greatest_found = finds_bind _ _ all_found.1 refl
 
       columns_counted : length columns ≡ S.header.locations
       columns_counted = (each_found (posts_at P S) [] 0 S.header.locations columns all_found.1).0
 
-      column_found : (j : ℕ) → j < S.header.locations → posts_at P S j ≡ some (get_or columns j [])
+      column_found : (j : ℕ) → j < S.header.locations → posts_at P S j ≡ Some (get_or columns j [])
       column_found j k =
           let z : 0 + j ≡ j = omega arith in
           rw z at ((each_found (posts_at P S) [] 0 S.header.locations columns all_found.1).1 j k)

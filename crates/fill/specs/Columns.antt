@@ -1,6 +1,5 @@
 -- What the parts of `fill_maps` ask and promise of the new maps, a location at a time.
-use Rattle.std.specs.Prelude.{◌≡◌, Bool, true, false, List, ℕ, ◌+◌, ◌*◌, ◌≤◌, ◌<◌, length, get_or}
-use Rattle.std.proofs.Math.Option.{Option, none, some}
+use Rattle.std.specs.Prelude.{◌≡◌, Bool, true, false, List, ℕ, ◌+◌, ◌*◌, ◌≤◌, ◌<◌, length, get_or, Option, None, Some}
 use Rattle.spec.specs.Program.{Program}
 use Rattle.spec.specs.Split.{Split}
 use Rattle.workspace.specs.Layout.{posts_at, maps_at, stride, empty_map, map_cell, work_size}
@@ -51,9 +50,9 @@ pub record ColumnGiven (w : List ℕ) (header : Header) (steps procedures locati
 -- there are no posts; one is too large; or they are stored
 module _ (maps location : ℕ) (w : List ℕ) (posts : Option (List ℕ)) where
   abbrev pub ColumnFound : Found → Type 0
-  ColumnFound Nothing = posts ≡ none
-  ColumnFound Large = (ps : List ℕ) × (posts ≡ some ps) × (map_at_most number_limit ps ≡ false)
-  ColumnFound Maps = (ps : List ℕ) × (posts ≡ some ps) × (map_at_most number_limit ps ≡ true) × ColumnStored w maps location ps
+  ColumnFound Nothing = posts ≡ None
+  ColumnFound Large = (ps : List ℕ) × (posts ≡ Some ps) × (map_at_most number_limit ps ≡ false)
+  ColumnFound Maps = (ps : List ℕ) × (posts ≡ Some ps) × (map_at_most number_limit ps ≡ true) × ColumnStored w maps location ps
 
 -- from w to w', for whichever sheets w holds
 pub record ColumnFilled (w : List ℕ) (header : Header) (steps procedures location : ℕ) (r : Found) (w' : List ℕ) : Type 0 where

@@ -1,6 +1,5 @@
 -- What `fill_maps` promises: the greatest after-maps, filled in where the work space holds the sheets.
-use Rattle.std.specs.Prelude.{◌≡◌, true, false, List, ℕ}
-use Rattle.std.proofs.Math.Option.{none, some}
+use Rattle.std.specs.Prelude.{◌≡◌, true, false, List, ℕ, None, Some}
 use Rattle.spec.specs.Program.{Program}
 use Rattle.spec.specs.Split.{Map, Split}
 use Rattle.workspace.specs.Sheets.{HoldsSheets}
@@ -15,9 +14,9 @@ use Rattle.fill.specs.declared.maps.Found.TheVariants.{Nothing, Large, Maps}
 -- 41; 42, for a number; or the sheets with the greatest after-maps filled in
 module _ (header : Header) (steps procedures : ℕ) (P : Program) (S : Split) (w : List ℕ) where
   abbrev pub FilledAs : Found → Type 0
-  FilledAs Nothing = greatest_maps P S ≡ none
-  FilledAs Large = (γ : List Map) × (greatest_maps P S ≡ some γ) × (all_at_most number_limit γ ≡ false)
-  FilledAs Maps = (γ : List Map) × (greatest_maps P S ≡ some γ) × (all_at_most number_limit γ ≡ true)
+  FilledAs Nothing = greatest_maps P S ≡ None
+  FilledAs Large = (γ : List Map) × (greatest_maps P S ≡ Some γ) × (all_at_most number_limit γ ≡ false)
+  FilledAs Maps = (γ : List Map) × (greatest_maps P S ≡ Some γ) × (all_at_most number_limit γ ≡ true)
       × HoldsSheets w steps procedures header.denominator header.locations header.start.0 P (filled S γ)
 
 -- from w to w', for whichever sheets w holds

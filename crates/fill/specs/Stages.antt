@@ -1,6 +1,7 @@
 -- What each stage of filling promises the one before it.
-use Rattle.std.specs.Prelude.{◌≡◌, List, ℕ, ◌+◌, ◌≤◌, min, leb, length}
-use Rattle.spec.specs.Reading.{Result, ok, ◌>>=◌, require}
+use Rattle.std.specs.Prelude.{◌≡◌, List, ℕ, ◌+◌, ◌≤◌, min, leb, length, Result, Ok}
+use Rattle.spec.specs.declared.Refusal.{Refusal}
+use Rattle.spec.specs.Reading.{◌>>=◌, require}
 use Rattle.spec.specs.Program.{Program}
 use Rattle.spec.specs.Split.{Split, split_limit}
 use Rattle.spec.specs.Verdict.{locks_take_enough, start_at_most_one, type_conditions_hold}
@@ -16,7 +17,7 @@ use Rattle.fill.specs.declared.Filled.{Filled}
 use Rattle.fill.specs.Numbers.{returned_by}
 
 -- the four numbers, and the buffer before and after, are those of an outcome
-pub record OutcomePost (outcome : Result (List ℕ)) (before after : List ℕ) (f : Filled) : Type 0 where
+pub record OutcomePost (outcome : Result (List ℕ) Refusal) (before after : List ℕ) (f : Filled) : Type 0 where
   pub numbers : returned_by f ≡ returned_for outcome
   pub buffer : after ≡ buffer_after outcome before
 
@@ -32,8 +33,8 @@ grown_by steps header = record {
 }
 
 -- 42 by length, else the text
-unfoldable pub fitted : (buffer : ℕ) → List ℕ → Result (List ℕ)
-fitted buffer text = require (leb (length text) (min split_limit buffer)) TooLarge >>= λ short. ok text
+unfoldable pub fitted : (buffer : ℕ) → List ℕ → Result (List ℕ) Refusal
+fitted buffer text = require (leb (length text) (min split_limit buffer)) TooLarge >>= λ short. Ok text
 
 -- the sheet of whichever split the work space holds
 abbrev pub SheetPost : (w : List ℕ) (header : Header) (steps procedures : ℕ) (before after : List ℕ) → Filled → Type 0
@@ -61,7 +62,7 @@ TextPost w header steps procedures before after f =
     (P : Program) (S : Split) → HoldsBoth w header steps procedures P S → OutcomePost (filled_text (length before) P S) before after f
 
 -- 43, 44, 30, 31, 41 and 42
-unfoldable pub after_reading : (buffer : ℕ) → Program → Split → Result (List ℕ)
+unfoldable pub after_reading : (buffer : ℕ) → Program → Split → Result (List ℕ) Refusal
 after_reading buffer P S = do
   few ← require (leb S.header.maps given_limit) TooManyMaps
   locks ← locks_take_enough S

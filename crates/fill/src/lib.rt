@@ -18,7 +18,8 @@ ghost use Rattle.fill.specs.Stages.{OutcomePost, grown_by, SheetsGiven, MapsGive
 
 use maps::{Found, fill_maps};
 use sheets::Reading;
-use spec::{Header, Purpose, Refusal, Ruling};
+use spec::{Header, Purpose, Refusal};
+use workspace::Ruling;
 use split_writer::write_sheet;
 
 // The most bytes that a split sheet may have.

@@ -1,7 +1,7 @@
 -- What the code answers, told of the definition: posts found or not, and a step settled in front of its parts.
+use Rattle.std.proofs.Common.{Option, None, Some}
 use mathlib.Core.Path.{◌≡◌, refl, ap, ◌∙◌}
 use mathlib.Core.List.{List, ◌∷◌}
-use mathlib.Core.Option.{Option, none, some}
 use Prim.Native.Nat.{ℕ, ◌+◌, ◌<◌}
 use native.Mathlib.Omega.{arith}
 use lib.ListN.{length, set}
@@ -15,20 +15,20 @@ use Rattle.fill_transfer.specs.AfterSteps.{as_found}
 use Rattle.fill_pass.specs.Passed.{settled, Answers}
 
 pub found_number : {x : ℕ} (o : Option (List ℕ)) (k : ℕ) (q : List ℕ) (r : Found) → Answers o k q r → r ≡ Number x
-    → (ps : List ℕ) × (o ≡ some ps) × (x ≡ own_post ps) × Region q k ps
-found_number {x} none k q r a e = let clash : ◌≡◌ {A = ℕ} 0 1 = cc in absurd (omega arith)
-found_number (some ps) k q r a e = (ps, refl, cc, a.1)
+    → (ps : List ℕ) × (o ≡ Some ps) × (x ≡ own_post ps) × Region q k ps
+found_number {x} None k q r a e = let clash : ◌≡◌ {A = ℕ} 0 1 = cc in absurd (omega arith)
+found_number (Some ps) k q r a e = (ps, refl, cc, a.1)
 
-pub found_nothing : (o : Option (List ℕ)) (k : ℕ) (q : List ℕ) (r : Found) → Answers o k q r → r ≡ Nothing → o ≡ none
-found_nothing none k q r a e = refl
-found_nothing (some ps) k q r a e = let clash : ◌≡◌ {A = ℕ} 0 1 = cc in absurd (omega arith)
+pub found_nothing : (o : Option (List ℕ)) (k : ℕ) (q : List ℕ) (r : Found) → Answers o k q r → r ≡ Nothing → o ≡ None
+found_nothing None k q r a e = refl
+found_nothing (Some ps) k q r a e = let clash : ◌≡◌ {A = ℕ} 0 1 = cc in absurd (omega arith)
 
 -- a step is settled in front of the posts of its parts
 pub settle_answers : (q q' : List ℕ) (k : ℕ) (inner : List ℕ) (o : Option ℕ) (t r : Found) → t ≡ as_found o → r ≡ t → q' ≡ settled q k t
-    → k < length q → Region q (k + 1) inner → Answers (o >>= λ p. some (p ∷ inner)) k q' r
+    → k < length q → Region q (k + 1) inner → Answers (o >>= λ p. Some (p ∷ inner)) k q' r
 unfolding ◌>>=◌ own_post
-settle_answers q q' k inner none t r e f s l R = f ∙ e
-settle_answers q q' k inner (some p) t r e f s l R =
+settle_answers q q' k inner None t r e f s l R = f ∙ e
+settle_answers q q' k inner (Some p) t r e f s l R =
     let stored : q' ≡ set q k p = s ∙ ap (settled q k) e in
     (f ∙ e, rw stored (region_front q inner k p l R))
 

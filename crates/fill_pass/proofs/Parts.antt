@@ -1,8 +1,8 @@
 -- A step with parts: the parts that the work space shows of it, and the bounds and the pass of its flow by its transfer function.
+use Rattle.std.proofs.Common.{Option, None, Some}
 use mathlib.Core.Path.{◌≡◌, refl, ap, ap₂, sym, ◌∙◌, subst}
 use mathlib.Core.Bool.{Bool, true, false}
 use mathlib.Core.List.{List, ◌∷◌, ◌++◌}
-use mathlib.Core.Option.{Option, none, some}
 use Prim.Native.Nat.{ℕ, suc, ◌+◌, ◌<◌}
 use native.Mathlib.Omega.{arith}
 use lib.Dec.{leb, eqb}
@@ -174,40 +174,40 @@ module _ {m : List ℕ} {k : ℕ} (c : ℕ) where
 
 -- ------------------------------------------------------------------ the pass by the transfer function
 
-pub nothing_bind : {A B : Type 0} (m : Option A) (f : A → Option B) → m ≡ none → (m >>= f) ≡ none
+pub nothing_bind : {A B : Type 0} (m : Option A) (f : A → Option B) → m ≡ None → (m >>= f) ≡ None
 unfolding ◌>>=◌
 nothing_bind m f e = rw e
 
 bind_same : {A B : Type 0} (m : Option A) (f g : A → Option B) → ((a : A) → f a ≡ g a) → (m >>= f) ≡ (m >>= g)
 unfolding ◌>>=◌
-bind_same none f g h = refl
-bind_same (some a) f g h = h a
+bind_same None f g h = refl
+bind_same (Some a) f g h = h a
 
 -- what a test lets pass comes first as if the test came first
-tested : (b : Bool) (o : Option ℕ) (ps : List ℕ) → (require b >>= λ met. o >>= λ p. some (p ∷ ps)) ≡ ((require b >>= λ met. o) >>= λ p. some (p ∷ ps))
+tested : (b : Bool) (o : Option ℕ) (ps : List ℕ) → (require b >>= λ met. o >>= λ p. Some (p ∷ ps)) ≡ ((require b >>= λ met. o) >>= λ p. Some (p ∷ ps))
 unfolding ◌>>=◌ require
 tested true o ps = refl
 tested false o ps = refl
 
 pub pass_unary : (pre c before : ℕ) (transfer : UnaryTransfer) (f : Flow) → before ≡ part_pre transfer pre (own_upper_bound_of transfer c f)
     → pass top pre c (unary_flow transfer f)
-    ≡ (pass top before (part_upper_bound transfer c) f >>= λ ps. after_unary transfer before (own_post ps) >>= λ p. some (p ∷ ps))
+    ≡ (pass top before (part_upper_bound transfer c) f >>= λ ps. after_unary transfer before (own_post ps) >>= λ p. Some (p ∷ ps))
 unfolding pass attainable unary_flow part_upper_bound unary_upper_bound part_pre after_unary ◌>>=◌
 pass_unary pre c before transfer f e =
-    subst (λ (b : ℕ). pass top pre c (unary_flow transfer f) ≡ (pass top b (part_upper_bound transfer c) f >>= λ ps. after_unary transfer b (own_post ps) >>= λ p. some (p ∷ ps))) (sym e) (by transfer)
+    subst (λ (b : ℕ). pass top pre c (unary_flow transfer f) ≡ (pass top b (part_upper_bound transfer c) f >>= λ ps. after_unary transfer b (own_post ps) >>= λ p. Some (p ∷ ps))) (sym e) (by transfer)
   where
     by : (transfer : UnaryTransfer) → let b = part_pre transfer pre (own_upper_bound_of transfer c f) in
-        pass top pre c (unary_flow transfer f) ≡ (pass top b (part_upper_bound transfer c) f >>= λ ps. after_unary transfer b (own_post ps) >>= λ p. some (p ∷ ps))
+        pass top pre c (unary_flow transfer f) ≡ (pass top b (part_upper_bound transfer c) f >>= λ ps. after_unary transfer b (own_post ps) >>= λ p. Some (p ∷ ps))
     by (After E) = refl
     by Loop =
         let most = attainable top pre c (loop f) in
-        bind_same (pass top most top f) _ _ (λ ps. tested (leb most (own_post ps)) (some most) ps)
-    by (Call wanted left) = bind_same (pass top pre wanted f) _ _ (λ ps. tested (eqb (own_post ps) wanted) (some left) ps)
+        bind_same (pass top most top f) _ _ (λ ps. tested (leb most (own_post ps)) (Some most) ps)
+    by (Call wanted left) = bind_same (pass top pre wanted f) _ _ (λ ps. tested (eqb (own_post ps) wanted) (Some left) ps)
 
 pub pass_binary : (pre c : ℕ) (transfer : BinaryTransfer) (f g : Flow)
     → pass top pre c (binary_flow transfer f g)
     ≡ (pass top pre (first_upper_bound_of transfer c g) f >>= λ ps. pass top (second_pre transfer pre (own_post ps)) (last_upper_bound transfer c) g >>= λ qs.
-    after_binary transfer c (own_post ps) (own_post qs) >>= λ p. some (p ∷ (ps ++ qs)))
+    after_binary transfer c (own_post ps) (own_post qs) >>= λ p. Some (p ∷ (ps ++ qs)))
 unfolding pass binary_flow last_upper_bound first_upper_bound second_pre after_binary ◌>>=◌
 pass_binary pre c (InTurn E) f g = refl
 pass_binary pre c Branch f g = refl

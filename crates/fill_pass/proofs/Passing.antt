@@ -1,8 +1,8 @@
 -- The pass over what the work space shows: a step without parts, with one, with two; a part without posts.
+use Rattle.std.proofs.Common.{None, Some}
 use mathlib.Core.Path.{◌≡◌, refl, ap, ap₂, sym, ◌∙◌, subst}
 use mathlib.Core.Logic.{inl}
 use mathlib.Core.List.{List, [], ◌∷◌, ◌++◌}
-use mathlib.Core.Option.{none, some}
 use Prim.Native.Nat.{ℕ, ◌+◌, ◌<◌}
 use native.Mathlib.Omega.{arith}
 use lib.ListN.{length, get_or}
@@ -49,7 +49,7 @@ module _ (w m : List ℕ) (column : Column) (k pre : ℕ) (q : List ℕ) where
       (q₁ : List ℕ) (r₁ : Found) (A : Passed w m column (k + 1) before q q₁ r₁) where
     -- the pass of a flow whose part is g
     pass_by : (f g : Flow) (c : ℕ) (is : f ≡ unary_flow transfer g) (C : Region m k (upper_bounds_of c f))
-        → pass top pre c f ≡ (pass top before (part_upper_bound transfer c) g >>= λ ps. after_unary transfer before (own_post ps) >>= λ p. some (p ∷ ps))
+        → pass top pre c f ≡ (pass top before (part_upper_bound transfer c) g >>= λ ps. after_unary transfer before (own_post ps) >>= λ p. Some (p ∷ ps))
     pass_by f g c is C = ap (pass top pre c) is ∙ pass_unary pre c before transfer g (from ∙ ap (part_pre transfer pre) (own ∙ unary_upper_bound_lem c transfer g is C))
 
     part_changed : (f : Flow) → Shows w column k f → ChangedWithin k (k + steps f) q q₁
@@ -66,7 +66,7 @@ module _ (w m : List ℕ) (column : Column) (k pre : ℕ) (q : List ℕ) where
         answers f c S C =
             let U = unary_parts w column k transfer f S seen in
             let None-found = found_nothing (pass top before (part_upper_bound transfer c) U.part) (k + 1) q₁ r₁ (A.answers U.part _ U.shown (part_upper_bounds c transfer U.part U.is C)) n in
-            let whole : pass top pre c f ≡ none = pass_by f U.part c U.is C ∙ nothing_bind _ _ None-found in
+            let whole : pass top pre c f ≡ None = pass_by f U.part c U.is C ∙ nothing_bind _ _ None-found in
             subst (λ o. Answers o k q₁ Nothing) (sym whole) refl
 
     pub unary_passed : (first : ℕ) (t r : Found) (q' : List ℕ) → r₁ ≡ Number first → k < length q₁
@@ -98,7 +98,7 @@ module _ (w m : List ℕ) (column : Column) (k pre : ℕ) (q : List ℕ) where
     pass_both : (f g h : Flow) (c : ℕ) → f ≡ binary_flow transfer g h
         → pass top pre c f
         ≡ (pass top pre (first_upper_bound_of transfer c h) g >>= λ ps. pass top (second_pre transfer pre (own_post ps)) (last_upper_bound transfer c) h >>= λ qs.
-        after_binary transfer c (own_post ps) (own_post qs) >>= λ p. some (p ∷ (ps ++ qs)))
+        after_binary transfer c (own_post ps) (own_post qs) >>= λ p. Some (p ∷ (ps ++ qs)))
     pass_both f g h c is = ap (pass top pre c) is ∙ pass_binary pre c transfer g h
 
     -- the first has no posts
@@ -109,7 +109,7 @@ module _ (w m : List ℕ) (column : Column) (k pre : ℕ) (q : List ℕ) where
         answers f c S C =
             let B = binary_parts w column k transfer f S seen in
             let None-found = found_nothing (pass top pre (first_upper_bound_of transfer c B.second) B.first) (k + 1) q₁ r₁ (A.answers B.first _ B.shown (first_upper_bounds c transfer B.first B.second B.is C)) n in
-            let whole : pass top pre c f ≡ none = pass_both f B.first B.second c B.is ∙ nothing_bind _ _ None-found in
+            let whole : pass top pre c f ≡ None = pass_both f B.first B.second c B.is ∙ nothing_bind _ _ None-found in
             subst (λ o. Answers o k q₁ Nothing) (sym whole) refl
 
     module _ (first second next : ℕ) (n : r₁ ≡ Number first) (at : second ≡ end_in w (k + 1)) (from : next ≡ second_pre transfer pre first)
@@ -145,7 +145,7 @@ module _ (w m : List ℕ) (column : Column) (k pre : ℕ) (q : List ℕ) where
               let (ps, found, own, R) = found_number (pass top pre (first_upper_bound_of transfer c B.second) B.first) (k + 1) q₁ r₁ (A.answers B.first _ B.shown (first_upper_bounds c transfer B.first B.second B.is C)) n in
               let None-found = found_nothing (pass top (second_pre transfer pre (own_post ps)) (last_upper_bound transfer c) B.second) _ q₂ r₂
               (second_answers f B.first B.second c ps B.is C B.ends B.behind own) missed in
-              let whole : pass top pre c f ≡ none = pass_both f B.first B.second c B.is ∙ finds_bind _ _ found (nothing_bind _ _ None-found) in
+              let whole : pass top pre c f ≡ None = pass_both f B.first B.second c B.is ∙ finds_bind _ _ found (nothing_bind _ _ None-found) in
               subst (λ o. Answers o k q₂ Nothing) (sym whole) refl
 
       pub binary_passed : {cap : ℕ} → cap ≡ get_or m k 0 → (last : ℕ) (t r : Found) (q' : List ℕ) → r₂ ≡ Number last → k < length q₂

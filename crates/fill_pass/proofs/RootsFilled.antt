@@ -1,9 +1,9 @@
 -- Filling the roots that are shown: the root of the program behind all bodies; a body, and then those behind it.
+use Rattle.std.proofs.Common.{Option, None, Some}
 use mathlib.Core.Path.{◌≡◌, refl, ap, sym, ◌∙◌, subst}
 use mathlib.Core.Logic.{inl}
 use mathlib.Core.Bool.{Bool, true, false}
 use mathlib.Core.List.{List, [], ◌∷◌, ◌++◌, append-nil}
-use mathlib.Core.Option.{Option, none, some}
 use Prim.Native.Nat.{ℕ, ◌+◌, ◌≤◌, ◌<◌}
 use native.Mathlib.Omega.{arith}
 use lib.ListN.{length}
@@ -33,20 +33,20 @@ module _ (pre due : ℕ) (g : Flow) (rs : List Root) where
   abbrev here : List Root
   here = record { pre = pre; due = due; flow = g } ∷ rs
 
-  root_missed : greatest_posts pre g ≡ none → posts_of_roots here ≡ none
+  root_missed : greatest_posts pre g ≡ None → posts_of_roots here ≡ None
   unfolding posts_of_roots
   root_missed e = nothing_bind _ _ e
 
-  module _ {ps : List ℕ} (found : greatest_posts pre g ≡ some ps) where
-    root_short : own_post ps < due → posts_of_roots here ≡ none
+  module _ {ps : List ℕ} (found : greatest_posts pre g ≡ Some ps) where
+    root_short : own_post ps < due → posts_of_roots here ≡ None
     unfolding posts_of_roots require ◌>>=◌
     root_short l = finds_bind _ _ found (rw (lt-leb due (own_post ps) l))
 
-    others_missed : due ≤ own_post ps → posts_of_roots rs ≡ none → posts_of_roots here ≡ none
+    others_missed : due ≤ own_post ps → posts_of_roots rs ≡ None → posts_of_roots here ≡ None
     unfolding posts_of_roots require ◌>>=◌
     others_missed l e = finds_bind _ _ found (rw (le-leb due (own_post ps) l, e))
 
-    both_found : {qs : List ℕ} → due ≤ own_post ps → posts_of_roots rs ≡ some qs → posts_of_roots here ≡ some (ps ++ qs)
+    both_found : {qs : List ℕ} → due ≤ own_post ps → posts_of_roots rs ≡ Some qs → posts_of_roots here ≡ Some (ps ++ qs)
     unfolding posts_of_roots require ◌>>=◌
     both_found l e = finds_bind _ _ found (rw (le-leb due (own_post ps) l, e))
 
@@ -145,7 +145,7 @@ module _ (w : List ℕ) (column : Column) (given : Given) (f : ℕ) where
           answers = λ rs s.
               let L = last_shown rs e s in
               let None-found = found_nothing (greatest_posts pre L.flow) _ q₁ r (A'.answers L.flow L.shown) n in
-              let whole : posts_of_roots rs ≡ none = ap posts_of_roots L.is ∙ root_missed _ 0 L.flow [] (sym (ap (λ (x : ℕ). greatest_posts x L.flow) begins) ∙ None-found) in
+              let whole : posts_of_roots rs ≡ None = ap posts_of_roots L.is ∙ root_missed _ 0 L.flow [] (sym (ap (λ (x : ℕ). greatest_posts x L.flow) begins) ∙ None-found) in
               subst (λ o. Stored o (first_in w f) q₁ false) (sym whole) refl;
           changed = last_changed;
         }
@@ -156,8 +156,8 @@ module _ (w : List ℕ) (column : Column) (given : Given) (f : ℕ) where
           answers = λ rs s.
               let L = last_shown rs e s in
               let (ps, found, own, stand) = found_number (greatest_posts pre L.flow) _ q₁ r (A'.answers L.flow L.shown) n in
-              let whole : posts_of_roots rs ≡ some ps =
-              ap posts_of_roots L.is ∙ both_found _ 0 L.flow [] (sym (ap (λ (x : ℕ). greatest_posts x L.flow) begins) ∙ found) (omega arith) refl ∙ ap some (append-nil ps) in
+              let whole : posts_of_roots rs ≡ Some ps =
+              ap posts_of_roots L.is ∙ both_found _ 0 L.flow [] (sym (ap (λ (x : ℕ). greatest_posts x L.flow) begins) ∙ found) (omega arith) refl ∙ ap Some (append-nil ps) in
               subst (λ o. Stored o (first_in w f) q₁ true) (sym whole) (refl, stand);
           changed = last_changed;
         }
@@ -177,7 +177,7 @@ module _ (w : List ℕ) (column : Column) (given : Given) (f : ℕ) where
           answers = λ rs s.
               let B = body_shown_lem rs e s in
               let None-found = found_nothing (greatest_posts pre B.flow) _ q₁ r (A'.answers B.flow B.shown) n in
-              let whole : posts_of_roots rs ≡ none = ap posts_of_roots B.is ∙ root_missed _ _ B.flow B.others (sym (ap (λ (x : ℕ). greatest_posts x B.flow) begins) ∙ None-found) in
+              let whole : posts_of_roots rs ≡ None = ap posts_of_roots B.is ∙ root_missed _ _ B.flow B.others (sym (ap (λ (x : ℕ). greatest_posts x B.flow) begins) ∙ None-found) in
               subst (λ o. Stored o (first_in w f) q₁ false) (sym whole) refl;
           changed = body_changed;
         }
@@ -188,7 +188,7 @@ module _ (w : List ℕ) (column : Column) (given : Given) (f : ℕ) where
             answers = λ rs s.
                 let B = body_shown_lem rs e s in
                 let (ps, found, own, _) = found_number (greatest_posts pre B.flow) _ q₁ r (A'.answers B.flow B.shown) n in
-                let whole : posts_of_roots rs ≡ none =
+                let whole : posts_of_roots rs ≡ None =
                 ap posts_of_roots B.is ∙ root_short _ _ B.flow B.others (sym (ap (λ (x : ℕ). greatest_posts x B.flow) begins) ∙ found) (omega (arith, own, owed)) in
                 subst (λ o. Stored o (first_in w f) q₁ false) (sym whole) refl;
             changed = body_changed;
@@ -212,14 +212,14 @@ module _ (w : List ℕ) (column : Column) (given : Given) (f : ℕ) where
                   (by_others B.flow B.others ps (sym (ap (λ (x : ℕ). greatest_posts x B.flow) begins) ∙ found) (omega (arith, own, owed)) stand B.next (D.changed B.others B.behind)
                   (posts_of_roots B.others) refl (D.answers B.others B.behind))
                 where
-                  by_others : (g : Flow) (others : List Root) (ps : List ℕ) → greatest_posts (before_in w column f) g ≡ some ps → after_in w column f ≤ own_post ps
+                  by_others : (g : Flow) (others : List Root) (ps : List ℕ) → greatest_posts (before_in w column f) g ≡ Some ps → after_in w column f ≤ own_post ps
                       → Region q₁ (first_in w f) ps → first_in w (f + 1) ≡ first_in w f + steps g
                       → ChangedWithin (first_in w (f + 1)) (first_in w (f + 1) + steps_of others) q₁ q₂
                       → (o : Option (List ℕ)) → posts_of_roots others ≡ o → Stored o (first_in w (f + 1)) q₂ t
                       → Stored (posts_of_roots (record { pre = before_in w column f; due = after_in w column f; flow = g } ∷ others)) (first_in w f) q₂ t
-                  by_others g others ps found enough stand next kept none missed told =
+                  by_others g others ps found enough stand next kept None missed told =
                       subst (λ o. Stored o (first_in w f) q₂ t) (sym (others_missed _ _ g others found enough missed)) told
-                  by_others g others ps found enough stand next kept (some qs) behind told =
+                  by_others g others ps found enough stand next kept (Some qs) behind told =
                       let counted : length ps ≡ steps g = posts_counted _ g found in
                       subst (λ o. Stored o (first_in w f) q₂ t) (sym (both_found _ _ g others found enough behind))
                       (told.0, region_append ps qs (region_kept kept (inl (omega arith)) stand) (region_moved _ _ (omega arith) told.1))

@@ -1,6 +1,5 @@
 -- What the code of the pass asks and promises.
-use Rattle.std.specs.Prelude.{◌≡◌, List, ℕ, ◌+◌, ◌≤◌, ◌<◌, length, get_or, set}
-use Rattle.std.proofs.Math.Option.{Option, none, some}
+use Rattle.std.specs.Prelude.{◌≡◌, List, ℕ, ◌+◌, ◌≤◌, ◌<◌, length, get_or, set, Option, None, Some}
 use Rattle.workspace.specs.Region.{Region, ChangedWithin}
 use Rattle.fill_theory.specs.Flow.{Flow, steps}
 use Rattle.fill_theory.specs.Pass.{own_post, pass, greatest_posts}
@@ -25,8 +24,8 @@ pub record Ready (w m : List ℕ) (column : Column) (k pre : ℕ) (q : List ℕ)
 
 -- no posts; or those of the pass, with the step's own as the answer
 abbrev pub Answers : Option (List ℕ) → (k : ℕ) → (q : List ℕ) → Found → Type 0
-Answers none k q r = r ≡ Nothing
-Answers (some ps) k q r = (r ≡ Number (own_post ps)) × Region q k ps
+Answers None k q r = r ≡ Nothing
+Answers (Some ps) k q r = (r ≡ Number (own_post ps)) × Region q k ps
 
 -- from the posts q to q': whichever flow the work space shows from step k on, its pass from pre
 pub record Passed (w m : List ℕ) (column : Column) (k pre : ℕ) (q q' : List ℕ) (r : Found) : Type 0 where

@@ -1,7 +1,6 @@
 -- The roots that the work space shows at a location, procedures' bodies and the root of the program, and what filling them asks and
 -- promises.
-use Rattle.std.specs.Prelude.{◌≡◌, Bool, true, false, List, [], ◌∷◌, ℕ, ◌+◌, ◌≤◌, ◌<◌, length, get_or}
-use Rattle.std.proofs.Math.Option.{Option, none, some}
+use Rattle.std.specs.Prelude.{◌≡◌, Bool, true, false, List, [], ◌∷◌, ℕ, ◌+◌, ◌≤◌, ◌<◌, length, get_or, Option, None, Some}
 use Rattle.workspace.specs.Layout.{proc_firsts_at}
 use Rattle.workspace.specs.Region.{Region, ChangedWithin}
 use Rattle.fill_theory.specs.Flow.{Flow, steps, Root, steps_of}
@@ -25,8 +24,8 @@ pub data RootsShown (w : List ℕ) (column : Column) (given : Given) : (f : ℕ)
 
 -- whether posts are found; if so they stand in q from step k on
 abbrev pub Stored : Option (List ℕ) → (k : ℕ) → (q : List ℕ) → Bool → Type 0
-Stored none k q r = r ≡ false
-Stored (some ps) k q r = (r ≡ true) × Region q k ps
+Stored None k q r = r ≡ false
+Stored (Some ps) k q r = (r ≡ true) × Region q k ps
 
 -- some roots are shown, of steps that there are, and there is room for their posts
 pub record RootsReady (w : List ℕ) (column : Column) (given : Given) (f : ℕ) (q : List ℕ) : Type 0 where

@@ -1,17 +1,18 @@
 -- What the answer of filling says of a pair of sheets: 41 exactly when there are no after-maps, a text exactly when the greatest
 -- after-maps keep the size limits, and then the pair with that text is accepted.
+use Rattle.std.proofs.Common.{Option, None, Some, Result, Ok, Err}
 use mathlib.Core.Path.{◌≡◌, refl, ap, sym, ◌∙◌}
 use mathlib.Core.Path.{subst as along}
 use mathlib.Core.Bool.{Bool, true, false}
 use mathlib.Core.List.{List, []}
 use mathlib.Core.Logic.{◌↔◌, ◌⊎◌, inl, inr, ⊎_elim}
-use mathlib.Core.Option.{Option, none, some}
 use Prim.Native.Nat.{ℕ, ◌≤◌, min}
 use native.Mathlib.Omega.{arith}
 use native.Mathlib.Decide.{dec_le}
 use lib.ListN.{length, get_or}
 use borrow.Author.Tests.{leb-true}
-use Rattle.spec.specs.Reading.{Result, refuse, ok}
+
+use Rattle.spec.specs.declared.Refusal.{Refusal}
 use Rattle.spec.specs.Program.{Program, program_limit}
 use Rattle.spec.specs.Split.{Map, Split, split, split_limit}
 use Rattle.spec.specs.Maps.{share}
@@ -41,7 +42,7 @@ use Rattle.fill_theory.proofs.Filling.{solvable, found_exactly_greatest, locks_k
 -- ------------------------------------------------------------------ refusals
 
 -- 42 is not 41
-too_large_is_not_none : {C : Type 0} → ◌≡◌ {A = Result (List ℕ)} (refuse TooLarge) (refuse NoAfterMaps) → C
+too_large_is_not_none : {C : Type 0} → ◌≡◌ {A = Result (List ℕ) Refusal} (Err TooLarge) (Err NoAfterMaps) → C
 unfolding returned numbers4
 too_large_is_not_none h =
     let clash : ◌≡◌ {A = ℕ} 42 41 = ap (λ r. (returned (Refuse r)).number) (stop_injective h) in
@@ -50,13 +51,13 @@ too_large_is_not_none h =
 -- ------------------------------------------------------------------ the answer
 
 -- 41, 42 or a text
-pub data Decided : Result (List ℕ) → Type 0 where
-  refused_unsolvable : Decided (refuse NoAfterMaps)
-  refused_too_large : Decided (refuse TooLarge)
-  wrote_text : (t : List ℕ) → Decided (ok t)
+pub data Decided : Result (List ℕ) Refusal → Type 0 where
+  refused_unsolvable : Decided (Err NoAfterMaps)
+  refused_too_large : Decided (Err TooLarge)
+  wrote_text : (t : List ℕ) → Decided (Ok t)
 
 module _ (buffer : ℕ) (P : Program) (S : Split) where
-  abbrev text : Result (List ℕ)
+  abbrev text : Result (List ℕ) Refusal
   text = filled_text buffer P S
 
   -- no maps keep the limits and go over one
@@ -68,9 +69,9 @@ module _ (buffer : ℕ) (P : Program) (S : Split) where
 
   -- once the greatest maps are found, the split with them is written, or it goes over a limit
   Settled : List Map → Type 0
-  Settled γ = (WithinLimits buffer S γ × (text ≡ ok (sheet_text (filled S γ)))) ⊎ (OverLimits buffer S γ × (text ≡ refuse TooLarge))
+  Settled γ = (WithinLimits buffer S γ × (text ≡ Ok (sheet_text (filled S γ)))) ⊎ (OverLimits buffer S γ × (text ≡ Err TooLarge))
 
-  settled : (γ : List Map) → greatest_maps P S ≡ some γ → Settled γ
+  settled : (γ : List Map) → greatest_maps P S ≡ Some γ → Settled γ
   unfolding Settled number_limit split_limit share
   settled γ e = go (all_at_most number_limit γ) refl (dec_le (length (sheet_text (filled S γ))) (min split_limit buffer))
     where
@@ -90,19 +91,19 @@ module _ (buffer : ℕ) (P : Program) (S : Split) where
       go true small (no long) =
           inr (too_long (dec_le (length (sheet_text (filled S γ))) buffer) long, long_text buffer P S γ e small (omega (arith, long)))
 
-  within_limits_lem : (γ : List Map) → greatest_maps P S ≡ some γ → WithinLimits buffer S γ → text ≡ ok (sheet_text (filled S γ))
+  within_limits_lem : (γ : List Map) → greatest_maps P S ≡ Some γ → WithinLimits buffer S γ → text ≡ Ok (sheet_text (filled S γ))
   unfolding Settled
   within_limits_lem γ e limits = ⊎_elim (λ w. w.1) (λ o. absurd (not_over γ limits o.0)) (settled γ e)
 
-  over_limits : (γ : List Map) → greatest_maps P S ≡ some γ → OverLimits buffer S γ → text ≡ refuse TooLarge
+  over_limits : (γ : List Map) → greatest_maps P S ≡ Some γ → OverLimits buffer S γ → text ≡ Err TooLarge
   unfolding Settled
   over_limits γ e over = ⊎_elim (λ w. absurd (not_over γ w.0 over)) (λ o. o.1) (settled γ e)
 
-  refused_over : (γ : List Map) → greatest_maps P S ≡ some γ → text ≡ refuse TooLarge → OverLimits buffer S γ
+  refused_over : (γ : List Map) → greatest_maps P S ≡ Some γ → text ≡ Err TooLarge → OverLimits buffer S γ
   unfolding Settled
   refused_over γ e h = ⊎_elim (λ w. stop_is_not_on (sym h ∙ w.1)) (λ o. o.0) (settled γ e)
 
-  found_not_refused : {C : Type 0} (γ : List Map) → greatest_maps P S ≡ some γ → text ≡ refuse NoAfterMaps → C
+  found_not_refused : {C : Type 0} (γ : List Map) → greatest_maps P S ≡ Some γ → text ≡ Err NoAfterMaps → C
   unfolding Settled
   found_not_refused γ e h = ⊎_elim (λ w. stop_is_not_on (sym h ∙ w.1)) (λ o. too_large_is_not_none (sym o.1 ∙ h)) (settled γ e)
 
@@ -111,23 +112,23 @@ module _ (buffer : ℕ) (P : Program) (S : Split) where
   filled_decided = go (greatest_maps P S) refl
     where
       go : (o : Option (List Map)) → greatest_maps P S ≡ o → Decided text
-      go none e = along Decided (sym (no_after_maps buffer P S e)) refused_unsolvable
-      go (some γ) e =
+      go None e = along Decided (sym (no_after_maps buffer P S e)) refused_unsolvable
+      go (Some γ) e =
           ⊎_elim (λ w. along Decided (sym w.1) (wrote_text (sheet_text (filled S γ)))) (λ o. along Decided (sym o.1) refused_too_large) (settled γ e)
 
   -- a text that is written, and what it has
-  text_has : (t : List ℕ) → text ≡ ok t
-      → (γ : List Map) × (greatest_maps P S ≡ some γ) × WithinLimits buffer S γ × (t ≡ sheet_text (filled S γ))
+  text_has : (t : List ℕ) → text ≡ Ok t
+      → (γ : List Map) × (greatest_maps P S ≡ Some γ) × WithinLimits buffer S γ × (t ≡ sheet_text (filled S γ))
   unfolding Settled
   text_has t h = go (greatest_maps P S) refl
     where
       go : (o : Option (List Map)) → greatest_maps P S ≡ o
-          → (γ : List Map) × (greatest_maps P S ≡ some γ) × WithinLimits buffer S γ × (t ≡ sheet_text (filled S γ))
-      go none e = stop_is_not_on (sym (no_after_maps buffer P S e) ∙ h)
-      go (some γ) e = ⊎_elim (λ w. (γ, e, w.0, on_injective (sym h ∙ w.1))) (λ o. stop_is_not_on (sym o.1 ∙ h)) (settled γ e)
+          → (γ : List Map) × (greatest_maps P S ≡ Some γ) × WithinLimits buffer S γ × (t ≡ sheet_text (filled S γ))
+      go None e = stop_is_not_on (sym (no_after_maps buffer P S e) ∙ h)
+      go (Some γ) e = ⊎_elim (λ w. (γ, e, w.0, on_injective (sym h ∙ w.1))) (λ o. stop_is_not_on (sym o.1 ∙ h)) (settled γ e)
 
 module _ (room buffer : ℕ) (p s : List ℕ) where
-  abbrev answered : Result (List ℕ)
+  abbrev answered : Result (List ℕ) Refusal
   answered = fill room buffer p s
 
   -- 41 and 42 decide once all that is judged before them is passed
@@ -143,8 +144,8 @@ module _ (room buffer : ℕ) (p s : List ℕ) where
   fillable_decided P S F = along Decided (sym (fillable_decides P S F)) (filled_decided buffer P S)
 
   -- a text is written only then
-  written_fillable : {t : List ℕ} → answered ≡ ok t
-      → (P : Program) × (S : Split) × Fillable room p s P S × (filled_text buffer P S ≡ ok t)
+  written_fillable : {t : List ℕ} → answered ≡ Ok t
+      → (P : Program) × (S : Split) × Fillable room p s P S × (filled_text buffer P S ≡ Ok t)
   unfolding fill type_conditions_hold type_claims
   written_fillable h =
       let (_, enough, r₁) = bind_goes_on _ _ h in
@@ -170,37 +171,37 @@ module _ (room buffer : ℕ) (p s : List ℕ) where
 
   -- "41 if no such maps exist"
   pub refused_exactly_unsolvable : (P : Program) (S : Split) → Fillable room p s P S
-      → (answered ≡ refuse NoAfterMaps) ↔ ((σ : List Map) → AfterMaps P S σ → ⊥)
+      → (answered ≡ Err NoAfterMaps) ↔ ((σ : List Map) → AfterMaps P S σ → ⊥)
   refused_exactly_unsolvable P S F = rw (fillable_decides P S F) (
     λ h σ A. let (γ, e) = solves.1 (σ, A) in found_not_refused buffer P S γ e h,
     λ unsolvable. no_after_maps buffer P S (go (greatest_maps P S) refl unsolvable),
   )
     where
-      solves : ((γ : List Map) × (greatest_maps P S ≡ some γ)) ↔ ((σ : List Map) × AfterMaps P S σ)
+      solves : ((γ : List Map) × (greatest_maps P S ≡ Some γ)) ↔ ((σ : List Map) × AfterMaps P S σ)
       solves = solvable P S F.judgeable.sheets.program (well_formed_in_range F.judgeable.sheets.split)
 
-      go : (o : Option (List Map)) → greatest_maps P S ≡ o → ((σ : List Map) → AfterMaps P S σ → ⊥) → o ≡ none
-      go none e unsolvable = refl
-      go (some γ) e unsolvable = let (σ, A) = solves.0 (γ, e) in absurd (unsolvable σ A)
+      go : (o : Option (List Map)) → greatest_maps P S ≡ o → ((σ : List Map) → AfterMaps P S σ → ⊥) → o ≡ None
+      go None e unsolvable = refl
+      go (Some γ) e unsolvable = let (σ, A) = solves.0 (γ, e) in absurd (unsolvable σ A)
 
-  greatest : (P : Program) (S : Split) → Fillable room p s P S → (γ : List Map) → greatest_maps P S ≡ some γ ↔ GreatestMaps P S γ
+  greatest : (P : Program) (S : Split) → Fillable room p s P S → (γ : List Map) → greatest_maps P S ≡ Some γ ↔ GreatestMaps P S γ
   greatest P S F = found_exactly_greatest P S F.judgeable.sheets.program (well_formed_in_range F.judgeable.sheets.split)
 
   -- "42 if the greatest has a number above 1,000,000,000 or the filled sheet is over 65,536 bytes or over the buffer"
   pub refused_exactly_too_large : (P : Program) (S : Split) → Fillable room p s P S
-      → (answered ≡ refuse TooLarge) ↔ GreatestOverLimits buffer P S
+      → (answered ≡ Err TooLarge) ↔ GreatestOverLimits buffer P S
   refused_exactly_too_large P S F = rw (fillable_decides P S F) (
     λ h. found (greatest_maps P S) refl h,
     λ G. over_limits buffer P S G.γ ((greatest P S F G.γ).1 G.greatest) G.over,
   )
     where
-      found : (o : Option (List Map)) → greatest_maps P S ≡ o → filled_text buffer P S ≡ refuse TooLarge
+      found : (o : Option (List Map)) → greatest_maps P S ≡ o → filled_text buffer P S ≡ Err TooLarge
           → GreatestOverLimits buffer P S
-      found none e h = too_large_is_not_none (sym h ∙ no_after_maps buffer P S e)
-      found (some γ) e h = record { γ = γ; greatest = (greatest P S F γ).0 e; over = refused_over buffer P S γ e h }
+      found None e h = too_large_is_not_none (sym h ∙ no_after_maps buffer P S e)
+      found (Some γ) e h = record { γ = γ; greatest = (greatest P S F γ).0 e; over = refused_over buffer P S γ e h }
 
   -- "It is written exactly when .., apart from the size limits": with the greatest after-maps
-  pub written_exactly : (t : List ℕ) → answered ≡ ok t ↔ FilledSheet room buffer p s t
+  pub written_exactly : (t : List ℕ) → answered ≡ Ok t ↔ FilledSheet room buffer p s t
   written_exactly t = (
     λ h.
         let (P, S, F, e) = written_fillable h in
@@ -210,11 +211,11 @@ module _ (room buffer : ℕ) (p s : List ℕ) where
         let F = W.fillable in
         fillable_decides W.P W.S F
         ∙ within_limits_lem buffer W.P W.S W.γ ((greatest W.P W.S F W.γ).1 W.greatest) W.limits
-        ∙ ap ok (sym W.is_text),
+        ∙ ap Ok (sym W.is_text),
   )
 
   -- "The filled pair must be accepted"
-  pub written_accepted : (t : List ℕ) → answered ≡ ok t → verdict room p t ≡ Accept
+  pub written_accepted : (t : List ℕ) → answered ≡ Ok t → verdict room p t ≡ Accept
   unfolding answer workspace_size program_limit split_limit given_limit type_conditions_hold type_claims
   written_accepted t h =
       let W = (written_exactly t).0 h in

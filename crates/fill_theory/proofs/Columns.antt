@@ -1,7 +1,7 @@
 -- The posts found at each location, and the maps that they make.
+use Rattle.std.proofs.Common.{Option, None, Some}
 use mathlib.Core.Path.{◌≡◌, refl, ap, sym, ◌∙◌}
 use mathlib.Core.List.{List, [], ◌∷◌}
-use mathlib.Core.Option.{Option, none, some}
 use Prim.Native.Nat.{ℕ, zero, suc, ◌+◌, ◌<◌}
 use native.Mathlib.Omega.{arith}
 use lib.ListN.{length, get_or, length-map, get_or-map}
@@ -15,8 +15,8 @@ use Rattle.fill_theory.proofs.Found.{some_injective, bind_through, finds_bind}
 
 module _ {A : Type 0} (f : ℕ → Option A) (d : A) where
   -- all found, each is the one found for its number
-  pub each_found : (l n : ℕ) (all : List A) → for_each f l n ≡ some all
-      → (length all ≡ n) × ((q : ℕ) → q < n → f (l + q) ≡ some (get_or all q d))
+  pub each_found : (l n : ℕ) (all : List A) → for_each f l n ≡ Some all
+      → (length all ≡ n) × ((q : ℕ) → q < n → f (l + q) ≡ Some (get_or all q d))
   unfolding for_each
   each_found l zero all h = (ap length (sym (some_injective h)), λ q i. absurd (omega arith))
   each_found l (suc n) all h =
@@ -26,13 +26,13 @@ module _ {A : Type 0} (f : ℕ → Option A) (d : A) where
       let shown = some_injective e in
       (ap length (sym shown) ∙ ap suc long, λ q i. rw (← shown) (go a rest h₁ found q i))
     where
-      go : (a : A) (rest : List A) → f l ≡ some a → ((q : ℕ) → q < n → f (l + 1 + q) ≡ some (get_or rest q d))
-          → (q : ℕ) → q < suc n → f (l + q) ≡ some (get_or (a ∷ rest) q d)
+      go : (a : A) (rest : List A) → f l ≡ Some a → ((q : ℕ) → q < n → f (l + 1 + q) ≡ Some (get_or rest q d))
+          → (q : ℕ) → q < suc n → f (l + q) ≡ Some (get_or (a ∷ rest) q d)
       go a rest h r zero i = let z : l + 0 ≡ l = omega arith in rw z h
       go a rest h r (suc q) i = let z : l + suc q ≡ l + 1 + q = omega arith in rw z (r q (omega arith))
 
-pub find_each : {A : Type 0} (f : ℕ → Option A) (l n : ℕ) → ((q : ℕ) → q < n → (a : A) × (f (l + q) ≡ some a))
-    → (all : List A) × (for_each f l n ≡ some all)
+pub find_each : {A : Type 0} (f : ℕ → Option A) (l n : ℕ) → ((q : ℕ) → q < n → (a : A) × (f (l + q) ≡ Some a))
+    → (all : List A) × (for_each f l n ≡ Some all)
 unfolding for_each
 find_each f l zero h = ([], refl)
 find_each f l (suc n) h =
@@ -42,7 +42,7 @@ find_each f l (suc n) h =
     (a ∷ rest, finds_bind _ _ (rw z at h₁) (finds_bind _ _ h₂ refl))
 
 -- nothing is found for all where there is none for one
-pub miss_one : {A : Type 0} (f : ℕ → Option A) (l n q : ℕ) → q < n → f (l + q) ≡ none → for_each f l n ≡ none
+pub miss_one : {A : Type 0} (f : ℕ → Option A) (l n q : ℕ) → q < n → f (l + q) ≡ None → for_each f l n ≡ None
 unfolding for_each ◌>>=◌
 miss_one f l zero q h e = absurd (omega arith)
 miss_one f l (suc n) zero h e = let z : l + 0 ≡ l = omega arith in rw (rw z at e)
@@ -50,9 +50,9 @@ miss_one f l (suc n) (suc q) h e =
     let z : l + suc q ≡ l + 1 + q = omega arith in
     rest_missed (f l) (miss_one f (l + 1) n q (omega arith) (rw z at e))
   where
-    rest_missed : (o : Option _) → for_each f (l + 1) n ≡ none → (o >>= λ a. for_each f (l + 1) n >>= λ rest. some (a ∷ rest)) ≡ none
-    rest_missed none m = refl
-    rest_missed (some a) m = rw m
+    rest_missed : (o : Option _) → for_each f (l + 1) n ≡ None → (o >>= λ a. for_each f (l + 1) n >>= λ rest. Some (a ∷ rest)) ≡ None
+    rest_missed None m = refl
+    rest_missed (Some a) m = rw m
 
 -- ------------------------------------------------------------------ the maps of the steps
 

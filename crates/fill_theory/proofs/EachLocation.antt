@@ -1,10 +1,10 @@
 -- The flow and access conditions of a split hold exactly when the after-maps that it shows pass at each location. One induction over
 -- the words: each condition of the table is turned into the effect that `effect_of` has for it. Then one over the procedures.
+use Rattle.std.proofs.Common.{None}
 use mathlib.Core.Path.{◌≡◌}
 use mathlib.Core.Bool.{true}
 use mathlib.Core.List.{List, [], ◌∷◌, ◌++◌, append_assoc}
 use mathlib.Core.Logic.{◌↔◌}
-use mathlib.Core.Option.{none}
 use Prim.Native.Nat.{ℕ, ◌+◌, ◌≤◌}
 use lib.Dec.{leb}
 use lib.ListN.{length, get_or}
@@ -229,7 +229,7 @@ module _ {ss : List Step} {S : Split} {σ : List Map} {T : Split} (G : Showing s
 
   -- a procedure: the claim on its line, those of its body, and those behind it
   procedure_parts : (f : ℕ) (q : Procedure) (behind : List NumberedCondition) {A B C : Location → Type 0}
-      → (((post T q.body ≥ᵐ map_at T (signature T f).after) ≡ none) × Unit {0}) ↔ Everywhere L A
+      → (((post T q.body ≥ᵐ map_at T (signature T f).after) ≡ None) × Unit {0}) ↔ Everywhere L A
       → AllFlow (body_step_contexts T (signature T f) q) ↔ Everywhere L B
       → AllHold (only is_flow behind) ↔ Everywhere L C
       → AllHold (only is_flow (claims_of_procedure T (signature T f) q ++ behind)) ↔ Everywhere L (λ p. A p × (B p × C p))

@@ -1,15 +1,15 @@
 -- Request (viii): after-maps exist exactly when the pass finds them; then those are the greatest, and the split with them filled in
 -- meets all conditions.
+use Rattle.std.proofs.Common.{Some, Ok}
 use mathlib.Core.Path.{◌≡◌, refl, ap, sym, ◌∙◌}
 use mathlib.Core.List.{List, []}
 use mathlib.Core.Logic.{◌↔◌}
-use mathlib.Core.Option.{some}
 use Prim.Native.Nat.{ℕ, ◌+◌, ◌≤◌, ◌<◌}
 use native.Mathlib.Omega.{arith}
 use native.Mathlib.Decide.{dec_lt}
 use lib.ListN.{length, get_or, length-map, get_or-eq_default}
 use lib.Seq.{ext_get_or}
-use Rattle.spec.specs.Reading.{ok}
+
 use Rattle.spec.specs.Expression.{line_of}
 use Rattle.spec.specs.StepContexts.{claims_of}
 use Rattle.spec.specs.Program.{Program}
@@ -40,8 +40,8 @@ use Rattle.fill_theory.proofs.EachLocation.{at, roots_at_each_location}
 use Rattle.fill_theory.proofs.Columns.{each_found, find_each, maps_counted_lem, maps_wide, maps_share}
 
 -- what stands among the columns is what the pass finds
-found_at : (P : Program) (S : Split) (columns : List (List ℕ)) → for_each (posts_at P S) 0 S.header.locations ≡ some columns
-    → (p : Location) → p.0 < S.header.locations → posts_of_roots (roots_of S p P) ≡ some (get_or columns p.0 [])
+found_at : (P : Program) (S : Split) (columns : List (List ℕ)) → for_each (posts_at P S) 0 S.header.locations ≡ Some columns
+    → (p : Location) → p.0 < S.header.locations → posts_of_roots (roots_of S p P) ≡ Some (get_or columns p.0 [])
 unfolding posts_at
 found_at P S columns h p l =
     let z : 0 + p.0 ≡ p.0 = omega arith in
@@ -87,7 +87,7 @@ module _ {text : List ℕ} (P : Program) (S : Split) (W : WellFormedProgram text
     greatest : (p : Location) → p.0 < L → (a : ℕ → ℕ) → PassesAt p a → (i : ℕ) → i < length P.steps → a i ≤ at γ p i
 
   -- the maps made from the posts at each location
-  made : (columns : List (List ℕ)) → for_each (posts_at P S) 0 L ≡ some columns → Found (maps_of_steps columns 0 (length P.steps))
+  made : (columns : List (List ℕ)) → for_each (posts_at P S) 0 L ≡ Some columns → Found (maps_of_steps columns 0 (length P.steps))
   made columns h = record {
     counted = maps_counted_lem columns 0 n;
     wide = λ i l. maps_wide columns n i (omega (arith, maps_counted_lem columns 0 n)) ∙ (each_found (posts_at P S) [] 0 L columns h).0;
@@ -107,7 +107,7 @@ module _ {text : List ℕ} (P : Program) (S : Split) (W : WellFormedProgram text
       posts : Location → List ℕ
       posts p = get_or columns p.0 []
 
-      pass_at : (p : Location) → p.0 < L → posts_of_roots (roots_of S p P) ≡ some (posts p)
+      pass_at : (p : Location) → p.0 < L → posts_of_roots (roots_of S p P) ≡ Some (posts p)
       pass_at p l = found_at P S columns h p l
 
       counted_at : (p : Location) → p.0 < L → length (posts p) ≡ n
@@ -116,7 +116,7 @@ module _ {text : List ℕ} (P : Program) (S : Split) (W : WellFormedProgram text
       shown : (p : Location) (j : ℕ) → j < n → at γ p j ≡ get_or (posts p) j 0
       shown p j k = maps_share columns n j k p
 
-  found : (γ : List Map) → greatest_maps P S ≡ some γ → Found γ
+  found : (γ : List Map) → greatest_maps P S ≡ Some γ → Found γ
   unfolding greatest_maps
   found γ h =
       bind_through _ _ h λ columns h₁ e.
@@ -137,7 +137,7 @@ module _ {text : List ℕ} (P : Program) (S : Split) (W : WellFormedProgram text
   unfolding share
   nothing_behind σ i p l = rw (get_or-eq_default σ [] {n = i} l)
 
-  pub pass_is_greatest : (γ : List Map) → greatest_maps P S ≡ some γ → GreatestMaps P S γ
+  pub pass_is_greatest : (γ : List Map) → greatest_maps P S ≡ Some γ → GreatestMaps P S γ
   unfolding NowhereAbove
   pass_is_greatest γ h = record {
     after_maps = record {
@@ -156,7 +156,7 @@ module _ {text : List ℕ} (P : Program) (S : Split) (W : WellFormedProgram text
       above σ A i p (yes l) (no k) = omega (arith, nothing_behind σ i p (omega (arith, k, A.counted)))
       above σ A i p (yes l) (yes k) = F.greatest p l (at σ p) (passing σ A p l) i k
 
-  pub solved_is_found : (σ : List Map) → AfterMaps P S σ → (γ : List Map) × (greatest_maps P S ≡ some γ)
+  pub solved_is_found : (σ : List Map) → AfterMaps P S σ → (γ : List Map) × (greatest_maps P S ≡ Some γ)
   unfolding greatest_maps posts_at
   solved_is_found σ A =
       let (columns, h) = find_each (posts_at P S) 0 L (λ q l.
@@ -165,7 +165,7 @@ module _ {text : List ℕ} (P : Program) (S : Split) (W : WellFormedProgram text
       (maps_of_steps columns 0 (length P.steps), finds_bind _ _ h refl)
 
   -- the pass finds maps exactly when some after-maps pass all flow and access conditions
-  pub solvable : ((γ : List Map) × (greatest_maps P S ≡ some γ)) ↔ ((σ : List Map) × AfterMaps P S σ)
+  pub solvable : ((γ : List Map) × (greatest_maps P S ≡ Some γ)) ↔ ((σ : List Map) × AfterMaps P S σ)
   solvable = (λ h. (h.0, (pass_is_greatest h.0 h.1).after_maps), λ h. solved_is_found h.0 h.1)
 
   -- there is one greatest
@@ -179,14 +179,14 @@ module _ {text : List ℕ} (P : Program) (S : Split) (W : WellFormedProgram text
       (λ p k. let q : Location = record { 0 = p } in omega (arith, G.greatest δ B i q, D.greatest γ A i q)))
 
   -- the pass finds γ exactly when γ is the greatest of the after-maps
-  pub found_exactly_greatest : (γ : List Map) → greatest_maps P S ≡ some γ ↔ GreatestMaps P S γ
+  pub found_exactly_greatest : (γ : List Map) → greatest_maps P S ≡ Some γ ↔ GreatestMaps P S γ
   found_exactly_greatest γ =
-      (pass_is_greatest γ, λ G. let (δ, h) = solved_is_found γ G.after_maps in h ∙ ap some (greatest_one δ γ (pass_is_greatest δ h) G))
+      (pass_is_greatest γ, λ G. let (δ, h) = solved_is_found γ G.after_maps in h ∙ ap Some (greatest_one δ γ (pass_is_greatest δ h) G))
 
   -- ------------------------------------------------------------------ the filled split
 
   -- the filled split meets all conditions exactly when every (T) condition is met and the new maps pass the others
-  pub filled_ruled : (σ : List Map) → conditions_hold P (filled S σ) ≡ ok tt ↔ ((type_conditions_hold P S ≡ ok tt) × AllHold (flow_claims P (filled S σ)))
+  pub filled_ruled : (σ : List Map) → conditions_hold P (filled S σ) ≡ Ok tt ↔ ((type_conditions_hold P S ≡ Ok tt) × AllHold (flow_claims P (filled S σ)))
   unfolding conditions_hold type_conditions_hold type_claims flow_claims
   filled_ruled σ =
       let T = types_kept R σ in (
@@ -205,12 +205,12 @@ module _ {text : List ℕ} (P : Program) (S : Split) (W : WellFormedProgram text
   start_kept σ = ap (λ m. refuse_over (line_of P.root) (over_whole S.header.denominator 0 m)) (start_map_kept R σ)
 
   -- "The filled pair must be accepted"
-  pub filled_accepted : (γ : List Map) → type_conditions_hold P S ≡ ok tt → greatest_maps P S ≡ some γ → conditions_hold P (filled S γ) ≡ ok tt
+  pub filled_accepted : (γ : List Map) → type_conditions_hold P S ≡ Ok tt → greatest_maps P S ≡ Some γ → conditions_hold P (filled S γ) ≡ Ok tt
   filled_accepted γ t h = (filled_ruled γ).1 (t, (pass_is_greatest γ h).after_maps.holding)
 
   -- ------------------------------------------------------------------ a whole sheet
 
-  shown_after_maps : conditions_hold P S ≡ ok tt → AfterMaps P S (shown_maps S)
+  shown_after_maps : conditions_hold P S ≡ Ok tt → AfterMaps P S (shown_maps S)
   unfolding conditions_hold flow_claims
   shown_after_maps h = record {
     counted = counted;
@@ -228,7 +228,7 @@ module _ {text : List ℕ} (P : Program) (S : Split) (W : WellFormedProgram text
       wide i l = (shown_map R i (omega (arith, as_many))).wide
 
   -- a sheet that is accepted can be filled once its after-maps are taken out, and nowhere with less than it showed
-  pub accepted_is_filled : conditions_hold P S ≡ ok tt → (γ : List Map) × (greatest_maps P S ≡ some γ) × NowhereAbove (shown_maps S) γ
+  pub accepted_is_filled : conditions_hold P S ≡ Ok tt → (γ : List Map) × (greatest_maps P S ≡ Some γ) × NowhereAbove (shown_maps S) γ
   accepted_is_filled h =
       let A = shown_after_maps h in
       let (γ, e) = solved_is_found (shown_maps S) A in

@@ -1,10 +1,10 @@
 -- At one location: the pass finds posts exactly when some posts pass, and they are the greatest.
 -- The reason is one invariant: from a pre that is at least that of posts that pass, and under the ceiling, the pass finds posts that
 -- are nowhere below those.
+use Rattle.std.proofs.Common.{Option, None, Some}
 use mathlib.Core.Path.{◌≡◌, refl, ap, sym, ◌∙◌}
 use mathlib.Core.List.{List, [], ◌∷◌, ◌++◌}
 use mathlib.Core.Logic.{◌↔◌}
-use mathlib.Core.Option.{Option, none, some}
 use Prim.Native.Nat.{ℕ, ◌+◌, ◌-◌, ◌≤◌, ◌<◌, min}
 use native.Mathlib.Omega.{arith}
 use lib.ListN.{length, get_or}
@@ -21,7 +21,7 @@ use Rattle.fill_theory.proofs.Bounds.{back_holds, post_weighs, ceiling_holds, at
 -- ------------------------------------------------------------------ a step
 
 -- the same step from more
-pub apply_more : {x p : ℕ} (E : Effect) (before : ℕ) → Applies E x p → x ≤ before → (apply E before ≡ some (forth E before)) × (p ≤ forth E before)
+pub apply_more : {x p : ℕ} (E : Effect) (before : ℕ) → Applies E x p → x ≤ before → (apply E before ≡ Some (forth E before)) × (p ≤ forth E before)
 unfolding forth
 apply_more {x} {p} E before t l =
     let moved : Applies E before (before + E.gives - E.takes) =
@@ -31,7 +31,7 @@ apply_more {x} {p} E before t l =
 -- from `pre` the pass finds posts that are at least those of a
 pub record Best (top : ℕ) (a : ℕ → ℕ) (i pre c : ℕ) (f : Flow) : Type 0 where
   pub posts : List ℕ
-  pub found : pass top pre c f ≡ some posts
+  pub found : pass top pre c f ≡ Some posts
   pub below : Along ◌≤◌ a i posts
 
 -- ------------------------------------------------------------------ the best of a step, from the best of its parts
@@ -164,13 +164,13 @@ module _ (pre : ℕ) (f : Flow) where
         passes_best top a i pre pre top f h large under (omega arith) (ceiling_holds top a i pre top f h large under)
 
     -- the posts that the pass found, as posts by step
-    pub found_passes : (ps : List ℕ) → pass top pre top f ≡ some ps → Passes (λ i. get_or ps i 0) 0 pre f
+    pub found_passes : (ps : List ℕ) → pass top pre top f ≡ Some ps → Passes (λ i. get_or ps i 0) 0 pre f
     found_passes ps h =
         let a : ℕ → ℕ = λ i. get_or ps i 0 in
         pass_passes top a 0 pre top f h (at_along ◌≡◌ a 0 ps (λ j l. let e : 0 + j ≡ j = omega arith in ap a e))
 
     -- posts that pass are nowhere above those of the pass
-    pub found_greatest : (ps : List ℕ) → pass top pre top f ≡ some ps → (a : ℕ → ℕ) → Passes a 0 pre f → (i : ℕ) → i < steps f → a i ≤ get_or ps i 0
+    pub found_greatest : (ps : List ℕ) → pass top pre top f ≡ Some ps → (a : ℕ → ℕ) → Passes a 0 pre f → (i : ℕ) → i < steps f → a i ≤ get_or ps i 0
     found_greatest ps h a q i l =
         let B = best a 0 q in
         let same : B.posts ≡ ps = some_injective (sym B.found ∙ h) in
@@ -178,25 +178,25 @@ module _ (pre : ℕ) (f : Flow) where
         rw (← same) (rw e at (along_at ◌≤◌ a 0 B.posts B.below i (omega (arith, pass_length top pre top f B.found))))
 
     -- the pass finds posts exactly when some pass
-    pub found_solvable : ((ps : List ℕ) × (pass top pre top f ≡ some ps)) ↔ ((a : ℕ → ℕ) × Passes a 0 pre f)
+    pub found_solvable : ((ps : List ℕ) × (pass top pre top f ≡ Some ps)) ↔ ((a : ℕ → ℕ) × Passes a 0 pre f)
     found_solvable = (λ h. (λ i. get_or h.0 i 0, found_passes h.0 h.1), λ h. let B = best h.0 0 h.1 in (B.posts, B.found))
 
   -- the pass is the same for all of them
   tops_agree : (t u : ℕ) → pre + weight f ≤ t → pre + weight f ≤ u → (o : Option (List ℕ)) → pass t pre t f ≡ o → pass u pre u f ≡ o
-  tops_agree t u l m (some ps) h =
+  tops_agree t u l m (Some ps) h =
       let (qs, k) = (found_solvable u m).1 ((found_solvable t l).0 (ps, h)) in
       let counted = pass_length u pre u f k in
-      k ∙ ap some (ext_get_or 0 qs ps (counted ∙ sym (pass_length t pre t f h)) (λ i n.
+      k ∙ ap Some (ext_get_or 0 qs ps (counted ∙ sym (pass_length t pre t f h)) (λ i n.
       omega (
         arith,
         found_greatest t l ps h _ (found_passes u m qs k) i (omega (arith, counted)),
         found_greatest u m qs k _ (found_passes t l ps h) i (omega (arith, counted)),
       )))
-  tops_agree t u l m none h = go (pass u pre u f) refl
+  tops_agree t u l m None h = go (pass u pre u f) refl
     where
-      go : (o : Option (List ℕ)) → pass u pre u f ≡ o → o ≡ none
-      go none k = refl
-      go (some qs) k = let (ps, found) = (found_solvable t l).1 ((found_solvable u m).0 (qs, k)) in none_is_not_some (sym h ∙ found)
+      go : (o : Option (List ℕ)) → pass u pre u f ≡ o → o ≡ None
+      go None k = refl
+      go (Some qs) k = let (ps, found) = (found_solvable t l).1 ((found_solvable u m).0 (qs, k)) in none_is_not_some (sym h ∙ found)
 
   pub any_top : (top : ℕ) → pre + weight f ≤ top → pass top pre top f ≡ greatest_posts pre f
   unfolding greatest_posts
@@ -204,14 +204,14 @@ module _ (pre : ℕ) (f : Flow) where
 
   -- ------------------------------------------------------------------ the greatest posts
 
-  pub posts_counted : {ps : List ℕ} → greatest_posts pre f ≡ some ps → length ps ≡ steps f
+  pub posts_counted : {ps : List ℕ} → greatest_posts pre f ≡ Some ps → length ps ≡ steps f
   unfolding greatest_posts
   posts_counted h = pass_length (pre + weight f) pre (pre + weight f) f h
 
-  pub posts_pass : (a : ℕ → ℕ) (i : ℕ) {ps : List ℕ} → greatest_posts pre f ≡ some ps → Along ◌≡◌ a i ps → Passes a i pre f
+  pub posts_pass : (a : ℕ → ℕ) (i : ℕ) {ps : List ℕ} → greatest_posts pre f ≡ Some ps → Along ◌≡◌ a i ps → Passes a i pre f
   unfolding greatest_posts
   posts_pass a i h w = pass_passes (pre + weight f) a i pre (pre + weight f) f h w
 
-  pub posts_greatest : (a : ℕ → ℕ) (i : ℕ) → Passes a i pre f → (ps : List ℕ) × (greatest_posts pre f ≡ some ps) × Along ◌≤◌ a i ps
+  pub posts_greatest : (a : ℕ → ℕ) (i : ℕ) → Passes a i pre f → (ps : List ℕ) × (greatest_posts pre f ≡ Some ps) × Along ◌≤◌ a i ps
   unfolding greatest_posts
   posts_greatest a i h = let B = best (pre + weight f) (omega arith) a i h in (B.posts, B.found, B.below)

@@ -1,9 +1,9 @@
 -- What filling keeps of a split, and what it changes: the posts alone. Types, loads and starts show given maps, so the maps behind
 -- them are not looked at.
+use Rattle.std.proofs.Common.{Option, None, Some}
 use mathlib.Core.Path.{◌≡◌, refl, ap, ◌∙◌}
 use mathlib.Core.Bool.{Bool, ◌&&◌}
 use mathlib.Core.List.{List, [], ◌∷◌, ◌++◌, map}
-use mathlib.Core.Option.{Option, none, some}
 use Prim.Native.Nat.{ℕ, zero, suc, ◌+◌, ◌<◌}
 use native.Mathlib.Omega.{arith}
 use lib.ListN.{length, get_or, get_or-append}
@@ -80,10 +80,10 @@ module _ {P : Program} {S : Split} (R : InRange P S) where
     unfolding start_map filled
     start_map_kept = map_kept _ R.start
 
-    start_in_kept : (o : Option MapNumber) → ((m : MapNumber) → o ≡ some m → m.0 < length S.maps) → start_or (filled S σ) o ≡ start_or S o
+    start_in_kept : (o : Option MapNumber) → ((m : MapNumber) → o ≡ Some m → m.0 < length S.maps) → start_or (filled S σ) o ≡ start_or S o
     unfolding start_or filled
-    start_in_kept none h = refl
-    start_in_kept (some m) h = map_kept m (h m refl)
+    start_in_kept None h = refl
+    start_in_kept (Some m) h = map_kept m (h m refl)
 
     pub start_kept : (e : Expr) → body_start (filled S σ) e ≡ body_start S e
     unfolding body_start row filled

@@ -1,10 +1,10 @@
 -- Comparing and adding maps number by number is comparing and adding at every location; so a condition on maps holds exactly when
 -- the effect that it states turns the numbers at every location.
+use Rattle.std.proofs.Common.{None}
 use mathlib.Core.Path.{◌≡◌, refl, ap, sym, ◌∙◌}
 use mathlib.Core.Bool.{Bool, true, false}
 use mathlib.Core.List.{[], ◌∷◌}
 use mathlib.Core.Logic.{◌↔◌}
-use mathlib.Core.Option.{none}
 use Prim.Native.Nat.{ℕ, zero, suc, ◌+◌, ◌*◌, ◌≤◌, ◌<◌}
 use native.Mathlib.Omega.{arith}
 use lib.Dec.{eqb}
@@ -105,14 +105,14 @@ module _ {L : ℕ} where
   three {A = A} {B = B} {C = C} f = restated {B = λ p. A p × B p × C p} (λ p. (λ h. (h.0, h.1.0, h.1.1), λ h. (h.0, (h.1, h.2)))) f
 
   module _ {m m' n n' : Map} (km : Known L m m') (kn : Known L n n') where
-    pub equal_everywhere : (m =ᵐ n) ≡ none ↔ Everywhere L (λ p. share m' p ≡ share n' p)
+    pub equal_everywhere : (m =ᵐ n) ≡ None ↔ Everywhere L (λ p. share m' p ≡ share n' p)
     unfolding share
     equal_everywhere = rw (km.same, kn.same) (
       λ h. record { at = λ p l. ap (λ x. get_or x p.0 0) (none_equal h) },
       λ h. equal_none (ext_get_or 0 m' n' (omega (arith, km.wide, kn.wide)) (λ i l. h.at (record { 0 = i }) (omega (arith, km.wide)))),
     )
 
-    pub least_everywhere : (m ≥ᵐ n) ≡ none ↔ Everywhere L (λ p. share n' p ≤ share m' p)
+    pub least_everywhere : (m ≥ᵐ n) ≡ None ↔ Everywhere L (λ p. share n' p ≤ share m' p)
     unfolding share
     least_everywhere = rw (km.same, kn.same) (
       λ h. record { at = λ p l. covers_at (none_covers h) p.0 },
@@ -133,17 +133,17 @@ module _ {L : ℕ} where
 
   module _ {m m' n n' : Map} (after : Known L m m') (before : Known L n n') where
     -- post = before
-    pub keeps : (m =ᵐ n) ≡ none ↔ Everywhere L (λ p. Applies unchanged (share n' p) (share m' p))
+    pub keeps : (m =ᵐ n) ≡ None ↔ Everywhere L (λ p. Applies unchanged (share n' p) (share m' p))
     unfolding unchanged
     keeps = restated (λ p. (λ h. record { balance = omega arith; enough = omega arith; lent = omega arith }, λ t. omega (arith, t.balance))) (equal_everywhere after before)
 
     module _ {k k' : Map} (load : Known L k k') where
       -- post = before + K, of the numbers
-      pub sums : (m =ᵐ n +ᵐ k) ≡ none ↔ Everywhere L (λ p. share m' p ≡ share n' p + share k' p)
+      pub sums : (m =ᵐ n +ᵐ k) ≡ None ↔ Everywhere L (λ p. share m' p ≡ share n' p + share k' p)
       sums = restated (λ p. (λ h. h ∙ share_sum before load p, λ h. h ∙ sym (share_sum before load p))) (equal_everywhere after (known_sum before load))
 
       -- post = before + K
-      pub gives : (m =ᵐ n +ᵐ k) ≡ none ↔ Everywhere L (λ p. Applies (giving (share k' p)) (share n' p) (share m' p))
+      pub gives : (m =ᵐ n +ᵐ k) ≡ None ↔ Everywhere L (λ p. Applies (giving (share k' p)) (share n' p) (share m' p))
       unfolding giving
       gives =
           restated (λ p. (
@@ -153,7 +153,7 @@ module _ {L : ℕ} where
           (equal_everywhere after (known_sum before load))
 
       -- post + K = before
-      pub takes : (m +ᵐ k =ᵐ n) ≡ none ↔ Everywhere L (λ p. Applies (taking (share k' p)) (share n' p) (share m' p))
+      pub takes : (m +ᵐ k =ᵐ n) ≡ None ↔ Everywhere L (λ p. Applies (taking (share k' p)) (share n' p) (share m' p))
       unfolding taking
       takes =
           restated (λ p. (
@@ -167,7 +167,7 @@ module _ {L : ℕ} where
 
   -- v times the share is at most the load, and post + load = before
   pub lends : {m m' n n' k k' r r' : Map} (v : ℕ) (after : Known L m m') (before : Known L n n') (load : Known L k k') (part : Known L r r')
-      → (((k ≥ᵐ v ×ᵐ r) ≡ none) × (((m +ᵐ k =ᵐ n) ≡ none) × Unit {0}))
+      → (((k ≥ᵐ v ×ᵐ r) ≡ None) × (((m +ᵐ k =ᵐ n) ≡ None) × Unit {0}))
       ↔ Everywhere L (λ p. Applies (lending (v * share r' p) (share k' p)) (share n' p) (share m' p))
   unfolding lending taking
   lends {r' = r'} v after before load part =
@@ -180,7 +180,7 @@ module _ {L : ℕ} where
   -- post = before, and at least d at the location q, by a test
   pub needs : {m m' n n' : Map} (after : Known L m m') (before : Known L n n') (q q' : Location) → q ≡ q' → q'.0 < L
       → (d : ℕ) (test : Bool) → (test ≡ true) ↔ (d ≤ share m q)
-      → (((m =ᵐ n) ≡ none) × ((test ≡ true) × Unit {0})) ↔ Everywhere L (λ p. Applies (needing (asks p q' d)) (share n' p) (share m' p))
+      → (((m =ᵐ n) ≡ None) × ((test ≡ true) × Unit {0})) ↔ Everywhere L (λ p. Applies (needing (asks p q' d)) (share n' p) (share m' p))
   unfolding needing
   needs {m' = m'} after before q q' same within d test decides = (
     λ h.

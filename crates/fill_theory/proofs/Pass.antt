@@ -1,8 +1,8 @@
 -- At one location, whatever the bounds are: the pass finds a post for each step, what it finds passes, and its own post is all that is
 -- in reach.
+use Rattle.std.proofs.Common.{Some}
 use mathlib.Core.Path.{◌≡◌, refl, ap, ap₂, sym, ◌∙◌}
 use mathlib.Core.List.{List, ◌++◌}
-use mathlib.Core.Option.{some}
 use Prim.Native.Nat.{ℕ, suc, ◌+◌, ◌≤◌, min}
 use native.Mathlib.Omega.{arith}
 use lib.ListN.{length, length-append}
@@ -28,7 +28,7 @@ applies_along p q t = record { balance = omega (arith, t.balance); enough = omeg
 module _ (top : ℕ) where
   -- ------------------------------------------------------------------ how many posts there are
 
-  pub pass_length : {ps : List ℕ} (pre c : ℕ) (f : Flow) → pass top pre c f ≡ some ps → length ps ≡ steps f
+  pub pass_length : {ps : List ℕ} (pre c : ℕ) (f : Flow) → pass top pre c f ≡ Some ps → length ps ≡ steps f
   unfolding pass steps
   pass_length pre c (alone E) h =
       bind_through _ _ h λ p _ e.
@@ -62,7 +62,7 @@ module _ (top : ℕ) where
       ap length (sym (some_injective e)) ∙ ap suc (pass_length {ps = ps} pre b f h₁)
 
   -- what stands in relation to all posts that the pass found stands in relation to the expression's own
-  module _ (R : ℕ → ℕ → Type 0) (a : ℕ → ℕ) (i pre c : ℕ) (f : Flow) (ps : List ℕ) (found : pass top pre c f ≡ some ps) where
+  module _ (R : ℕ → ℕ → Type 0) (a : ℕ → ℕ) (i pre c : ℕ) (f : Flow) (ps : List ℕ) (found : pass top pre c f ≡ Some ps) where
     pub own_found : Along R a i ps → R (a i) (own_post ps)
     own_found h = along_own R a i ps (omega (arith, pass_length pre c f found, steps_positive f)) h
 
@@ -77,7 +77,7 @@ module _ (top : ℕ) where
   -- ------------------------------------------------------------------ what the pass finds passes
 
   -- any posts that are those of the pass from step i on
-  pub pass_passes : (a : ℕ → ℕ) (i pre c : ℕ) (f : Flow) {ps : List ℕ} → pass top pre c f ≡ some ps → Along ◌≡◌ a i ps → Passes a i pre f
+  pub pass_passes : (a : ℕ → ℕ) (i pre c : ℕ) (f : Flow) {ps : List ℕ} → pass top pre c f ≡ Some ps → Along ◌≡◌ a i ps → Passes a i pre f
   unfolding pass attainable Passes Along
   pass_passes a i pre c (alone E) h w =
       bind_through _ _ h λ p t e.
@@ -128,7 +128,7 @@ module _ (top : ℕ) where
 
   -- ------------------------------------------------------------------ the own post is all that is in reach
 
-  pub pass_own : {ps : List ℕ} (pre c : ℕ) (f : Flow) → pass top pre c f ≡ some ps → own_post ps ≡ attainable top pre c f
+  pub pass_own : {ps : List ℕ} (pre c : ℕ) (f : Flow) → pass top pre c f ≡ Some ps → own_post ps ≡ attainable top pre c f
   unfolding pass attainable own_post
   pass_own pre c (alone E) h =
       bind_through _ _ h λ p t e.

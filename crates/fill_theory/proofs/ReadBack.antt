@@ -1,4 +1,5 @@
 -- A filled split that is written reads back, and what the given sheet shows is kept as it stood.
+use Rattle.std.proofs.Common.{Ok}
 use mathlib.Core.Path.{◌≡◌, ap, sym, ◌∙◌}
 use mathlib.Core.Path.{subst as along}
 use mathlib.Core.List.{List, [], ◌++◌, map, map-append, append_assoc}
@@ -8,7 +9,7 @@ use native.Mathlib.Decide.{dec_lt}
 use lib.ListN.{length, get_or, get_or-append}
 use lib.Seq.{get_or-append-add}
 use Rattle.spec.specs.Text.{Field}
-use Rattle.spec.specs.Reading.{ok}
+
 use Rattle.spec.specs.Program.{Program}
 use Rattle.spec.specs.Split.{Map, Split, split}
 use Rattle.spec.specs.WellFormed.{WellFormedSplit}
@@ -54,7 +55,7 @@ module _ (S : Split) (γ : List Map) (few : S.header.maps + length γ ≤ 512)
 
   -- a sheet that was read to be filled, with maps filled in, is a whole sheet
   pub filled_reads_back : {P : Program} {given : List ℕ} → length γ ≡ length P.steps → WellFormedSplit Fill P given S
-      → split Check P (sheet_text (filled S γ)) ≡ ok (filled S γ)
+      → split Check P (sheet_text (filled S γ)) ≡ Ok (filled S γ)
   filled_reads_back counted F = written_reads_back (filled_writable counted (read_is_writable F))
 
 -- ------------------------------------------------------------------ what is kept

@@ -1,13 +1,13 @@
 -- The reasons to stop of filling, one after the other: which answer a pair gets once all before it are passed. The limits are
 -- written out.
+use Rattle.std.proofs.Common.{None, Some, Result, Ok, Err}
 use mathlib.Core.Path.{◌≡◌}
 use mathlib.Core.Bool.{true, false}
 use mathlib.Core.List.{List}
-use mathlib.Core.Option.{none, some}
 use Prim.Native.Nat.{ℕ, ◌≤◌, ◌<◌, min}
 use lib.ListN.{length}
 use borrow.Author.Tests.{le-leb, lt-leb}
-use Rattle.spec.specs.Reading.{Result, refuse, ok, ◌>>=◌, require}
+use Rattle.spec.specs.Reading.{◌>>=◌, require}
 use Rattle.spec.specs.Program.{Program}
 use Rattle.spec.specs.Split.{Map, Split, split_limit}
 use Rattle.spec.specs.Workspace.{workspace_size}
@@ -23,41 +23,41 @@ use Rattle.fill_theory.specs.Answer.{given_limit, number_limit, all_at_most, fou
 -- ------------------------------------------------------------------ 41 and 42
 
 module _ (buffer : ℕ) (P : Program) (S : Split) where
-  pub no_after_maps : greatest_maps P S ≡ none → filled_text buffer P S ≡ refuse NoAfterMaps
+  pub no_after_maps : greatest_maps P S ≡ None → filled_text buffer P S ≡ Err NoAfterMaps
   unfolding filled_text found_or ◌>>=◌
   no_after_maps e = rw e
 
-  module _ (γ : List Map) (found : greatest_maps P S ≡ some γ) where
-    pub large_number_lem : all_at_most 1000000000 γ ≡ false → filled_text buffer P S ≡ refuse TooLarge
+  module _ (γ : List Map) (found : greatest_maps P S ≡ Some γ) where
+    pub large_number_lem : all_at_most 1000000000 γ ≡ false → filled_text buffer P S ≡ Err TooLarge
     unfolding filled_text found_or ◌>>=◌ require number_limit
     large_number_lem h = rw (found, h)
 
     module _ (small : all_at_most 1000000000 γ ≡ true) where
-      pub long_text : min 65536 buffer < length (sheet_text (filled S γ)) → filled_text buffer P S ≡ refuse TooLarge
+      pub long_text : min 65536 buffer < length (sheet_text (filled S γ)) → filled_text buffer P S ≡ Err TooLarge
       unfolding filled_text found_or ◌>>=◌ require number_limit split_limit
       long_text h = rw (found, small, lt-leb _ _ h)
 
       pub text_written : length (sheet_text (filled S γ)) ≤ min 65536 buffer
-          → filled_text buffer P S ≡ ok (sheet_text (filled S γ))
+          → filled_text buffer P S ≡ Ok (sheet_text (filled S γ))
       unfolding filled_text found_or ◌>>=◌ require number_limit split_limit
       text_written h = rw (found, small, le-leb _ _ h)
 
 -- ------------------------------------------------------------------ before them
 
 module _ (room buffer : ℕ) (p s : List ℕ) where
-  abbrev answered : Result (List ℕ)
+  abbrev answered : Result (List ℕ) Refusal
   answered = fill room buffer p s
 
-  pub short_workspace : room < 16384 → answered ≡ refuse ShortWorkspace
+  pub short_workspace : room < 16384 → answered ≡ Err ShortWorkspace
   unfolding fill require ◌>>=◌ workspace_size
   short_workspace h = rw (lt-leb _ _ h)
 
   module _ (enough : 16384 ≤ room) where
-    pub sheets_refused : (r : Refusal) → sheets Fill p s ≡ refuse r → answered ≡ refuse r
+    pub sheets_refused : (r : Refusal) → sheets Fill p s ≡ Err r → answered ≡ Err r
     unfolding fill require ◌>>=◌ workspace_size
     sheets_refused r e = rw (le-leb _ _ enough, e)
 
-    module _ (P : Program) (S : Split) (reads : sheets Fill p s ≡ ok (P, S)) where
+    module _ (P : Program) (S : Split) (reads : sheets Fill p s ≡ Ok (P, S)) where
       pub locks_decide : S.header.maps ≤ given_limit
           → answered ≡ (locks_take_enough S >>= λ locks. start_at_most_one P S >>= λ whole. type_conditions_hold P S >>= λ types_hold. filled_text buffer P S)
       unfolding fill require ◌>>=◌ workspace_size

@@ -1,8 +1,8 @@
 -- Flows one beside the other, at one location: posts are found exactly when some pass, and they are the greatest.
+use Rattle.std.proofs.Common.{Some}
 use mathlib.Core.Path.{◌≡◌, refl, ap, sym, ◌∙◌}
 use mathlib.Core.List.{List, [], ◌∷◌, ◌++◌}
 use mathlib.Core.Logic.{◌↔◌}
-use mathlib.Core.Option.{some}
 use Prim.Native.Nat.{ℕ, ◌+◌, ◌≤◌, ◌<◌}
 use native.Mathlib.Omega.{arith}
 use lib.ListN.{length, get_or, length-append}
@@ -13,7 +13,7 @@ use Rattle.fill_theory.proofs.Along.{Along, along_shift, along_append, along_par
 use Rattle.fill_theory.proofs.Pass.{steps_positive}
 use Rattle.fill_theory.proofs.Greatest.{posts_counted, posts_pass, posts_greatest}
 
-pub roots_counted : (rs : List Root) {ps : List ℕ} → posts_of_roots rs ≡ some ps → length ps ≡ steps_of rs
+pub roots_counted : (rs : List Root) {ps : List ℕ} → posts_of_roots rs ≡ Some ps → length ps ≡ steps_of rs
 unfolding posts_of_roots steps_of
 roots_counted [] h = ap length (sym (some_injective h))
 roots_counted (r ∷ rs) h =
@@ -27,7 +27,7 @@ own_post_lem : (R : ℕ → ℕ → Type 0) (a : ℕ → ℕ) (i : ℕ) (r : Roo
 own_post_lem R a i r ps counted h = along_own R a i ps (omega (arith, steps_positive r.flow)) h
 
 -- what is found passes
-pub roots_pass : (a : ℕ → ℕ) (i : ℕ) (rs : List Root) {ps : List ℕ} → posts_of_roots rs ≡ some ps → Along ◌≡◌ a i ps → RootsPass a i rs
+pub roots_pass : (a : ℕ → ℕ) (i : ℕ) (rs : List Root) {ps : List ℕ} → posts_of_roots rs ≡ Some ps → Along ◌≡◌ a i ps → RootsPass a i rs
 unfolding posts_of_roots RootsPass
 roots_pass a i [] h w = tt
 roots_pass a i (r ∷ rs) h w =
@@ -41,7 +41,7 @@ roots_pass a i (r ∷ rs) h w =
     (posts_pass r.pre r.flow a i h₁ first, omega arith, roots_pass a (i + steps r.flow) rs h₂ (along_shift ◌≡◌ a qs (ap (i +◌) counted) others))
 
 -- posts that pass are nowhere above what is found
-pub roots_best : (a : ℕ → ℕ) (i : ℕ) (rs : List Root) → RootsPass a i rs → (ps : List ℕ) × (posts_of_roots rs ≡ some ps) × Along ◌≤◌ a i ps
+pub roots_best : (a : ℕ → ℕ) (i : ℕ) (rs : List Root) → RootsPass a i rs → (ps : List ℕ) × (posts_of_roots rs ≡ Some ps) × Along ◌≤◌ a i ps
 unfolding posts_of_roots RootsPass Along
 roots_best a i [] h = ([], refl, tt)
 roots_best a i (r ∷ rs) h =
@@ -55,14 +55,14 @@ roots_best a i (r ∷ rs) h =
     )
 
 module _ (rs : List Root) where
-  pub roots_greatest : (ps : List ℕ) → posts_of_roots rs ≡ some ps → (a : ℕ → ℕ) → RootsPass a 0 rs → (i : ℕ) → i < steps_of rs → a i ≤ get_or ps i 0
+  pub roots_greatest : (ps : List ℕ) → posts_of_roots rs ≡ Some ps → (a : ℕ → ℕ) → RootsPass a 0 rs → (i : ℕ) → i < steps_of rs → a i ≤ get_or ps i 0
   roots_greatest ps h a q i l =
       let (qs, found, below) = roots_best a 0 rs q in
       let same : qs ≡ ps = some_injective (sym found ∙ h) in
       let e : 0 + i ≡ i = omega arith in
       rw (← same) (rw e at (along_at ◌≤◌ a 0 qs below i (omega (arith, roots_counted rs found))))
 
-  pub roots_solvable : ((ps : List ℕ) × (posts_of_roots rs ≡ some ps)) ↔ ((a : ℕ → ℕ) × RootsPass a 0 rs)
+  pub roots_solvable : ((ps : List ℕ) × (posts_of_roots rs ≡ Some ps)) ↔ ((a : ℕ → ℕ) × RootsPass a 0 rs)
   roots_solvable = (
     λ h.
         let a : ℕ → ℕ = λ i. get_or h.0 i 0 in

@@ -1,7 +1,6 @@
 -- The answer of filling, in the order 1; 10 to 15, 45 and 49; 20; 21 to 23 and 50; 43; 44; 30; 31; 41; 42.
-use Rattle.std.specs.Prelude.{◌≡◌, Bool, true, ◌&&◌, List, [], ◌∷◌, ℕ, ◌≤◌, ◌<◌, min, leb, length, get_or}
-use Rattle.std.proofs.Math.Option.{Option, none, some}
-use Rattle.spec.specs.Reading.{Result, refuse, ok, ◌>>=◌, require}
+use Rattle.std.specs.Prelude.{◌≡◌, Bool, true, ◌&&◌, List, [], ◌∷◌, ℕ, ◌≤◌, ◌<◌, min, leb, length, get_or, Option, None, Some, Result, Ok, Err}
+use Rattle.spec.specs.Reading.{◌>>=◌, require}
 use Rattle.spec.specs.Program.{Program}
 use Rattle.spec.specs.Split.{Map, Split, split_limit}
 use Rattle.spec.specs.Maps.{share}
@@ -39,20 +38,20 @@ all_at_most limit [] = true
 all_at_most limit (m ∷ ms) = map_at_most limit m && all_at_most limit ms
 
 -- what is found, or a refusal
-unfoldable pub found_or : {A : Type 0} → Refusal → Option A → Result A
-found_or r none = refuse r
-found_or r (some a) = ok a
+unfoldable pub found_or : {A : Type 0} → Refusal → Option A → Result A Refusal
+found_or r None = Err r
+found_or r (Some a) = Ok a
 
 -- 41 and 42: the text of the split with its greatest after-maps, for a buffer of so many bytes
-unfoldable pub filled_text : (buffer : ℕ) → Program → Split → Result (List ℕ)
+unfoldable pub filled_text : (buffer : ℕ) → Program → Split → Result (List ℕ) Refusal
 filled_text buffer P S = do
   γ ← found_or NoAfterMaps (greatest_maps P S)
   small ← require (all_at_most number_limit γ) TooLarge
   short ← require (leb (length (sheet_text (filled S γ))) (min split_limit buffer)) TooLarge
-  ok (sheet_text (filled S γ))
+  Ok (sheet_text (filled S γ))
 
 -- the answer to a pair of texts, with a work space of `room` numbers and a buffer of `buffer` bytes
-unfoldable pub fill : (room buffer : ℕ) → (program_text split_text : List ℕ) → Result (List ℕ)
+unfoldable pub fill : (room buffer : ℕ) → (program_text split_text : List ℕ) → Result (List ℕ) Refusal
 fill room buffer program_text split_text = do
   enough ← require (leb workspace_size room) ShortWorkspace
   (P, S) ← sheets Fill program_text split_text
@@ -103,11 +102,11 @@ pub record GreatestOverLimits (buffer : ℕ) (P : Program) (S : Split) : Type 0 
 -- ------------------------------------------------------------------ what is returned
 
 -- "otherwise the answer is 0, the length, 0, 0"
-unfoldable pub returned_for : Result (List ℕ) → Returned
-returned_for (refuse r) = returned (Refuse r)
-returned_for (ok text) = numbers4 0 (length text) 0 0
+unfoldable pub returned_for : Result (List ℕ) Refusal → Returned
+returned_for (Err r) = returned (Refuse r)
+returned_for (Ok text) = numbers4 0 (length text) 0 0
 
 -- "On refusal the output buffer is unchanged; otherwise [..] the buffer past the text is unchanged"
-unfoldable pub buffer_after : Result (List ℕ) → (buffer : List ℕ) → List ℕ
-buffer_after (refuse r) buffer = buffer
-buffer_after (ok text) buffer = in_front text buffer
+unfoldable pub buffer_after : Result (List ℕ) Refusal → (buffer : List ℕ) → List ℕ
+buffer_after (Err r) buffer = buffer
+buffer_after (Ok text) buffer = in_front text buffer

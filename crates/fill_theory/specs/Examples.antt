@@ -1,8 +1,8 @@
 -- Tables of pairs: the greatest after-maps of each, or that there are none; whole answers; and sheets before and after.
-use Rattle.std.specs.Prelude.{◌≡◌, List, [], ◌∷◌, map, ℕ}
-use Rattle.std.proofs.Math.Option.{Option, none, some}
+use Rattle.std.specs.Prelude.{◌≡◌, List, [], ◌∷◌, map, ℕ, Option, None, Some, Result, Ok}
 use Prim.Native.String.{String, ◌++◌ as ◌++ˢ◌}
-use Rattle.spec.specs.Reading.{Result, ok, ◌>>=◌}
+use Rattle.spec.specs.declared.Refusal.{Refusal}
+use Rattle.spec.specs.Reading.{◌>>=◌}
 use Rattle.spec.specs.Program.{program}
 use Rattle.spec.specs.Split.{Map, split, split_limit}
 use Rattle.spec.specs.StepContexts.{is_type, only}
@@ -35,13 +35,13 @@ unfoldable pub ◌with◌has◌ : String → String → Option (List Map) → Ex
 p with s has ms = record { program = p; split = s; maps = ms }
 
 -- what the definitions give a pair
-unfoldable pub maps_found : Example → Result (Option (List Map))
+unfoldable pub maps_found : Example → Result (Option (List Map)) Refusal
 unfolding found option.◌>>=◌ option.require option.for_each unchanged taking giving needing lending apply forth back own_post weight ceiling attainable pass greatest_posts posts_of_roots asks loops moving effect_of part_transfer binary_transfer before_here after_here has_here given_here call_here unary_flow binary_flow flow_of roots_from roots_of posts_at map_of_step maps_of_steps greatest_maps
-maps_found r = program (barred r.program) >>= λ p. split Fill p (barred r.split) >>= λ s. ok (greatest_maps p s)
+maps_found r = program (barred r.program) >>= λ p. split Fill p (barred r.split) >>= λ s. Ok (greatest_maps p s)
 
 -- maps of one location
 unfoldable pub ones : List ℕ → Option (List Map)
-ones ns = some (map (λ n. n ∷ []) ns)
+ones ns = Some (map (λ n. n ∷ []) ns)
 
 -- document 01's S as a `C2` sheet without after-maps, with the start of its spawn
 unfoldable pub unfilled : String → String
@@ -59,7 +59,7 @@ unfoldable pub examples : List Example
 examples =
     -- document 01's P and S; where the spawned body starts with all that there is, the write has too little
     (P with unfilled "1" has ones (2 ∷ 2 ∷ 2 ∷ 2 ∷ 2 ∷ 2 ∷ 1 ∷ 2 ∷ 1 ∷ 1 ∷ 2 ∷ 2 ∷ 1 ∷ 2 ∷ 2 ∷ 2 ∷ [])) ∷
-    (P with unfilled "0" has none) ∷
+    (P with unfilled "0" has None) ∷
     -- the start is the map that the header names, and a spawn with no start keeps all
     ("P,3|spawn,0|newtid,0|int,0|" with "C2,2,1,2,3,1|int,0,0|tid,2,0|2|1|0|0,,|1,,|0,,|" has ones (1 ∷ 1 ∷ 0 ∷ [])) ∷
     -- an if takes the smaller of its parts, a while keeps what it has
@@ -68,7 +68,7 @@ examples =
     ("P,5|let,0|newlock,0|while,0|lock,0|var,0|" with "C2,1,1,2,1,0|int,0,0|lock,0,0|1|0,,|1,,|0,,|0,,|1,,|" has
     ones (0 ∷ 0 ∷ 0 ∷ 1 ∷ 0 ∷ [])) ∷
     -- a while whose part loses
-    ("P,5|let,0|newlock,0|while,0|unlock,0|var,0|" with "C2,1,1,2,2,0|int,0,0|lock,1,0|3|1|0,,|1,,|0,,|0,,|1,,|" has none) ∷
+    ("P,5|let,0|newlock,0|while,0|unlock,0|var,0|" with "C2,1,1,2,2,0|int,0,0|lock,1,0|3|1|0,,|1,,|0,,|0,,|1,,|" has None) ∷
     -- newlock and unlock take out, lock gives in
     ("P,7|let,0|newlock,0|let,1|lock,0|var,0|unlock,0|var,0|" with
     "C3,2,1,2,3,0|int,0,0|lock,1,2|4|1|2|0,,|1,,|0,,|0,,|1,,|0,,|1,,|" has ones (1 ∷ 2 ∷ 1 ∷ 3 ∷ 2 ∷ 1 ∷ 3 ∷ [])) ∷
@@ -80,7 +80,7 @@ examples =
     "C2,2,1,2,3,0|int,0,0|rwlock,1,0|2|1|0|0,,|1,,|0,,|0,,|1,,|0,,|0,,|1,,|0,,|0,,|1,,|0,,|1,,|" has
     ones (0 ∷ 0 ∷ 0 ∷ 1 ∷ 0 ∷ 0 ∷ 0 ∷ 1 ∷ 0 ∷ 2 ∷ 0 ∷ 0 ∷ 2 ∷ [])) ∷
     -- a place for each reader more than w has
-    ("P,1|newrwlock,3|" with "C2,2,1,1,2,0|rwlock,1,0|2|1|0,,|" has none) ∷
+    ("P,1|newrwlock,3|" with "C2,2,1,1,2,0|rwlock,1,0|2|1|0,,|" has None) ∷
     -- numbers as large as they come
     ("P,10|" ++ˢ two_locks "unlock,0|var,0|" with two_locks_split "0,,|1,,|" has
     ones (1000000000 ∷ 0 ∷ 1000000000 ∷ 1000000000 ∷ 0 ∷ 1000000000 ∷ 2000000000 ∷ 1000000000 ∷ 1000000000 ∷ 2000000000 ∷ [])) ∷
@@ -97,21 +97,21 @@ unfoldable pub call_examples : List Example
 call_examples =
     -- what is at hand is what the procedure starts with and what is kept back; no more, no less
     (calls_one "3" "" with one_kept "" "1" has ones (1 ∷ 2 ∷ 2 ∷ [])) ∷
-    (calls_one "3" "" with one_kept "" "0" has none) ∷
-    (calls_one "3" "" with one_kept "" "2" has none) ∷
+    (calls_one "3" "" with one_kept "" "0" has None) ∷
+    (calls_one "3" "" with one_kept "" "2" has None) ∷
     -- an if and a while in front of a call end with what the call wants
     (calls_one "7" "let,1|if,0|int,0|int,0|" with one_kept "0,,|0,,|0,,|0,,|" "2" has ones (1 ∷ 1 ∷ 1 ∷ 2 ∷ 2 ∷ 1 ∷ 1 ∷ [])) ∷
     (calls_one "6" "let,1|while,0|int,0|" with one_kept "0,,|0,,|0,,|" "2" has ones (1 ∷ 1 ∷ 1 ∷ 1 ∷ 1 ∷ 1 ∷ [])) ∷
     -- a while ends with no more than a call in its body leaves
     (calls_one "8" "while,0|let,1|if,0|int,0|int,0|" with one_kept "0,,|0,,|0,,|0,,|0,,|" "2" has ones (1 ∷ 1 ∷ 1 ∷ 1 ∷ 1 ∷ 1 ∷ 1 ∷ 1 ∷ [])) ∷
     -- a body that ends with less than the procedure leaves
-    ("P2,2,1|proc,0|var,0|int,0|" with "C2,2,1,1,2,0|int,0,0|2|1|1,0,0,0|0,,|0,,|" has none) ∷
+    ("P2,2,1|proc,0|var,0|int,0|" with "C2,2,1,1,2,0|int,0,0|2|1|1,0,0,0|0,,|0,,|" has None) ∷
     -- a procedure that calls itself, and that the root does not call
     ("P2,3,1|proc,0|call,0|var,0|int,0|" with "C2,2,1,1,2,0|int,0,0|2|0|0,0,0,0|0,,1|0,,|0,,|" has ones (2 ∷ 2 ∷ 2 ∷ [])) ∷
     []
 
 unfoldable pub AllFound : List Example → Type 0
-AllFound rows = map maps_found rows ≡ map (λ (r : Example). ok r.maps) rows
+AllFound rows = map maps_found rows ≡ map (λ (r : Example). Ok r.maps) rows
 
 -- ------------------------------------------------------------------ whole answers
 
@@ -174,12 +174,12 @@ unfoldable pub ◌with◌becomes◌ : String → String → String → Filling
 p with s becomes t = record { program = p; given = s; whole = t }
 
 -- what is written for a pair
-unfoldable pub whole_of : Filling → Result (List ℕ)
+unfoldable pub whole_of : Filling → Result (List ℕ) Refusal
 unfolding answered
 whole_of r = fill workspace_size split_limit (barred r.program) (barred r.given)
 
 unfoldable pub AllWritten : List Filling → Type 0
-AllWritten rows = map whole_of rows ≡ map (λ (r : Filling). ok (barred r.whole)) rows
+AllWritten rows = map whole_of rows ≡ map (λ (r : Filling). Ok (barred r.whole)) rows
 
 unfoldable pub fillings : List Filling
 fillings =

@@ -1,6 +1,5 @@
 -- The pass at each location, and the maps that its posts make. proofs/Filling.antt shows that these are the greatest after-maps.
-use Rattle.std.specs.Prelude.{List, [], ◌∷◌, map, ℕ, zero, suc, ◌+◌, length, get_or}
-use Rattle.std.proofs.Math.Option.{Option, some}
+use Rattle.std.specs.Prelude.{List, [], ◌∷◌, map, ℕ, zero, suc, ◌+◌, length, get_or, Option, Some}
 use Rattle.spec.specs.Program.{Program}
 use Rattle.spec.specs.Split.{Map, Split}
 use Rattle.spec.specs.declared.Location.{Location}
@@ -24,4 +23,4 @@ maps_of_steps columns i (suc n) = map_of_step columns i ∷ maps_of_steps column
 unfoldable pub greatest_maps : Program → Split → Option (List Map)
 greatest_maps P S = do
   columns ← for_each (posts_at P S) 0 S.header.locations
-  some (maps_of_steps columns 0 (length P.steps))
+  Some (maps_of_steps columns 0 (length P.steps))

@@ -1,7 +1,6 @@
 -- The pass: the greatest posts of a flow, in step order, if some pass. A call wants an exact number; an `if` or a `while` before it may
 -- have to leave less than it could. So the pass is told the most that its own post may be, and takes that into its minimum there.
-use Rattle.std.specs.Prelude.{◌&&◌, List, [], ◌∷◌, ◌++◌, ℕ, ◌+◌, ◌-◌, min, leb, eqb, get_or}
-use Rattle.std.proofs.Math.Option.{Option, none, some}
+use Rattle.std.specs.Prelude.{◌&&◌, List, [], ◌∷◌, ◌++◌, ℕ, ◌+◌, ◌-◌, min, leb, eqb, get_or, Option, None, Some}
 use Rattle.spec.specs.Choice.{when◌then◌else◌}
 use Rattle.fill_theory.specs.Found.{◌>>=◌, require}
 use Rattle.fill_theory.specs.Flow.{taking, Flow, alone, after, in_turn, branch, loop, fork, call, Root}
@@ -20,8 +19,8 @@ back E c = c + E.takes - E.gives
 unfoldable pub apply : Effect → (before : ℕ) → Option ℕ
 apply E before =
     when leb (E.takes + E.needs) (before + E.gives) && leb E.lends E.takes
-    then some (forth E before)
-    else none
+    then Some (forth E before)
+    else None
 
 -- an expression's own post is the first of its posts
 unfoldable pub own_post : List ℕ → ℕ
@@ -68,43 +67,43 @@ module _ (top : ℕ) where
   unfoldable pub pass : (pre c : ℕ) → Flow → Option (List ℕ)
   pass pre c (alone E) = do
     p ← apply E pre
-    some (p ∷ [])
+    Some (p ∷ [])
   pass pre c (after E f) = do
     ps ← pass pre (back E c) f
     p ← apply E (own_post ps)
-    some (p ∷ ps)
+    Some (p ∷ ps)
   pass pre c (in_turn E f g) = do
     ps ← pass pre (ceiling (back E c) g) f
     qs ← pass (own_post ps) (back E c) g
     p ← apply E (own_post qs)
-    some (p ∷ (ps ++ qs))
+    Some (p ∷ (ps ++ qs))
   pass pre c (branch f g) = do
     ps ← pass pre top f
     qs ← pass pre top g
-    some (min c (min (own_post ps) (own_post qs)) ∷ (ps ++ qs))
+    Some (min c (min (own_post ps) (own_post qs)) ∷ (ps ++ qs))
   pass pre c (loop f) = let most = attainable pre c (loop f) in do
     ps ← pass most top f
     kept ← require (leb most (own_post ps))
-    some (most ∷ ps)
+    Some (most ∷ ps)
   pass pre c (fork s k f g) = do
     ps ← pass pre (back (taking s) c) f
     qs ← pass s top g
     paid ← require (leb k (own_post qs))
     p ← apply (taking s) (own_post ps)
-    some (p ∷ (ps ++ qs))
+    Some (p ∷ (ps ++ qs))
   pass pre c (call b d f) = do
     ps ← pass pre b f
     exact ← require (eqb (own_post ps) b)
-    some (d ∷ ps)
+    Some (d ∷ ps)
 
 -- the greatest posts, of a flow and of flows one beside the other
 unfoldable pub greatest_posts : (pre : ℕ) → Flow → Option (List ℕ)
 greatest_posts pre f = let top = pre + weight f in pass top pre top f
 
 unfoldable pub posts_of_roots : List Root → Option (List ℕ)
-posts_of_roots [] = some []
+posts_of_roots [] = Some []
 posts_of_roots (r ∷ rs) = do
   ps ← greatest_posts r.pre r.flow
   left ← require (leb r.due (own_post ps))
   qs ← posts_of_roots rs
-  some (ps ++ qs)
+  Some (ps ++ qs)

@@ -1,6 +1,5 @@
 -- The number after a step, by its transfer function, from those that its parts leave.
-use Rattle.std.proofs.Math.Option.{Option, none, some}
-use Rattle.std.specs.Prelude.{ℕ, min, leb, eqb}
+use Rattle.std.specs.Prelude.{ℕ, min, leb, eqb, Option, None, Some}
 use Rattle.fill_theory.specs.Found.{◌>>=◌, require}
 use Rattle.fill_theory.specs.Flow.{taking}
 use Rattle.fill_theory.specs.Pass.{apply}
@@ -12,8 +11,8 @@ use Rattle.fill_transfer.specs.declared.steps.Found.{Found}
 use Rattle.fill_transfer.specs.declared.steps.Found.TheVariants.{Number, Nothing}
 
 abbrev pub as_found : Option ℕ → Found
-as_found none = Nothing
-as_found (some p) = Number p
+as_found None = Nothing
+as_found (Some p) = Number p
 
 -- ------------------------------------------------------------------ a step after its parts
 
@@ -26,8 +25,8 @@ part_pre (Call wanted left) pre cap = pre
 -- the number after a step with one part, which starts with `before` and ends with `first`
 unfoldable pub after_unary : UnaryTransfer → (before first : ℕ) → Option ℕ
 after_unary (After E) before first = apply E first
-after_unary Loop before first = require (leb before first) >>= λ kept. some before
-after_unary (Call wanted left) before first = require (eqb first wanted) >>= λ exact. some left
+after_unary Loop before first = require (leb before first) >>= λ kept. Some before
+after_unary (Call wanted left) before first = require (eqb first wanted) >>= λ exact. Some left
 
 -- the number before the second part
 unfoldable pub second_pre : BinaryTransfer → (pre first : ℕ) → ℕ
@@ -38,5 +37,5 @@ second_pre (Fork start due) pre first = start
 -- the number after a step with two parts, which end with `first` and `last`, if it may be at most `cap`
 unfoldable pub after_binary : BinaryTransfer → (cap first last : ℕ) → Option ℕ
 after_binary (InTurn E) cap first last = apply E last
-after_binary Branch cap first last = some (min cap (min first last))
+after_binary Branch cap first last = Some (min cap (min first last))
 after_binary (Fork start due) cap first last = require (leb due last) >>= λ paid. apply (taking start) first

@@ -1,8 +1,8 @@
 -- Laws of looking a field up in the tables of words.
+use Rattle.std.proofs.Common.{Option, None, Some}
 use mathlib.Core.Path.{◌≡◌, refl, sym, ap, ◌∙◌}
 use mathlib.Core.List.{List, [], ◌∷◌, ◌++◌}
 use mathlib.Core.Bool.{Bool, true, false}
-use mathlib.Core.Option.{Option, none, some}
 use Prim.Native.Nat.{ℕ}
 use Rattle.spec.specs.Choice.{when◌then◌else◌}
 use Rattle.spec.specs.Text.{same, Field, look_up}
@@ -28,7 +28,7 @@ unfolding either_of
 first_unknown r e = rw e refl
 
 -- one word of a table, in front of the words behind it
-spelled_found : (b : Bool) (w : Word) (o : Option Word) → spelled_or b w (found_of o) ≡ found_of (when b then some w else o)
+spelled_found : (b : Bool) (w : Word) (o : Option Word) → spelled_or b w (found_of o) ≡ found_of (when b then Some w else o)
 unfolding spelled_or found_of
 spelled_found true w o = refl
 spelled_found false w o = refl
@@ -49,7 +49,7 @@ either_found [] ws f = refl
 either_found (v ∷ vs) ws f = by_test (either_found vs ws f) (same v.0 f)
   where
     by_test : found_of (look_up (vs ++ ws) f) ≡ either_of (found_of (look_up vs f)) (found_of (look_up ws f)) → (x : Bool)
-        → found_of (when x then some v.1 else look_up (vs ++ ws) f) ≡ either_of (found_of (when x then some v.1 else look_up vs f)) (found_of (look_up ws f))
+        → found_of (when x then Some v.1 else look_up (vs ++ ws) f) ≡ either_of (found_of (when x then Some v.1 else look_up vs f)) (found_of (look_up ws f))
     by_test e true = refl
     by_test e false = e
 
@@ -58,12 +58,12 @@ pub table_first : (vs ws : List (List ℕ × Word)) (f : Field) {r r₁ r₂ : F
 table_first vs ws f e h₁ h₂ = e ∙ rw (h₁, h₂) (sym (either_found vs ws f))
 
 -- what was found tells what the table has
-pub found_known : (o : Option Word) (w : Word) → found_of o ≡ Known w → o ≡ some w
+pub found_known : (o : Option Word) (w : Word) → found_of o ≡ Known w → o ≡ Some w
 unfolding found_of
-found_known none w e = cc
-found_known (some v) w e = cc
+found_known None w e = cc
+found_known (Some v) w e = cc
 
-pub found_unknown : (o : Option Word) → found_of o ≡ Unknown → o ≡ none
+pub found_unknown : (o : Option Word) → found_of o ≡ Unknown → o ≡ None
 unfolding found_of
-found_unknown none e = refl
-found_unknown (some v) e = cc
+found_unknown None e = refl
+found_unknown (Some v) e = cc

@@ -1,6 +1,5 @@
 -- What a field spells, as the shapes that the code hands back.
-use Rattle.std.specs.Prelude.{Bool, true, false}
-use Rattle.std.proofs.Math.Option.{Option, none, some}
+use Rattle.std.specs.Prelude.{Bool, true, false, Option, None, Some}
 use Rattle.spec.specs.Choice.{when◌then◌else◌}
 use Rattle.spec.specs.Text.{bytes, same, Field}
 use Rattle.spec.specs.declared.Word.{Word}
@@ -10,8 +9,8 @@ use Rattle.keywords.specs.declared.TypeWord.{TypeWord}
 use Rattle.keywords.specs.declared.TypeWord.TheVariants as kind
 
 unfoldable pub found_of : Option Word → FoundWord
-found_of none = Unknown
-found_of (some w) = Known w
+found_of None = Unknown
+found_of (Some w) = Known w
 
 -- a word, if it is spelled; else what is found otherwise
 unfoldable pub spelled_or : Bool → Word → FoundWord → FoundWord

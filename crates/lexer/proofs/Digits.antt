@@ -1,8 +1,8 @@
 -- Laws of numerals, at a place of a field.
+use Rattle.std.proofs.Common.{None, Some}
 use mathlib.Core.Path.{◌≡◌, refl, ◌∙◌}
 use mathlib.Core.List.{List, [], ◌∷◌}
 use mathlib.Core.Bool.{Bool, true, false, ◌&&◌, and-false}
-use mathlib.Core.Option.{none, some}
 use Prim.Native.Nat.{ℕ, ◌+◌, ◌*◌, ◌-◌, ◌^◌, ◌<◌, ◌≤◌}
 use native.Mathlib.Nat.{not-suc-le-zero, le_of_suc-le-suc, pow-succ', pow-le-pow_right, lt_of_lt_of_le}
 use native.Mathlib.Numerals.{add-one}
@@ -65,23 +65,23 @@ ten_limit i a h k = lt_of_lt_of_le h (pow-le-pow_right {n = 10} (lit< tt) k)
 -- ------------------------------------------------------------------ what is a numeral, and what is none
 
 module _ (s : List ℕ) where
-  pub not_short : length s ≡ 0 → numeral s ≡ none
+  pub not_short : length s ≡ 0 → numeral s ≡ None
   unfolding numeral
   not_short h = rw (h, numeral)
 
-  pub not_long_lem : digit_limit < length s → numeral s ≡ none
+  pub not_long_lem : digit_limit < length s → numeral s ≡ None
   unfolding numeral
   not_long_lem h = simp (le-leb 1 (length s) (omega arith), lt-leb (length s) digit_limit h)
 
-  pub not_leading : leading_zero s ≡ true → numeral s ≡ none
+  pub not_leading : leading_zero s ≡ true → numeral s ≡ None
   unfolding numeral
   not_leading h = simp (h, and-false)
 
-  pub not_digits : digits s ≡ false → numeral s ≡ none
+  pub not_digits : digits s ≡ false → numeral s ≡ None
   unfolding numeral
   not_digits h = simp (h, and-false)
 
-  pub is_numeral : 1 ≤ length s → length s ≤ digit_limit → leading_zero s ≡ false → digits s ≡ true → numeral s ≡ some (value 0 s)
+  pub is_numeral : 1 ≤ length s → length s ≤ digit_limit → leading_zero s ≡ false → digits s ≡ true → numeral s ≡ Some (value 0 s)
   unfolding numeral
   is_numeral h k l d = simp (l, d, le-leb 1 (length s) h, le-leb (length s) digit_limit k)
 

@@ -1,8 +1,8 @@
 -- What is left of a text, by its first field.
+use Rattle.std.proofs.Common.{Option, None, Some}
 use mathlib.Core.Path.{◌≡◌, refl, ap, subst, ◌∙◌}
 use mathlib.Core.List.{List, [], ◌∷◌}
 use mathlib.Core.Bool.{Bool, true, false}
-use mathlib.Core.Option.{Option, none, some}
 use Prim.Native.Nat.{ℕ, suc, ◌+◌, ◌≤◌, ◌<◌}
 use native.Mathlib.Numerals.{add-one}
 use native.Mathlib.Omega.{arith}
@@ -61,16 +61,16 @@ module _ (s : List ℕ) (i : ℕ) where
 -- what the first field says of the first line
 abbrev ByField : FieldEnd → (f : Field) (behind : List ℕ) → Option (List Field × List ℕ) → Type 0
 ByField Comma f r line = line ≡ with_field f (line_at r)
-ByField Newline f r line = line ≡ some (f ∷ [], r)
-ByField Text f r line = line ≡ none
+ByField Newline f r line = line ≡ Some (f ∷ [], r)
+ByField Text f r line = line ≡ None
 
 with_byte_lem : (b : ℕ) (e : FieldEnd) (f : Field) (r : List ℕ) (line : Option (List Field × List ℕ)) → ByField e f r line → ByField e (b ∷ f) r (with_byte b line)
 unfolding with_byte with_field on_field
 with_byte_lem b Comma f r line h = ap (with_byte b) h ∙ go (line_at r)
   where
     go : (l : Option (List Field × List ℕ)) → with_byte b (with_field f l) ≡ with_field (b ∷ f) l
-    go none = refl
-    go (some l) = refl
+    go None = refl
+    go (Some l) = refl
 with_byte_lem b Newline f r line h = ap (with_byte b) h
 with_byte_lem b Text f r line h = ap (with_byte b) h
 
@@ -83,7 +83,7 @@ by_field (b ∷ t) = go (eqb b 44) (eqb b 10) (by_field t)
         → ByField (when x then Comma else when y then Newline else end_of t)
         (take (when x then 0 else when y then 0 else suc (width t)) (b ∷ t))
         (drop (suc (when x then 0 else when y then 0 else suc (width t))) (b ∷ t))
-        (when x then with_field [] (line_at t) else when y then some ([] ∷ [], t) else with_byte b (line_at t))
+        (when x then with_field [] (line_at t) else when y then Some ([] ∷ [], t) else with_byte b (line_at t))
     go true y h = refl
     go false true h = refl
     go false false h = with_byte_lem b (end_of t) (first_field t) (behind t) (line_at t) h
@@ -92,22 +92,22 @@ module _ (t : List ℕ) where
   pub line_comma : end_of t ≡ Comma → line_at t ≡ with_field (first_field t) (line_at (behind t))
   line_comma e = rw e at (by_field t)
 
-  pub line_newline : end_of t ≡ Newline → line_at t ≡ some (first_field t ∷ [], behind t)
+  pub line_newline : end_of t ≡ Newline → line_at t ≡ Some (first_field t ∷ [], behind t)
   line_newline e = rw e at (by_field t)
 
-  pub line_text : end_of t ≡ Text → line_at t ≡ none
+  pub line_text : end_of t ≡ Text → line_at t ≡ None
   line_text e = rw e at (by_field t)
 
 -- ------------------------------------------------------------------ a line has a field
 
 abbrev Full : Option (List Field × List ℕ) → Type 0
-Full none = Unit
-Full (some line) = 0 < length line.0
+Full None = Unit
+Full (Some line) = 0 < length line.0
 
 full_field : (f : Field) (o : Option (List Field × List ℕ)) → Full (with_field f o)
 unfolding with_field
-full_field f none = tt
-full_field f (some line) = omega arith
+full_field f None = tt
+full_field f (Some line) = omega arith
 
 on_field_lem : (b : ℕ) (fs : List Field) → 0 < length (on_field b fs)
 unfolding on_field
@@ -116,18 +116,18 @@ on_field_lem b (f ∷ fs) = omega arith
 
 full_byte : (b : ℕ) (o : Option (List Field × List ℕ)) → Full (with_byte b o)
 unfolding with_byte
-full_byte b none = tt
-full_byte b (some line) = on_field_lem b line.0
+full_byte b None = tt
+full_byte b (Some line) = on_field_lem b line.0
 
 full_line : (t : List ℕ) → Full (line_at t)
 unfolding line_at
 full_line [] = tt
 full_line (b ∷ t) = go (eqb b 44) (eqb b 10)
   where
-    go : (x y : Bool) → Full (when x then with_field [] (line_at t) else when y then some ([] ∷ [], t) else with_byte b (line_at t))
+    go : (x y : Bool) → Full (when x then with_field [] (line_at t) else when y then Some ([] ∷ [], t) else with_byte b (line_at t))
     go true y = full_field [] (line_at t)
     go false true = omega arith
     go false false = full_byte b (line_at t)
 
-pub line_some : (t : List ℕ) (fs : List Field) (r : List ℕ) → line_at t ≡ some (fs, r) → 0 < length fs
+pub line_some : (t : List ℕ) (fs : List Field) (r : List ℕ) → line_at t ≡ Some (fs, r) → 0 < length fs
 line_some t fs r e = subst Full e (full_line t)

@@ -1,8 +1,8 @@
 -- The digits in front of a field, and what they say of the field once the byte behind them is seen.
+use Rattle.std.proofs.Common.{None, Some}
 use mathlib.Core.Path.{◌≡◌, refl, sym, ap, ◌∙◌}
 use mathlib.Core.List.{List, [], ◌∷◌}
 use mathlib.Core.Bool.{Bool, true, false, ◌&&◌, and-false}
-use mathlib.Core.Option.{none, some}
 use Prim.Native.Nat.{ℕ, suc, ◌+◌, ◌*◌, ◌-◌, ◌≤◌, ◌<◌}
 use native.Mathlib.Nat.{add-zero}
 use native.Mathlib.Numerals.{add-one}
@@ -113,12 +113,12 @@ spoilt : (b : ℕ) (t : List ℕ) → (leb 48 b && leb b 57) ≡ false → digit
 unfolding digits
 spoilt b t e = rw e
 
-no_digits : (t : List ℕ) → digit_first t ≡ false → numeral (first_field t) ≡ none
+no_digits : (t : List ℕ) → digit_first t ≡ false → numeral (first_field t) ≡ None
 unfolding digit_first first_field width
 no_digits [] e = unfold numeral in refl
 no_digits (b ∷ t) e = go (eqb b 44) (eqb b 10)
   where
-    go : (x y : Bool) → numeral (take (when x then 0 else when y then 0 else suc (width t)) (b ∷ t)) ≡ none
+    go : (x y : Bool) → numeral (take (when x then 0 else when y then 0 else suc (width t)) (b ∷ t)) ≡ None
     go true y = unfold numeral in refl
     go false true = unfold numeral in refl
     go false false = not_digits (b ∷ take (width t) t) (spoilt b (take (width t) t) e)
@@ -134,11 +134,11 @@ leading_is (b ∷ c ∷ t) = go (eqb b 48)
     go false = refl
 
 module _ (text : List ℕ) (c : Cursor) where
-  malformed : numeral (first_field (rest text c)) ≡ none → number_is.Malformed ≡ number_at text c
+  malformed : numeral (first_field (rest text c)) ≡ None → number_is.Malformed ≡ number_at text c
   unfolding number_at number_of
   malformed e = rw e
 
-  valued : (n : ℕ) (e : FieldEnd) (to : ℕ) → numeral (first_field (rest text c)) ≡ some n → end_of (rest text c) ≡ e → c.at + width (rest text c) ≡ to
+  valued : (n : ℕ) (e : FieldEnd) (to : ℕ) → numeral (first_field (rest text c)) ≡ Some n → end_of (rest text c) ≡ e → c.at + width (rest text c) ≡ to
       → number_is.Value n e (past e to c.line) ≡ number_at text c
   unfolding number_at number_of behind_field
   valued n e to f g h = rw (f, g, h)
@@ -188,11 +188,11 @@ module _ (text : List ℕ) (c : Cursor) where
         unfolding value
         field_value = taken.comes_to ∙ ap (value d.value) none_left
 
-        field_numeral : numeral (first_field (rest text c)) ≡ some d.value
+        field_numeral : numeral (first_field (rest text c)) ≡ Some d.value
         field_numeral =
             is_numeral (first_field (rest text c)) (omega (arith, field_width, taken.forward, some_taken)) (omega (arith, field_width, taken.limit)) field_bare
             field_digits
-            ∙ ap some field_value
+            ∙ ap Some field_value
 
         pub digits_closed : (e : FieldEnd) → end_of (drop d.to text) ≡ e → number_is.Value d.value e (past e d.to c.line) ≡ number_at text c
         digits_closed e h = valued d.value e d.to field_numeral (taken.end ∙ h) (omega (arith, taken.ahead, ends))

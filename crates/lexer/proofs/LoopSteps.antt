@@ -1,11 +1,12 @@
 -- Counted lines in turn, whatever is read on each: what a loop over them knows after some of them, and what it knows at its end.
+use Rattle.std.proofs.Common.{Ok, Err}
 use mathlib.Core.Path.{◌≡◌, refl, sym, ap, ◌∙◌}
 use mathlib.Core.List.{List, [], ◌∷◌, ◌++◌}
 use Prim.Native.Nat.{ℕ, zero, suc, ◌+◌, ◌-◌, ◌≤◌, ◌<◌}
 use native.Mathlib.Omega.{arith}
 use lib.ListN.{length, length-append, replicate}
 use Rattle.spec.specs.Text.{Field}
-use Rattle.spec.specs.Reading.{SheetName, refuse, ok, LineResult, Place, read_line, read_lines}
+use Rattle.spec.specs.Reading.{SheetName, LineResult, Place, read_line, read_lines}
 use Rattle.spec.specs.declared.Refusal.{Refusal}
 use Rattle.spec.proofs.Reading.{front, front_none, all_stop, all_on, all_done}
 use Rattle.lexer.specs.Cursors.{Placed, place_at}
@@ -47,7 +48,7 @@ module _
     left h = let e : n - i ≡ suc (n - (i + 1)) = omega arith in rw e
 
     -- the read_line line is read
-    pub loop_step_on : i < n → {entry : A} {d : Cursor} → read_line sheet (read i) (place_at text c) ≡ ok (entry, place_at text d) → Placed text d
+    pub loop_step_on : i < n → {entry : A} {d : Cursor} → read_line sheet (read i) (place_at text c) ≡ Ok (entry, place_at text d) → Placed text d
         → LoopStep sheet read n text from d (i + 1) (entries ++ (entry ∷ []))
     loop_step_on h {entry} {d} e p = record {
       count = omega (arith, length-append entries (entry ∷ []), t.count);
@@ -58,14 +59,14 @@ module _
     }
 
     -- it is refused
-    pub loop_step_stops : i < n → {r : Refusal} → read_line sheet (read i) (place_at text c) ≡ refuse r → read_lines sheet (numbered read 0 n) from ≡ refuse r
+    pub loop_step_stops : i < n → {r : Refusal} → read_line sheet (read i) (place_at text c) ≡ Err r → read_lines sheet (numbered read 0 n) from ≡ Err r
     unfolding front
     loop_step_stops h {r} e =
         t.rest ∙ ap (λ (l : List _). front entries (read_lines sheet l (place_at text c))) (left h)
         ∙ ap (front entries) (all_stop sheet (read i) (numbered read (i + 1) (n - (i + 1))) (place_at text c) r e)
 
     -- all of them are read
-    pub loop_steps_done : n ≤ i → read_lines sheet (numbered read 0 n) from ≡ ok (entries, place_at text c)
+    pub loop_steps_done : n ≤ i → read_lines sheet (numbered read 0 n) from ≡ Ok (entries, place_at text c)
     unfolding numbered
     loop_steps_done h = let e : n - i ≡ 0 = omega (arith, t.few) in t.rest ∙ rw e (all_done sheet entries (place_at text c))
 

@@ -1,13 +1,13 @@
 -- How the proof of a line's reader walks: field by field, at the cursor.
+use Rattle.std.proofs.Common.{Option, None, Some, Err}
 use mathlib.Core.Path.{◌≡◌, refl, sym, ap, subst, ◌∙◌}
 use mathlib.Core.List.{List, [], ◌∷◌}
 use mathlib.Core.Bool.{true, false}
-use mathlib.Core.Option.{Option, none, some}
 use Prim.Native.Nat.{ℕ, ◌+◌, ◌<◌}
 use native.Mathlib.Omega.{arith}
 use lib.ListN.{length}
 use Rattle.spec.specs.Text.{lines, Field, numeral}
-use Rattle.spec.specs.Reading.{SheetName, refuse, LineResult, bad, bad_form, form, faulty, passed, next_line}
+use Rattle.spec.specs.Reading.{SheetName, LineResult, bad, bad_form, form, faulty, passed, next_line}
 use Rattle.lexer.specs.Views.{end_of, first_field, behind, text_ended, with_field, line_at}
 use Rattle.lexer.specs.Cursors.{Placed, start, rest, behind_field, span_to, span_at}
 use Rattle.lexer.specs.declared.Cursor.{Cursor}
@@ -57,7 +57,7 @@ module _ (text : List ℕ) (c : Cursor) (s : Span) (is : s ≡ span_at text c) w
 
 -- what the numeral at a cursor says of the line there
 module _ (text : List ℕ) (c : Cursor) (n : ℕ) (e : FieldEnd) (d : Cursor) (is : number_at text c ≡ number_is.Value n e d) where
-  pub number_numeral : numeral (first_field (rest text c)) ≡ some n
+  pub number_numeral : numeral (first_field (rest text c)) ≡ Some n
   number_numeral = (value_at_cursor text c n e d is).0
 
   pub number_end : end_of (rest text c) ≡ e
@@ -72,7 +72,7 @@ module _ (text : List ℕ) (c : Cursor) (n : ℕ) (e : FieldEnd) (d : Cursor) (i
   pub number_line_passed : e ≡ Newline → d.line ≡ c.line + 1
   number_line_passed f = ap (λ (x : Cursor). x.line) (sym number_next) ∙ line_passed text c (number_end ∙ f)
 
-  pub number_text : e ≡ Text → line_at (rest text c) ≡ none
+  pub number_text : e ≡ Text → line_at (rest text c) ≡ None
   number_text f = line_text (rest text c) (number_end ∙ f)
 
   module _ (p : Placed text c) where
@@ -85,7 +85,7 @@ module _ (text : List ℕ) (c : Cursor) (n : ℕ) (e : FieldEnd) (d : Cursor) (i
     pub number_comma : e ≡ Comma → line_at (rest text c) ≡ with_field (first_field (rest text c)) (line_at (rest text d))
     number_comma f = rw (← number_behind) (line_comma (rest text c) (number_end ∙ f))
 
-    pub number_newline : e ≡ Newline → line_at (rest text c) ≡ some (first_field (rest text c) ∷ [], rest text d)
+    pub number_newline : e ≡ Newline → line_at (rest text c) ≡ Some (first_field (rest text c) ∷ [], rest text d)
     number_newline f = rw (← number_behind) (line_newline (rest text c) (number_end ∙ f))
 
 -- whether something is left
@@ -103,25 +103,25 @@ left_some (b ∷ t) e = omega arith
 
 module _ {A : Type 0} (sheet : SheetName) (read : List Field → LineResult A) (k : ℕ) (t : List ℕ) (some_left : 0 < length t) where
   bad_fields : (f : Field) (o : Option (List Field × List ℕ)) → line_at t ≡ with_field f o → ((fs : List Field) → read (f ∷ fs) ≡ bad bad_form)
-      → next_line sheet read k (lines t) ≡ refuse (form sheet (k + 1))
+      → next_line sheet read k (lines t) ≡ Err (form sheet (k + 1))
   unfolding with_field faulty passed
-  bad_fields f none e h = next_open sheet read k t some_left e
-  bad_fields f (some line) e h = next_closed sheet read k t (f ∷ line.0) line.1 e ∙ rw h
+  bad_fields f None e h = next_open sheet read k t some_left e
+  bad_fields f (Some line) e h = next_closed sheet read k t (f ∷ line.0) line.1 e ∙ rw h
 
-  by_comma : (end_of t ≡ Comma → next_line sheet read k (lines t) ≡ refuse (form sheet (k + 1))) → read (first_field t ∷ []) ≡ bad bad_form
-      → next_line sheet read k (lines t) ≡ refuse (form sheet (k + 1))
+  by_comma : (end_of t ≡ Comma → next_line sheet read k (lines t) ≡ Err (form sheet (k + 1))) → read (first_field t ∷ []) ≡ bad bad_form
+      → next_line sheet read k (lines t) ≡ Err (form sheet (k + 1))
   unfolding faulty passed
   by_comma n h = go (end_of t) refl
     where
-      go : (e : FieldEnd) → end_of t ≡ e → next_line sheet read k (lines t) ≡ refuse (form sheet (k + 1))
+      go : (e : FieldEnd) → end_of t ≡ e → next_line sheet read k (lines t) ≡ Err (form sheet (k + 1))
       go Comma e = n e
       go Newline e = next_closed sheet read k t (first_field t ∷ []) (behind t) (line_newline t e) ∙ rw h
       go Text e = next_open sheet read k t some_left (line_text t e)
 
   -- the first field is enough to refuse the line
-  pub first_wrong : ((fs : List Field) → read (first_field t ∷ fs) ≡ bad bad_form) → next_line sheet read k (lines t) ≡ refuse (form sheet (k + 1))
+  pub first_wrong : ((fs : List Field) → read (first_field t ∷ fs) ≡ bad bad_form) → next_line sheet read k (lines t) ≡ Err (form sheet (k + 1))
   first_wrong h = by_comma (λ e. bad_fields (first_field t) (line_at (behind t)) (line_comma t e) h) (h [])
 
   -- the first field is the last, and that is too few
-  pub first_alone : (end_of t ≡ Comma → ⊥) → read (first_field t ∷ []) ≡ bad bad_form → next_line sheet read k (lines t) ≡ refuse (form sheet (k + 1))
+  pub first_alone : (end_of t ≡ Comma → ⊥) → read (first_field t ∷ []) ≡ bad bad_form → next_line sheet read k (lines t) ≡ Err (form sheet (k + 1))
   first_alone n h = by_comma (λ e. absurd (n e)) h

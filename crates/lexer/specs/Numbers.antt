@@ -1,6 +1,5 @@
 -- Numerals at a cursor, as the shapes that the code hands back.
-use Rattle.std.specs.Prelude.{List, [], ◌∷◌, map, Bool, false, ◌&&◌, ◌≡◌, ℕ, ◌+◌, ◌-◌, ◌≤◌, ◌<◌, eqb, leb, ltb, length, drop}
-use Rattle.std.proofs.Math.Option.{Option, none, some}
+use Rattle.std.specs.Prelude.{List, [], ◌∷◌, map, Bool, false, ◌&&◌, ◌≡◌, ℕ, ◌+◌, ◌-◌, ◌≤◌, ◌<◌, eqb, leb, ltb, length, drop, Option, None, Some}
 use Rattle.spec.specs.Choice.{when◌then◌else◌}
 use Rattle.spec.specs.Text.{Field, digit_limit, digits, value as value_of, numeral}
 use Rattle.spec.specs.Reading.{numerals}
@@ -19,12 +18,12 @@ use Rattle.lexer.specs.declared.Numbers.TheVariants as numbers_are
 -- ------------------------------------------------------------------ one numeral
 
 unfoldable pub numeral_of : Option ℕ → Numeral
-numeral_of none = numeral_is.Malformed
-numeral_of (some n) = numeral_is.Value n
+numeral_of None = numeral_is.Malformed
+numeral_of (Some n) = numeral_is.Value n
 
 unfoldable pub number_of : Option ℕ → FieldEnd → Cursor → Number
-number_of none e c = number_is.Malformed
-number_of (some n) e c = number_is.Value n e c
+number_of None e c = number_is.Malformed
+number_of (Some n) e c = number_is.Value n e c
 
 -- the numeral at a cursor, what ends it, and the cursor behind it
 unfoldable pub number_at : List ℕ → Cursor → Number
@@ -64,23 +63,23 @@ stored n = when leb n 4294967295 then n else 4294967295
 
 -- the field is a numeral, and its number is stored as n
 abbrev pub Spells : Field → ℕ → Type 0
-Spells f n = (m : ℕ) × (numeral f ≡ some m) × (n ≡ stored m)
+Spells f n = (m : ℕ) × (numeral f ≡ Some m) × (n ≡ stored m)
 
 -- ------------------------------------------------------------------ the numerals of a line
 
 -- the numbers of a line that has numerals alone, as they are stored, and what is left behind it
 unfoldable pub with_rest : Option (List ℕ) → List ℕ → Option (List ℕ × List ℕ)
-with_rest none r = none
-with_rest (some ns) r = some (map stored ns, r)
+with_rest None r = None
+with_rest (Some ns) r = Some (map stored ns, r)
 
 unfoldable pub numbers_in : Option (List Field × List ℕ) → Option (List ℕ × List ℕ)
-numbers_in none = none
-numbers_in (some line) = with_rest (numerals line.0) line.1
+numbers_in None = None
+numbers_in (Some line) = with_rest (numerals line.0) line.1
 
 -- so many of them
 unfoldable pub counted : ℕ → Option (List ℕ × List ℕ) → Option (List ℕ × List ℕ)
-counted n none = none
-counted n (some found) = when eqb (length found.0) n then some found else none
+counted n None = None
+counted n (Some found) = when eqb (length found.0) n then Some found else None
 
 -- the line at a cursor, if it is of so many numerals
 unfoldable pub numbers_at : List ℕ → Cursor → ℕ → Option (List ℕ × List ℕ)
@@ -91,13 +90,13 @@ unfoldable pub behind_line : List ℕ → Cursor → List ℕ → Cursor
 behind_line text c r = record { at = length text - length r; line = c.line + 1 }
 
 unfoldable pub numbers_of : List ℕ → Cursor → Option (List ℕ × List ℕ) → Numbers
-numbers_of text c none = numbers_are.Malformed
-numbers_of text c (some found) = numbers_are.Read (behind_line text c found.1)
+numbers_of text c None = numbers_are.Malformed
+numbers_of text c (Some found) = numbers_are.Read (behind_line text c found.1)
 
 -- what a lent slice holds afterwards: the numbers; of a line of another form, only its length is promised
 abbrev pub Filled : Option (List ℕ × List ℕ) → (before after : List ℕ) → Type 0
-Filled none before after = length after ≡ length before
-Filled (some found) before after = after ≡ found.0
+Filled None before after = length after ≡ length before
+Filled (Some found) before after = after ≡ found.0
 
 -- reading the numerals of a line into a slice of as many places
 pub record NumbersRead (text : List ℕ) (c : Cursor) (before after : List ℕ) (answer : Numbers) : Type 0 where

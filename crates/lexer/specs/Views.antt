@@ -1,6 +1,5 @@
 -- What is left of a text, seen by its first field and by its first line.
-use Rattle.std.specs.Prelude.{List, [], ◌∷◌, Bool, true, false, ℕ, suc, eqb, take, drop}
-use Rattle.std.proofs.Math.Option.{Option, none, some}
+use Rattle.std.specs.Prelude.{List, [], ◌∷◌, Bool, true, false, ℕ, suc, eqb, take, drop, Option, None, Some}
 use Rattle.spec.specs.Choice.{when◌then◌else◌}
 use Rattle.spec.specs.Text.{Field, on_field}
 use Rattle.lexer.specs.declared.FieldEnd.{FieldEnd}
@@ -34,17 +33,17 @@ text_ended (b ∷ t) = false
 
 -- a field, or a byte of the first field, in front of a line
 unfoldable pub with_field : {A : Type 0} → Field → Option (List Field × A) → Option (List Field × A)
-with_field f none = none
-with_field f (some line) = some (f ∷ line.0, line.1)
+with_field f None = None
+with_field f (Some line) = Some (f ∷ line.0, line.1)
 
 unfoldable pub with_byte : {A : Type 0} → ℕ → Option (List Field × A) → Option (List Field × A)
-with_byte b none = none
-with_byte b (some line) = some (on_field b line.0, line.1)
+with_byte b None = None
+with_byte b (Some line) = Some (on_field b line.0, line.1)
 
 -- the fields of the first line and what is left behind its byte 10; none where no byte 10 closes it
 unfoldable pub line_at : List ℕ → Option (List Field × List ℕ)
-line_at [] = none
+line_at [] = None
 line_at (b ∷ t) =
     when eqb b 44 then with_field [] (line_at t)
-    else when eqb b 10 then some ([] ∷ [], t)
+    else when eqb b 10 then Some ([] ∷ [], t)
     else with_byte b (line_at t)

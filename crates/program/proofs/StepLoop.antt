@@ -1,4 +1,5 @@
 -- Reading lines one after the other: what the loop over them has read and stored after k of them.
+use Rattle.std.proofs.Common.{Result}
 use mathlib.Core.Path.{◌≡◌, refl, ap, ◌∙◌}
 use mathlib.Core.Logic.{inl, inr}
 use mathlib.Core.List.{List, [], ◌∷◌, ◌++◌, map}
@@ -6,7 +7,7 @@ use Prim.Native.Nat.{ℕ, suc, zero, ◌+◌, ◌<◌, ◌≤◌}
 use native.Mathlib.Omega.{arith}
 use lib.ListN.{length, set, length-set, length-append, length-map}
 use Rattle.spec.specs.Text.{Field}
-use Rattle.spec.specs.Reading.{program_sheet, Result, LineResult, Place, read_line, read_lines}
+use Rattle.spec.specs.Reading.{program_sheet, LineResult, Place, read_line, read_lines}
 use Rattle.spec.specs.Expression.{Step, Item, step, proc, steps_among}
 use Rattle.spec.specs.Program.{item_line, item_lines}
 use Rattle.spec.specs.declared.ProgramHeading.{ProgramHeading}
@@ -156,7 +157,7 @@ start text h n c w l p = record {
 
 module _ {text : List ℕ} {h : ProgramHeading} {n : ℕ} {c₀ : Cursor} {w₀ w : List ℕ} {c : Cursor} {i j k : ℕ} (s : StepsSoFar text h n c₀ w₀ w c i j k) where
   -- what reading all of the lines comes to
-  all_of : (o : Result (List Item × Place)) → read_lines program_sheet (numbered (line_from h c₀.line) 0 n) (place_at text c₀) ≡ o → items_at text h n c₀ ≡ o
+  all_of : (o : Result (List Item × Place) Refusal) → read_lines program_sheet (numbered (line_from h c₀.line) 0 n) (place_at text c₀) ≡ o → items_at text h n c₀ ≡ o
   unfolding items_at
   all_of o e =
       let z : c₀.line + 1 + 0 ≡ c₀.line + 1 = omega arith in
@@ -175,7 +176,7 @@ module _ {text : List ℕ} {h : ProgramHeading} {n : ℕ} {c₀ : Cursor} {w₀ 
 
   module _ (l : k < n) where
     -- the line at the cursor is the next of them
-    line_here : {o : Result (Item × Place)} → item_at text h c ≡ o → read_line program_sheet (line_from h c₀.line k) (place_at text c) ≡ o
+    line_here : {o : Result (Item × Place) Refusal} → item_at text h c ≡ o → read_line program_sheet (line_from h c₀.line k) (place_at text c) ≡ o
     unfolding item_at
     line_here e =
         let here : c₀.line + 1 + k ≡ c.line + 1 = omega (arith, s.lined) in

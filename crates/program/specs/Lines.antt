@@ -1,6 +1,7 @@
 -- The lines behind line 1, as the work space holds them.
-use Rattle.std.specs.Prelude.{◌≡◌, List, ℕ, ◌+◌}
-use Rattle.spec.specs.Reading.{program_sheet, Result, refuse, ok, Place, read_lines}
+use Rattle.std.specs.Prelude.{◌≡◌, List, ℕ, ◌+◌, Result, Ok, Err}
+use Rattle.spec.specs.declared.Refusal.{Refusal}
+use Rattle.spec.specs.Reading.{program_sheet, Place, read_lines}
 use Rattle.spec.specs.Expression.{Item}
 use Rattle.spec.specs.Program.{item_lines}
 use Rattle.spec.specs.declared.ProgramHeading.{ProgramHeading}
@@ -12,19 +13,19 @@ use Rattle.program_tree.specs.Items.{ItemsStored}
 use Rattle.program.specs.declared.lines.StepLines.{StepLines}
 use Rattle.program.specs.declared.lines.StepLines.TheVariants as steps
 
-unfoldable pub items_at : List ℕ → ProgramHeading → (n : ℕ) → Cursor → Result (List Item × Place)
+unfoldable pub items_at : List ℕ → ProgramHeading → (n : ℕ) → Cursor → Result (List Item × Place) Refusal
 items_at text h n c = read_lines program_sheet (item_lines h (c.line + 1) n) (place_at text c)
 
 -- n lines are read and stored
 pub record StepsHeld (text : List ℕ) (h : ProgramHeading) (n : ℕ) (c : Cursor) (w : List ℕ) (steps procs : ℕ) (d : Cursor) : Type 0 where
   pub stored : ItemsStored steps procs w
   pub all : steps + procs ≡ n
-  pub shown : items_at text h n c ≡ ok (stored.items, place_at text d)
+  pub shown : items_at text h n c ≡ Ok (stored.items, place_at text d)
   pub placed : Placed text d
 
 abbrev pub StepsFound : List ℕ → ProgramHeading → (n : ℕ) → Cursor → (w : List ℕ) → StepLines → Type 0
 StepsFound text h n c w (steps.Read i j d) = StepsHeld text h n c w i j d
-StepsFound text h n c w (steps.Refused x) = items_at text h n c ≡ refuse x
+StepsFound text h n c w (steps.Refused x) = items_at text h n c ≡ Err x
 
 pub record StepsShown (text : List ℕ) (h : ProgramHeading) (n : ℕ) (c : Cursor) (w w' : List ℕ) (r : StepLines) : Type 0 where
   pub found : StepsFound text h n c w' r

@@ -10,7 +10,8 @@ ghost use Rattle.program.specs.Sheet.{LinesDue, LinesRead, ProgramIs};
 use lexer::Cursor;
 use lines::StepLines;
 use program_lines::CountLine;
-use spec::{ProgramHeading, Refusal, Ruling};
+use spec::{ProgramHeading, Refusal};
+use workspace::Ruling;
 
 // The numbers of steps and of procedures of a program, or the refusal of its sheet.
 #[derive(Drop)]

@@ -1,8 +1,8 @@
 -- Line 1 of a program sheet.
+use Rattle.std.proofs.Common.{Some}
 use mathlib.Core.Path.{◌≡◌, refl, sym, ap, ◌∙◌}
 use mathlib.Core.Bool.{true, false, ◌&&◌, and-true}
 use mathlib.Core.List.{List, [], ◌∷◌}
-use mathlib.Core.Option.{some}
 use Prim.Native.Nat.{ℕ, ◌+◌, ◌<◌, ◌≤◌}
 use native.Mathlib.Omega.{arith}
 use lib.ListN.{length}
@@ -57,11 +57,11 @@ module _ (text : List ℕ) (c : Cursor) (top : c ≡ start) where
       ∙ rw at_top refl
 
 -- the headings
-pub heading_plain : (f : Field) → same (bytes "P") f ≡ true → look_up program_headings f ≡ some P
+pub heading_plain : (f : Field) → same (bytes "P") f ≡ true → look_up program_headings f ≡ Some P
 unfolding look_up program_headings
 heading_plain f u = rw u refl
 
-pub heading_full : (f : Field) → same (bytes "P") f ≡ false → same (bytes "P2") f ≡ true → look_up program_headings f ≡ some P2
+pub heading_full : (f : Field) → same (bytes "P") f ≡ false → same (bytes "P2") f ≡ true → look_up program_headings f ≡ Some P2
 unfolding look_up program_headings
 heading_full f u v = rw (u, v) refl
 

@@ -1,15 +1,15 @@
 -- The lines behind line 1 of a program sheet at the cursor.
+use Rattle.std.proofs.Common.{None, Some, Ok, Err}
 use mathlib.Core.Path.{◌≡◌, refl, sym, ap, ◌∙◌}
 use mathlib.Core.Bool.{Bool, true, false}
 use mathlib.Core.List.{List, [], ◌∷◌}
-use mathlib.Core.Option.{none, some}
 use Prim.Native.Nat.{ℕ, ◌+◌, ◌-◌, ◌<◌, ◌≤◌}
 use native.Mathlib.Omega.{arith}
 use lib.ListN.{length, take, drop}
 use borrow.Author.Tests.{le-leb, lt-leb}
 use Rattle.spec.specs.Choice.{when◌then◌else◌}
 use Rattle.spec.specs.Text.{lines, Field, look_up}
-use Rattle.spec.specs.Reading.{program_sheet, refuse, ok, good, bad, bad_range, freelock, seen, refuse_after, ◌to◌, in_range, numbers, form, outside, miscounted, faulty, passed, read_line, or_bad_form}
+use Rattle.spec.specs.Reading.{program_sheet, good, bad, bad_range, freelock, seen, refuse_after, ◌to◌, in_range, numbers, form, outside, miscounted, faulty, passed, read_line, or_bad_form}
 use Rattle.spec.specs.Expression.{Step, step, proc}
 use Rattle.spec.specs.Program.{step_of, word_line, proc_of, proc_line, item_line}
 use Rattle.spec.specs.Words.{calls, words_under, least_value, largest_value, value_range}
@@ -43,10 +43,10 @@ module _ (ws : List (List ℕ × Word)) (text : List ℕ) (c : Cursor) (s : Span
   at_span : look_up ws (first_field (rest text c)) ≡ look_up ws (take (s.to - s.from) (drop s.from text))
   at_span = ap (look_up ws) (sym (span_field text c s is))
 
-  pub span_known : (w : Word) → found_of (look_up ws (take (s.to - s.from) (drop s.from text))) ≡ Known w → look_up ws (first_field (rest text c)) ≡ some w
+  pub span_known : (w : Word) → found_of (look_up ws (take (s.to - s.from) (drop s.from text))) ≡ Known w → look_up ws (first_field (rest text c)) ≡ Some w
   span_known w e = at_span ∙ found_known _ w e
 
-  pub span_unknown : found_of (look_up ws (take (s.to - s.from) (drop s.from text))) ≡ Unknown → look_up ws (first_field (rest text c)) ≡ none
+  pub span_unknown : found_of (look_up ws (take (s.to - s.from) (drop s.from text))) ≡ Unknown → look_up ws (first_field (rest text c)) ≡ None
   span_unknown e = at_span ∙ found_unknown _ e
 
 -- ------------------------------------------------------------------ lines with the word freelock
@@ -59,7 +59,7 @@ module _ (text : List ℕ) (h : ProgramHeading) (c : Cursor) (s : Span) (f : Fre
   unfolding item_line
   freelock_shows fs = rw f.freelock refl
 
-  pub freelock_malformed : TailShown text s.next s.end Malformed → item_at text h c ≡ refuse (ProgramForm (c.line + 1))
+  pub freelock_malformed : TailShown text s.next s.end Malformed → item_at text h c ≡ Err (ProgramForm (c.line + 1))
   unfolding item_at read_line place_at refuse_after
   freelock_malformed t =
       tail_malformed (item_line h (c.line + 1)) (refuse_after freelock) refl (0 to 0) text c s f.here.field f.here.placed some_line freelock_shows t
@@ -71,11 +71,11 @@ module _ (text : List ℕ) (h : ProgramHeading) (c : Cursor) (s : Span) (f : Fre
     freelock_reads =
         tail_shows (item_line h (c.line + 1)) (refuse_after freelock) refl (0 to 0) text c s f.here.field f.here.placed some_line freelock_shows (omega arith) v d t
 
-    pub freelock_over : 0 < v → item_at text h c ≡ refuse (ProgramRange (c.line + 1))
+    pub freelock_over : 0 < v → item_at text h c ≡ Err (ProgramRange (c.line + 1))
     unfolding faulty passed refuse_after outside
     freelock_over l = freelock_reads ∙ rw (up_to_out 0 v l) refl
 
-    pub freelock_named : v ≤ 0 → item_at text h c ≡ refuse (Freelock (c.line + 1))
+    pub freelock_named : v ≤ 0 → item_at text h c ≡ Err (Freelock (c.line + 1))
     unfolding faulty passed refuse_after
     freelock_named l = freelock_reads ∙ rw (up_to_in 0 v l) refl
 
@@ -118,7 +118,7 @@ module _ (text : List ℕ) (h : ProgramHeading) (c : Cursor) where
   step_missing e = next_at_none program_sheet text (item_line h (c.line + 1)) c (left_none (rest text c) e)
 
   -- no word of a step
-  pub step_unknown : {s : Span} → StepAt text c s → look_up (words_under h) (first_field (rest text c)) ≡ none → StepShown text h c (step_line.Refused (ProgramForm (c.line + 1)))
+  pub step_unknown : {s : Span} → StepAt text c s → look_up (words_under h) (first_field (rest text c)) ≡ None → StepShown text h c (step_line.Refused (ProgramForm (c.line + 1)))
   unfolding item_at read_line place_at form item_line or_bad_form
   step_unknown f u = first_wrong program_sheet (item_line h (c.line + 1)) c.line (rest text c) (left_some (rest text c) f.here.left) (λ fs. rw (f.other, f.plain, u) refl)
 
@@ -161,8 +161,8 @@ module _ (text : List ℕ) (h : ProgramHeading) (c : Cursor) (s : Span) (w : Wor
     step_right l m =
         let line = tail_line text c s f.step.here.field d t.0 t.3 in
         let one : Step = record { word = w; value = v; line = c.line + 1 } in
-        let told : item_at text h c ≡ ok (step one, place_at text d) = step_reads ∙ rw (within_limit w v l m) (passed_at program_sheet text (step one) c d line) in
-        (told ∙ ap (λ i. ok (step (record { word = w; value = v; line = i }), place_at text d)) (sym line), m, t.2, line)
+        let told : item_at text h c ≡ Ok (step one, place_at text d) = step_reads ∙ rw (within_limit w v l m) (passed_at program_sheet text (step one) c d line) in
+        (told ∙ ap (λ i. Ok (step (record { word = w; value = v; line = i }), place_at text d)) (sym line), m, t.2, line)
 
 -- ------------------------------------------------------------------ `proc` lines
 
@@ -207,5 +207,5 @@ module _ (text : List ℕ) (c : Cursor) (s : Span) (f : ProcAt text c s) where
       unfolding seen proc_of
       proc_right l =
           let line = tail_line text c s f.here.field d t.0 t.3 in
-          let told : item_at text h c ≡ ok (proc x (c.line + 1), place_at text d) = proc_reads ∙ rw (up_to_in 255 x l) (passed_at program_sheet text (proc x (c.line + 1)) c d line) in
-          (told ∙ ap (λ i. ok (proc x i, place_at text d)) (sym line), l, t.2, line)
+          let told : item_at text h c ≡ Ok (proc x (c.line + 1), place_at text d) = proc_reads ∙ rw (up_to_in 255 x l) (passed_at program_sheet text (proc x (c.line + 1)) c d line) in
+          (told ∙ ap (λ i. Ok (proc x i, place_at text d)) (sym line), l, t.2, line)

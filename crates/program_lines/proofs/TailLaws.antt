@@ -1,14 +1,14 @@
 -- The numbers behind the first field of a line of a program sheet, and what such a line shows.
+use Rattle.std.proofs.Common.{None, Some, Err}
 use mathlib.Core.Path.{◌≡◌, refl, sym, ap, ◌∙◌}
 use mathlib.Core.Bool.{Bool, false, and-true}
 use mathlib.Core.List.{List, [], ◌∷◌}
-use mathlib.Core.Option.{none, some}
 use Prim.Native.Nat.{ℕ, ◌+◌, ◌-◌, ◌<◌}
 use native.Mathlib.Omega.{arith}
 use lib.ListN.{length, get_or, take, drop, length-drop}
 use Rattle.spec.specs.Choice.{when◌then◌else◌}
 use Rattle.spec.specs.Text.{same, lines, Field}
-use Rattle.spec.specs.Reading.{program_sheet, refuse, LineResult, good, bad, bad_form, bad_range, Range, in_range, all_in_range, numerals, numbers, form, passed, next_line, or_bad_form}
+use Rattle.spec.specs.Reading.{program_sheet, LineResult, good, bad, bad_form, bad_range, Range, in_range, all_in_range, numerals, numbers, form, passed, next_line, or_bad_form}
 use Rattle.spec.specs.declared.Refusal.TheVariants.{ProgramForm}
 use Rattle.lexer.specs.Views.{first_field, line_at, text_ended}
 use Rattle.lexer.specs.Cursors.{Placed, rest, span_at}
@@ -67,7 +67,7 @@ module _ (text : List ℕ) (c : Cursor) (before after : List ℕ) (answer : Numb
       → PairShown text c e (pair.Values (get_or after 0 0) (get_or after 1 0) d)
   pair_read_two d comma p a =
       let y : LineRead text c 2 after d = numbers_read x 2 whole p a in
-      (comma, y.numbers ∙ ap (λ ns. some (ns, rest text d)) (double_entry after y.long), y.placed, y.line)
+      (comma, y.numbers ∙ ap (λ ns. Some (ns, rest text d)) (double_entry after y.long), y.placed, y.line)
 
   pub pair_read_none : answer ≡ numbers_are.Malformed → PairShown text c e pair.Malformed
   pair_read_none a comma = (numbers_none x 2 whole a).0
@@ -96,22 +96,22 @@ module _
     alone : read (first_field (rest text c) ∷ []) ≡ bad bad_form
     alone = shows [] ∙ ap g some_range ∙ otherwise
 
-    no_tail : (s.end ≡ Comma → ⊥) → next_line program_sheet read c.line (lines (rest text c)) ≡ refuse (ProgramForm (c.line + 1))
+    no_tail : (s.end ≡ Comma → ⊥) → next_line program_sheet read c.line (lines (rest text c)) ≡ Err (ProgramForm (c.line + 1))
     unfolding form
     no_tail n = first_alone program_sheet read c.line (rest text c) left (λ e. n (span_end text c s is ∙ e)) alone
 
-    pub many_malformed : (s.end ≡ Comma → numbers_at text s.next (length rs) ≡ none)
-        → next_line program_sheet read c.line (lines (rest text c)) ≡ refuse (ProgramForm (c.line + 1))
+    pub many_malformed : (s.end ≡ Comma → numbers_at text s.next (length rs) ≡ None)
+        → next_line program_sheet read c.line (lines (rest text c)) ≡ Err (ProgramForm (c.line + 1))
     unfolding form
     many_malformed h = go s.end refl
       where
-        go : (e : FieldEnd) → s.end ≡ e → next_line program_sheet read c.line (lines (rest text c)) ≡ refuse (ProgramForm (c.line + 1))
+        go : (e : FieldEnd) → s.end ≡ e → next_line program_sheet read c.line (lines (rest text c)) ≡ Err (ProgramForm (c.line + 1))
         go Comma q =
             tail_form program_sheet read c.line rs g text c (first_field (rest text c)) s.next (span_comma text c s is p q) shows otherwise left (h q)
         go Newline q = no_tail (λ e. let z : ◌≡◌ {A = ℕ} 0 1 = cc in omega arith)
         go Text q = no_tail (λ e. let z : ◌≡◌ {A = ℕ} 0 1 = cc in omega arith)
 
-    pub many_shows : AllNarrow rs → (ns : List ℕ) (d : Cursor) → s.end ≡ Comma → numbers_at text s.next (length rs) ≡ some (ns, rest text d)
+    pub many_shows : AllNarrow rs → (ns : List ℕ) (d : Cursor) → s.end ≡ Comma → numbers_at text s.next (length rs) ≡ Some (ns, rest text d)
         → next_line program_sheet read c.line (lines (rest text c))
         ≡ passed program_sheet (c.line + 1) (lines (rest text d)) (g (when all_in_range rs ns then good ns else bad bad_range))
     many_shows narrow ns d comma h =
@@ -137,7 +137,7 @@ module _
     one_range = refl
 
     pub tail_malformed : TailShown text s.next s.end Malformed
-        → next_line program_sheet read c.line (lines (rest text c)) ≡ refuse (ProgramForm (c.line + 1))
+        → next_line program_sheet read c.line (lines (rest text c)) ≡ Err (ProgramForm (c.line + 1))
     tail_malformed h = many_malformed read g otherwise (range ∷ []) one_range text c s is p left shows h
 
     module _ (narrow : Narrow range) (v : ℕ) (d : Cursor) (h : TailShown text s.next s.end (Value v d)) where

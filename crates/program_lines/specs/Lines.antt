@@ -1,8 +1,8 @@
 -- The lines of a program sheet at the cursor, as the shapes that the code hands back.
-use Rattle.std.specs.Prelude.{◌≡◌, true, false, List, [], ◌∷◌, ℕ, ◌+◌, ◌≤◌}
-use Rattle.std.proofs.Math.Option.{none, some}
+use Rattle.std.specs.Prelude.{◌≡◌, true, false, List, [], ◌∷◌, ℕ, ◌+◌, ◌≤◌, None, Some, Result, Ok, Err}
+use Rattle.spec.specs.declared.Refusal.{Refusal}
 use Rattle.spec.specs.Text.{bytes, same, lines, look_up}
-use Rattle.spec.specs.Reading.{program_sheet, Result, refuse, ok, ◌>>=◌, Place, begin, read_line}
+use Rattle.spec.specs.Reading.{program_sheet, ◌>>=◌, Place, begin, read_line}
 use Rattle.spec.specs.Expression.{Item, step, proc}
 use Rattle.spec.specs.Words.{words_under, largest_value}
 use Rattle.spec.specs.Program.{Counts, program_headings, count_line, item_line}
@@ -29,14 +29,14 @@ use Rattle.program_lines.specs.declared.items.StepLine.TheVariants as step_line
 -- the cursor c stands behind the field and what ends it
 abbrev pub TailShown : List ℕ → Cursor → FieldEnd → Tail → Type 0
 TailShown text c e (Value v d) =
-    (e ≡ Comma) × (numbers_at text c 1 ≡ some (v ∷ [], rest text d)) × Placed text d × (d.line ≡ c.line + 1)
-TailShown text c e Malformed = e ≡ Comma → numbers_at text c 1 ≡ none
+    (e ≡ Comma) × (numbers_at text c 1 ≡ Some (v ∷ [], rest text d)) × Placed text d × (d.line ≡ c.line + 1)
+TailShown text c e Malformed = e ≡ Comma → numbers_at text c 1 ≡ None
 
 -- two numbers
 abbrev pub PairShown : List ℕ → Cursor → FieldEnd → Pair → Type 0
 PairShown text c e (pair.Values a b d) =
-    (e ≡ Comma) × (numbers_at text c 2 ≡ some (a ∷ b ∷ [], rest text d)) × Placed text d × (d.line ≡ c.line + 1)
-PairShown text c e pair.Malformed = e ≡ Comma → numbers_at text c 2 ≡ none
+    (e ≡ Comma) × (numbers_at text c 2 ≡ Some (a ∷ b ∷ [], rest text d)) × Placed text d × (d.line ≡ c.line + 1)
+PairShown text c e pair.Malformed = e ≡ Comma → numbers_at text c 2 ≡ None
 
 -- a line is left at the cursor, and s is its first field
 pub record FieldAt (text : List ℕ) (c : Cursor) (s : Span) : Type 0 where
@@ -46,23 +46,23 @@ pub record FieldAt (text : List ℕ) (c : Cursor) (s : Span) : Type 0 where
 
 -- ------------------------------------------------------------------ line 1
 
-unfoldable pub count_at : List ℕ → Result (Counts × Place)
+unfoldable pub count_at : List ℕ → Result (Counts × Place) Refusal
 count_at text = begin program_sheet (lines text) >>= λ top. read_line program_sheet count_line top
 
 -- the first field of line 1 spells the heading h
 pub record HeadedAt (text : List ℕ) (c : Cursor) (s : Span) (h : ProgramHeading) : Type 0 where
   pub top : c ≡ start
   pub here : FieldAt text c s
-  pub spelled : look_up program_headings (first_field (rest text c)) ≡ some h
+  pub spelled : look_up program_headings (first_field (rest text c)) ≡ Some h
 
 abbrev pub CountShown : List ℕ → CountLine → Type 0
 CountShown text (count.Count h n k d) =
-    (count_at text ≡ ok (record { heading = h; steps = n; procedures = k }, place_at text d)) × (n ≤ 256) × (k ≤ 16) × Placed text d
-CountShown text (count.Refused x) = count_at text ≡ refuse x
+    (count_at text ≡ Ok (record { heading = h; steps = n; procedures = k }, place_at text d)) × (n ≤ 256) × (k ≤ 16) × Placed text d
+CountShown text (count.Refused x) = count_at text ≡ Err x
 
 -- ------------------------------------------------------------------ the lines behind it
 
-unfoldable pub item_at : List ℕ → ProgramHeading → Cursor → Result (Item × Place)
+unfoldable pub item_at : List ℕ → ProgramHeading → Cursor → Result (Item × Place) Refusal
 item_at text h c = read_line program_sheet (item_line h (c.line + 1)) (place_at text c)
 
 -- the field is the word `freelock`
@@ -85,17 +85,17 @@ pub record StepAt (text : List ℕ) (c : Cursor) (s : Span) : Type 0 where
 -- it spells the word w of a step under the heading h
 pub record WordAt (text : List ℕ) (h : ProgramHeading) (c : Cursor) (s : Span) (w : Word) : Type 0 where
   pub step : StepAt text c s
-  pub spelled : look_up (words_under h) (first_field (rest text c)) ≡ some w
+  pub spelled : look_up (words_under h) (first_field (rest text c)) ≡ Some w
 
 abbrev pub StepShown : List ℕ → ProgramHeading → Cursor → StepLine → Type 0
 StepShown text h c (step_line.Step w v d) =
-    (item_at text h c ≡ ok (step (record { word = w; value = v; line = d.line }), place_at text d))
+    (item_at text h c ≡ Ok (step (record { word = w; value = v; line = d.line }), place_at text d))
     × (v ≤ largest_value w)
     × Placed text d
     × (d.line ≡ c.line + 1)
 StepShown text h c (step_line.Proc x d) =
-    (item_at text h c ≡ ok (proc x d.line, place_at text d))
+    (item_at text h c ≡ Ok (proc x d.line, place_at text d))
     × (x ≤ 255)
     × Placed text d
     × (d.line ≡ c.line + 1)
-StepShown text h c (step_line.Refused x) = item_at text h c ≡ refuse x
+StepShown text h c (step_line.Refused x) = item_at text h c ≡ Err x

@@ -1,6 +1,6 @@
 // A line behind line 1 of a program sheet: that of a step or a `proc` line.
-ghost use Rattle.std.specs.Prelude.{◌≡◌};
-ghost use Rattle.spec.specs.Reading.{refuse};
+ghost use Rattle.std.specs.Prelude.{◌≡◌, Err};
+
 ghost use Rattle.lexer.specs.Cursors.{Placed};
 ghost use Rattle.program_lines.specs.Lines.{FreelockAt, ProcAt, WordAt, item_at, StepShown};
 
@@ -15,7 +15,7 @@ const VARIABLE_LIMIT: u32 = 255;
 // The refusal of the line at the cursor, whose first field is the word `freelock`: 45, once form and range are right.
 fn freelock_line(text: &[u8], heading: ProgramHeading, cursor: Cursor, field: Span) -> Refusal
     requires { FreelockAt text.now cursor field }
-    ensures { item_at text.now heading cursor ≡ refuse result }
+    ensures { item_at text.now heading cursor ≡ Err result }
 {
     let line = cursor.line + 1;
     let end = field.end;

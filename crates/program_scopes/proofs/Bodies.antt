@@ -1,5 +1,6 @@
 -- Judging bodies and root in line order, with a table, comes to the scopes of the procedures and the root. A procedure is a let whose
 -- scope begins at once: its variable is bound at its line and in scope in its body alone.
+use Rattle.std.proofs.Common.{Result, Ok, Err}
 use mathlib.Core.Path.{◌≡◌, refl, sym, ap, ◌∙◌}
 use mathlib.Core.List.{List, [], ◌∷◌, ◌++◌, append-nil, map, map-append}
 use mathlib.Core.Logic.{inl}
@@ -8,8 +9,9 @@ use Prim.Native.Nat.{ℕ, suc, ◌+◌, ◌-◌, ◌<◌, ◌≤◌}
 use native.Mathlib.Omega.{arith}
 use lib.Dec.{ltb}
 use lib.ListN.{length, get_or, set, length-map}
+use Rattle.spec.specs.declared.Refusal.{Refusal}
 use Rattle.spec.specs.Choice.{when◌then◌else◌}
-use Rattle.spec.specs.Reading.{Result, refuse, ok, ◌>>=◌}
+use Rattle.spec.specs.Reading.{◌>>=◌}
 use Rattle.spec.specs.Expression.{Step, Expr, size, steps_among, Procedure, among, scope_step, scope, scopes}
 use Rattle.spec.specs.WellFormed.{prefix, listing, NumberedFrom}
 use Rattle.spec.proofs.Listing.{prefix_length}
@@ -53,24 +55,24 @@ unfoldable pub all_size : List Procedure → (root : Expr) → ℕ
 all_size [] root = size root
 all_size (p ∷ ps) root = size p.body + all_size ps root
 
-abbrev pub AllWalked : (w : List ℕ) (n count m f k : ℕ) (ps : List Procedure) (root : Expr) (t : List ℕ) → Result (List ℕ) → Type 0
-AllWalked w n count m f k ps root t (refuse r) = scopes_behind w n count m f t ≡ refuse r
-AllWalked w n count m f k ps root t (ok b) = scopes_behind w n count m f t ≡ ok (all_lets f k ps root)
+abbrev pub AllWalked : (w : List ℕ) (n count m f k : ℕ) (ps : List Procedure) (root : Expr) (t : List ℕ) → Result (List ℕ) Refusal → Type 0
+AllWalked w n count m f k ps root t (Err r) = scopes_behind w n count m f t ≡ Err r
+AllWalked w n count m f k ps root t (Ok b) = scopes_behind w n count m f t ≡ Ok (all_lets f k ps root)
 
 -- ------------------------------------------------------------------ steps that are passed
 
-passed : (count : ℕ) (w : List ℕ) (k s : ℕ) (ls t b : List ℕ) (x : Gone count w 0 k s ls t b) → scopes_from w count (s + 0) k t ≡ ok (ls, x.table)
+passed : (count : ℕ) (w : List ℕ) (k s : ℕ) (ls t b : List ℕ) (x : Gone count w 0 k s ls t b) → scopes_from w count (s + 0) k t ≡ Ok (ls, x.table)
 unfolding scopes_from
-passed count w k s ls t b x = x.goes ∙ after_on ls [] x.table ∙ ap (λ l. ok (l, x.table)) (append-nil ls)
+passed count w k s ls t b x = x.goes ∙ after_on ls [] x.table ∙ ap (λ l. Ok (l, x.table)) (append-nil ls)
 
-root_walked : (count n f k : ℕ) (w : List ℕ) (root : Expr) (t : List ℕ) (o : Result (List ℕ)) → first_at w f ≡ k → k + size root ≡ n
+root_walked : (count n f k : ℕ) (w : List ℕ) (root : Expr) (t : List ℕ) (o : Result (List ℕ) Refusal) → first_at w f ≡ k → k + size root ≡ n
     → Walked count w 0 k (size root) (lets k [] root) t o → AllWalked w n count 0 f k [] root t o
 unfolding scopes_behind followed with_front all_lets
-root_walked count n f k w root t (refuse r) p e x =
+root_walked count n f k w root t (Err r) p e x =
     let q : n - k ≡ size root + 0 = omega arith in rw (p, q, x) refl
-root_walked count n f k w root t (ok b) p e x =
+root_walked count n f k w root t (Ok b) p e x =
     let q : n - k ≡ size root + 0 = omega arith in
-    rw (p, q, passed count w k (size root) (lets k [] root) t b x) (ap ok (append-nil (lets k [] root)))
+    rw (p, q, passed count w k (size root) (lets k [] root) t b x) (ap Ok (append-nil (lets k [] root)))
 
 -- ------------------------------------------------------------------ a body, and what is behind it
 
@@ -82,23 +84,23 @@ module _ (w : List ℕ) (n count m f k : ℕ) (p : Procedure) (ps : List Procedu
   abbrev ls : List ℕ
   ls = lets k ((p.parameter, proc_mark + f) ∷ []) p.body
 
-  behind : (b : List ℕ) (x : Gone count w 0 k (size p.body) ls t₁ b) (o : Result (List ℕ))
+  behind : (b : List ℕ) (x : Gone count w 0 k (size p.body) ls t₁ b) (o : Result (List ℕ) Refusal)
       → AllWalked w n count m (f + 1) (k + size p.body) ps root x.table o → AllWalked w n count (suc m) f k (p ∷ ps) root t o
   unfolding scopes_behind followed with_front all_lets
-  behind b x (refuse r) y = rw (q, passed count w k (size p.body) ls t₁ b x, y) refl
-  behind b x (ok b₂) y = rw (q, passed count w k (size p.body) ls t₁ b x, y) refl
+  behind b x (Err r) y = rw (q, passed count w k (size p.body) ls t₁ b x, y) refl
+  behind b x (Ok b₂) y = rw (q, passed count w k (size p.body) ls t₁ b x, y) refl
 
-  body_then : (o : Result (List ℕ)) (more : List ℕ → Result (List ℕ)) → Walked count w 0 k (size p.body) ls t₁ o
+  body_then : (o : Result (List ℕ) Refusal) (more : List ℕ → Result (List ℕ) Refusal) → Walked count w 0 k (size p.body) ls t₁ o
       → ((b : List ℕ) (x : Gone count w 0 k (size p.body) ls t₁ b) → AllWalked w n count m (f + 1) (k + size p.body) ps root x.table (more b))
       → AllWalked w n count (suc m) f k (p ∷ ps) root t (o >>= more)
   unfolding scopes_behind followed ◌>>=◌
-  body_then (refuse r) more x y = rw (q, x) refl
-  body_then (ok b) more x y = behind b x (more b) (y b x)
+  body_then (Err r) more x y = rw (q, x) refl
+  body_then (Ok b) more x y = behind b x (more b) (y b x)
 
 module _ (w : List ℕ) (n count m f k : ℕ) (p : Procedure) (ps : List Procedure) (root : Expr) (t bound : List ℕ)
     (h₁ : first_at w f ≡ k) (h₂ : first_at w (f + 1) ≡ k + size p.body) (hl : get_or w (proc_lines_at + f) 0 ≡ p.line)
     (hv : get_or w (proc_vars_at + f) 0 ≡ p.parameter) (bind : among p.parameter bound ≡ ltb (get_or t p.parameter no_mark) no_mark) where
-  rebound : among p.parameter bound ≡ true → body_scopes w count f t ≡ refuse (Rebound p.line)
+  rebound : among p.parameter bound ≡ true → body_scopes w count f t ≡ Err (Rebound p.line)
   unfolding body_scopes
   rebound e = rw (hv, sym bind ∙ e, hl) refl
 
@@ -108,7 +110,7 @@ module _ (w : List ℕ) (n count m f k : ℕ) (p : Procedure) (ps : List Procedu
       let d : k + size p.body - k ≡ size p.body + 0 = omega arith in
       rw (hv, sym bind ∙ e, h₁, h₂, d) refl
 
-  body_walked : (o : List ℕ → Result (List ℕ)) (more : List ℕ → Result (List ℕ))
+  body_walked : (o : List ℕ → Result (List ℕ) Refusal) (more : List ℕ → Result (List ℕ) Refusal)
       → (among p.parameter bound ≡ false
       → Walked count w 0 k (size p.body) (lets k ((p.parameter, proc_mark + f) ∷ []) p.body) (set t p.parameter (proc_mark + f)) (o (p.parameter ∷ bound)))
       → (among p.parameter bound ≡ false → (b : List ℕ)
@@ -116,7 +118,7 @@ module _ (w : List ℕ) (n count m f k : ℕ) (p : Procedure) (ps : List Procedu
       → AllWalked w n count m (f + 1) (k + size p.body) ps root x.table (more b))
       → (y : Bool) → among p.parameter bound ≡ y
       → AllWalked w n count (suc m) f k (p ∷ ps) root t
-      ((when y then refuse (Rebound p.line) else ok (p.parameter ∷ bound)) >>= λ b. o b >>= more)
+      ((when y then Err (Rebound p.line) else Ok (p.parameter ∷ bound)) >>= λ b. o b >>= more)
   unfolding scopes_behind followed ◌>>=◌
   body_walked o more x₁ x₂ true e = rw (rebound e) refl
   body_walked o more x₁ x₂ false e = body_then w n count m f k p ps root t (fresh e) (o (p.parameter ∷ bound)) more (x₁ e) (x₂ e)

@@ -1,5 +1,6 @@
 -- Procedures and root as they stand once the walk has found them: how many steps they have, where the bodies begin, and that their
 -- variables are in range.
+use Rattle.std.proofs.Common.{Result, Ok, Err}
 use mathlib.Core.Path.{◌≡◌, refl, sym, ap, subst, ◌∙◌}
 use mathlib.Core.Logic.{◌⊎◌, inl, inr, ⊎_elim}
 use mathlib.Core.List.{List, [], ◌∷◌, ◌++◌, map}
@@ -7,7 +8,7 @@ use Prim.Native.Nat.{ℕ, ◌+◌, ◌<◌, ◌≤◌}
 use native.Mathlib.Omega.{arith}
 use native.Mathlib.Decide.{ℕ_discrete}
 use lib.ListN.{length, set, length-map, length-set}
-use Rattle.spec.specs.Reading.{Result, refuse, ok, ◌>>=◌}
+use Rattle.spec.specs.Reading.{◌>>=◌}
 use Rattle.spec.specs.Expression.{Step, Expr, size, Item, steps_among, Procedure, structure, scopes}
 use Rattle.spec.specs.WellFormed.{listing}
 use Rattle.spec.proofs.Listing.{Listed, structure_lists}
@@ -20,8 +21,8 @@ use Rattle.program_tree.specs.Items.{ProcRow, proc_rows, Variables, more_variabl
 use Rattle.program_tree.specs.Trees.{root_first, TreeAnswer, Structured}
 use Rattle.program_tree.specs.Outcomes.{Answers}
 use Rattle.program_scopes.specs.Resolved.{resolved_of, HoldsTree, Resolvable, Resolved}
-use Rattle.spec.specs.declared.Ruling.{Ruling}
-use Rattle.spec.specs.declared.Ruling.TheVariants as outcome
+use Rattle.workspace.specs.declared.Ruling.{Ruling}
+use Rattle.workspace.specs.declared.Ruling.TheVariants as outcome
 use Rattle.program_tree.specs.declared.Found.TheVariants as tree
 use Rattle.spec.specs.declared.Refusal.{Refusal}
 use Rattle.program_scopes.specs.Scopes.{first_at, unbound, Scopable, Scoped}
@@ -149,11 +150,11 @@ refused_twice p = cc
 no_index : {x : Refusal} {r : ℕ} → tree.Refused x ≡ tree.At r → ⊥
 no_index p = let z : ◌≡◌ {A = ℕ} 0 1 = cc in omega arith
 
-refused_by : (Q : List Procedure × Expr → Type 0) (count : ℕ) (w : List ℕ) (x : Refusal) (o : Result (List Procedure × Expr)) → TreeAnswer w (tree.Refused x) o
-    → Answers Q (outcome.Refused x) (o >>= λ t. scopes count t.0 t.1 [] >>= λ bound. ok t)
+refused_by : (Q : List Procedure × Expr → Type 0) (count : ℕ) (w : List ℕ) (x : Refusal) (o : Result (List Procedure × Expr) Refusal) → TreeAnswer w (tree.Refused x) o
+    → Answers Q (outcome.Refused x) (o >>= λ t. scopes count t.0 t.1 [] >>= λ bound. Ok t)
 unfolding ◌>>=◌
-refused_by Q count w x (refuse y) a = refused_twice a
-refused_by Q count w x (ok (ps, root)) a = absurd (no_index a.0)
+refused_by Q count w x (Err y) a = refused_twice a
+refused_by Q count w x (Ok (ps, root)) a = absurd (no_index a.0)
 
 pub resolve_refused : (steps procs count last : ℕ) (w w₁ : List ℕ) (x : Refusal) → Structured steps procs count last w w₁ (tree.Refused x)
     → Resolved steps procs count last w w₁ (outcome.Refused x)
@@ -173,14 +174,14 @@ same_index p = cc
 pub record TreeFound (last count r : ℕ) (w₁ : List ℕ) (items : List Item) : Type 0 where
   pub procedures : List Procedure
   pub root : Expr
-  pub found : structure last count 0 items ≡ ok (procedures, root)
+  pub found : structure last count 0 items ≡ Ok (procedures, root)
   pub first : r ≡ root_first 0 procedures
   pub marks : Region w₁ ends_at (all_ends 0 procedures root)
 
-found_by : (last count r : ℕ) (w₁ : List ℕ) (items : List Item) (o : Result (List Procedure × Expr)) → structure last count 0 items ≡ o
+found_by : (last count r : ℕ) (w₁ : List ℕ) (items : List Item) (o : Result (List Procedure × Expr) Refusal) → structure last count 0 items ≡ o
     → TreeAnswer w₁ (tree.At r) o → TreeFound last count r w₁ items
-found_by last count r w₁ items (refuse y) q a = absurd (no_index (sym a))
-found_by last count r w₁ items (ok (ps, root)) q a = record { procedures = ps; root = root; found = q; first = same_index a.0; marks = a.1 }
+found_by last count r w₁ items (Err y) q a = absurd (no_index (sym a))
+found_by last count r w₁ items (Ok (ps, root)) q a = record { procedures = ps; root = root; found = q; first = same_index a.0; marks = a.1 }
 
 module _ (steps procs count last r : ℕ) (w w₁ : List ℕ) (D : Resolvable steps procs count w) (s : Structured steps procs count last w w₁ (tree.At r))
     (st : ItemsStored steps procs w) where
@@ -248,11 +249,11 @@ module _ (steps procs count last r : ℕ) (w w₁ : List ℕ) (D : Resolvable st
       proc_firsts = region_kept q.changed (inr (omega arith)) columns.proc_firsts;
     }
 
-    scoped_by : (x : Result (List ℕ)) → scopes count ps top [] ≡ x → AllWalked (set w₁ (proc_firsts_at + count) r) steps count count 0 0 ps top unbound x
+    scoped_by : (x : Result (List ℕ) Refusal) → scopes count ps top [] ≡ x → AllWalked (set w₁ (proc_firsts_at + count) r) steps count count 0 0 ps top unbound x
         → Answers (λ (t : List Procedure × Expr). HoldsTree w₃ t.0 t.1 × HoldsSteps w₃ (steps_among st.items)) o (resolved_of last count st.items)
     unfolding resolved_of ◌>>=◌
-    scoped_by (refuse y) e a = rw (tree_found.found, e) (subst (Answers (Region w₃ lets_at) o) a q.found)
-    scoped_by (ok b) e a =
+    scoped_by (Err y) e a = rw (tree_found.found, e) (subst (Answers (Region w₃ lets_at) o) a q.found)
+    scoped_by (Ok b) e a =
         let f = subst (Answers (Region w₃ lets_at) o) a q.found in
         rw (tree_found.found, e) (f.0, (tree_kept f.1, steps_kept))
 

@@ -1,4 +1,5 @@
 -- Laws of the loop that judges steps in line order, with a table.
+use Rattle.std.proofs.Common.{Result, Ok, Err}
 use mathlib.Core.Path.{◌≡◌, refl, ap, subst, ◌∙◌}
 use mathlib.Core.Logic.{inl}
 use mathlib.Core.List.{List, [], ◌∷◌, ◌++◌, append-nil}
@@ -6,13 +7,13 @@ use Prim.Native.Nat.{ℕ, suc, zero, ◌+◌, ◌-◌, ◌<◌, ◌≤◌}
 use native.Mathlib.Omega.{arith}
 use native.Mathlib.Nat.{not-suc-le-zero, le_of_suc-le-suc}
 use lib.ListN.{length, get_or, set, replicate, length-set, length-append}
-use Rattle.spec.specs.Reading.{Result, refuse, ok}
+
 use Rattle.spec.specs.declared.Refusal.{Refusal}
 use Rattle.workspace.specs.Layout.{values_at, lets_at, work_size}
 use Rattle.workspace.specs.Region.{Region, ChangedWithin}
 use Rattle.workspace.proofs.Region.{region_empty, region_push, changed_nothing, changed_store, changed_then}
 use Rattle.workspace.specs.Steps.{value_at}
-use Rattle.spec.specs.declared.Ruling.TheVariants as outcome
+use Rattle.workspace.specs.declared.Ruling.TheVariants as outcome
 use Rattle.program_scopes.specs.Judging.{no_mark, judge_of}
 use Rattle.program_scopes.specs.declared.binders.Judged.{Judged}
 use Rattle.program_scopes.specs.declared.binders.Judged.TheVariants.{Bind, Store, Refused}
@@ -33,25 +34,25 @@ replicate_any (suc n) (suc v) x = replicate_any n v x
 -- ------------------------------------------------------------------ the steps so far
 
 -- numbers stored for the steps in front
-unfoldable pub after : List ℕ → Result Passing → Result Passing
+unfoldable pub after : List ℕ → Result Passing Refusal → Result Passing Refusal
 after [] o = o
 after (x ∷ xs) o = storing x (after xs o)
 
-pub after_append : (xs ys : List ℕ) (o : Result Passing) → after xs (after ys o) ≡ after (xs ++ ys) o
+pub after_append : (xs ys : List ℕ) (o : Result Passing Refusal) → after xs (after ys o) ≡ after (xs ++ ys) o
 unfolding after
 after_append [] ys o = refl
 after_append (x ∷ xs) ys o = ap (storing x) (after_append xs ys o)
 
-after_snoc : (xs : List ℕ) (x : ℕ) (o : Result Passing) → after xs (storing x o) ≡ after (xs ++ (x ∷ [])) o
+after_snoc : (xs : List ℕ) (x : ℕ) (o : Result Passing Refusal) → after xs (storing x o) ≡ after (xs ++ (x ∷ [])) o
 unfolding after
 after_snoc xs x o = after_append xs (x ∷ []) o
 
-pub after_stop : (xs : List ℕ) (r : Refusal) → after xs (refuse r) ≡ refuse r
+pub after_stop : (xs : List ℕ) (r : Refusal) → after xs (Err r) ≡ Err r
 unfolding after storing
 after_stop [] r = refl
 after_stop (y ∷ xs) r = ap (storing y) (after_stop xs r)
 
-pub after_on : (xs ys t : List ℕ) → after xs (ok (ys, t)) ≡ ok (xs ++ ys, t)
+pub after_on : (xs ys t : List ℕ) → after xs (Ok (ys, t)) ≡ Ok (xs ++ ys, t)
 unfolding after storing
 after_on [] ys t = refl
 after_on (y ∷ xs) ys t = ap (storing y) (after_on xs ys t)
@@ -85,11 +86,11 @@ module _ {count from to : ℕ} {w₀ w t₀ t : List ℕ} {k : ℕ} (s : ScopesS
   unfolding scopes_from
   finish h =
       let e : to - k ≡ 0 = omega arith in
-      let f : scopes_from w₀ count (to - from) from t₀ ≡ ok (s.stored, t) =
+      let f : scopes_from w₀ count (to - from) from t₀ ≡ Ok (s.stored, t) =
       s.rest
       ∙ ap (λ m. after s.stored (scopes_from w₀ count m k t)) e
       ∙ after_on s.stored [] t
-      ∙ ap (λ l. ok (l, t)) (append-nil s.stored) in
+      ∙ ap (λ l. Ok (l, t)) (append-nil s.stored) in
       record { found = rw f (refl, (s.held, refl)); changed = s.changed; table_long = s.long }
 
   module _ {v b : ℕ} {j : Judged} (hw : length w₀ ≡ work_size) (hn : to ≤ 256) (h : k < to) (hv : v ≡ get_or w (values_at + k) 0)
@@ -104,7 +105,7 @@ module _ {count from to : ℕ} {w₀ w t₀ t : List ℕ} {k : ℕ} (s : ScopesS
     pub refuses : (x : Refusal) → j ≡ Refused x → PartScoped count from to w₀ w t₀ t (outcome.Refused x)
     unfolding continued
     refuses x p =
-        let f : scopes_from w₀ count (to - from) from t₀ ≡ refuse x =
+        let f : scopes_from w₀ count (to - from) from t₀ ≡ Err x =
         s.rest
         ∙ ap (after s.stored) (step ∙ ap (continued (λ u. scopes_from w₀ count (to - (k + 1)) (k + 1) u) k t v) p)
         ∙ after_stop s.stored x in

@@ -1,4 +1,5 @@
 -- Laws of judging the scopes of bodies and root, one after the other: the table runs on, and so does what is stored.
+use Rattle.std.proofs.Common.{Result, Ok, Err}
 use mathlib.Core.Path.{◌≡◌, refl, sym, ap, subst, ◌∙◌}
 use mathlib.Core.Logic.{inl, inr}
 use mathlib.Core.Bool.{Bool, true, false}
@@ -10,7 +11,7 @@ use lib.Dec.{ltb}
 use lib.ListN.{length, get_or, set, length-set, length-append}
 use borrow.Author.Tests.{le-ltb, lt-ltb}
 use Rattle.spec.specs.Choice.{when◌then◌else◌}
-use Rattle.spec.specs.Reading.{Result, refuse, ok}
+
 use Rattle.spec.specs.declared.Refusal.{Refusal}
 use Rattle.spec.specs.declared.Refusal.TheVariants.{Rebound}
 use Rattle.workspace.specs.Layout.{values_at, lets_at, proc_lines_at, proc_vars_at, proc_firsts_at, proc_mark}
@@ -20,8 +21,8 @@ use Rattle.workspace.specs.Steps.{value_at}
 use Rattle.program_tree.specs.Outcomes.{Answers}
 use Rattle.program_scopes.specs.Judging.{no_mark, judge_of}
 use Rattle.program_scopes.specs.Scopes.{unbound, Passing, storing, continued, scopes_from, PartScoped, first_at, with_front, followed, body_scopes, BodyScopable, BodyScoped, scopes_behind, Scopable, Scoped}
-use Rattle.spec.specs.declared.Ruling.{Ruling}
-use Rattle.spec.specs.declared.Ruling.TheVariants as outcome
+use Rattle.workspace.specs.declared.Ruling.{Ruling}
+use Rattle.workspace.specs.declared.Ruling.TheVariants as outcome
 use Rattle.program_scopes.specs.declared.binders.Judged.{Judged}
 use Rattle.program_scopes.specs.declared.binders.Judged.TheVariants.{Bind, Store, Refused}
 use Rattle.program_scopes.proofs.JudgingLaws.{judge_kept}
@@ -48,7 +49,7 @@ module _ (count f : ℕ) (w t : List ℕ) (v b : ℕ) (hv : v ≡ get_or w (proc
 
 -- ------------------------------------------------------------------ what is judged stays
 
-continued_same : (g h : List ℕ → Result Passing) → ((u : List ℕ) → g u ≡ h u) → (k : ℕ) (t : List ℕ) (v : ℕ) (j : Judged) → continued g k t v j ≡ continued h k t v j
+continued_same : (g h : List ℕ → Result Passing Refusal) → ((u : List ℕ) → g u ≡ h u) → (k : ℕ) (t : List ℕ) (v : ℕ) (j : Judged) → continued g k t v j ≡ continued h k t v j
 unfolding continued
 continued_same g h e k t v Bind = ap (storing 0) (e (set t v k))
 continued_same g h e k t v (Store x) = ap (storing x) (e t)
@@ -67,16 +68,16 @@ module _ (w w' : List ℕ) (c : ChangedWithin (lets_at + 0) (lets_at + 256) w w'
 -- ------------------------------------------------------------------ how much is stored
 
 -- as much as there are steps, if none is refused
-abbrev Sized : ℕ → Result Passing → Type 0
-Sized m (refuse r) = Unit {0}
-Sized m (ok p) = length p.0 ≡ m
+abbrev Sized : ℕ → Result Passing Refusal → Type 0
+Sized m (Err r) = Unit {0}
+Sized m (Ok p) = length p.0 ≡ m
 
-sized_storing : (m x : ℕ) (o : Result Passing) → Sized m o → Sized (suc m) (storing x o)
+sized_storing : (m x : ℕ) (o : Result Passing Refusal) → Sized m o → Sized (suc m) (storing x o)
 unfolding storing
-sized_storing m x (refuse r) s = tt
-sized_storing m x (ok p) s = omega (arith, s)
+sized_storing m x (Err r) s = tt
+sized_storing m x (Ok p) s = omega (arith, s)
 
-sized_continued : (m : ℕ) (g : List ℕ → Result Passing) → ((u : List ℕ) → Sized m (g u)) → (k : ℕ) (t : List ℕ) (v : ℕ) (j : Judged) → Sized (suc m) (continued g k t v j)
+sized_continued : (m : ℕ) (g : List ℕ → Result Passing Refusal) → ((u : List ℕ) → Sized m (g u)) → (k : ℕ) (t : List ℕ) (v : ℕ) (j : Judged) → Sized (suc m) (continued g k t v j)
 unfolding continued
 sized_continued m g s k t v Bind = sized_storing m 0 (g (set t v k)) (s (set t v k))
 sized_continued m g s k t v (Store x) = sized_storing m x (g t) (s t)
@@ -90,15 +91,15 @@ scopes_sized w count (suc m) k t =
 
 -- ------------------------------------------------------------------ numbers in front
 
-front_none : (o : Result (List ℕ)) → with_front [] o ≡ o
+front_none : (o : Result (List ℕ) Refusal) → with_front [] o ≡ o
 unfolding with_front
-front_none (refuse r) = refl
-front_none (ok ys) = refl
+front_none (Err r) = refl
+front_none (Ok ys) = refl
 
-front_append : (xs ys : List ℕ) (o : Result (List ℕ)) → with_front xs (with_front ys o) ≡ with_front (xs ++ ys) o
+front_append : (xs ys : List ℕ) (o : Result (List ℕ) Refusal) → with_front xs (with_front ys o) ≡ with_front (xs ++ ys) o
 unfolding with_front
-front_append xs ys (refuse r) = refl
-front_append xs ys (ok zs) = ap ok (sym (append_assoc xs ys zs))
+front_append xs ys (Err r) = refl
+front_append xs ys (Ok zs) = ap Ok (sym (append_assoc xs ys zs))
 
 -- ------------------------------------------------------------------ the bodies so far
 
@@ -118,7 +119,7 @@ body_kept w w' c count f t h l =
     )
     refl
 
-sized_choice : (m : ℕ) (b : Bool) (r : Refusal) (o : Result Passing) → Sized m o → Sized m (when b then refuse r else o)
+sized_choice : (m : ℕ) (b : Bool) (r : Refusal) (o : Result Passing Refusal) → Sized m o → Sized m (when b then Err r else o)
 sized_choice m true r o s = tt
 sized_choice m false r o s = s
 
@@ -194,17 +195,17 @@ module _ {n count : ℕ} {w₀ w t : List ℕ} {f : ℕ} (d : Scopable n count w
       further = changed_then (lets_at + 0) (lets_at + 256) s.changed
           (changed_wider (lets_at + 0) (lets_at + 256) (omega arith) (omega (arith, kept (f + 1), near)) x.changed)
 
-      abbrev Found : Result Passing → Type 0
+      abbrev Found : Result Passing Refusal → Type 0
       Found o = Answers (λ (p : Passing). Region w' (lets_at + first_at w f) p.0 × (t' ≡ p.1)) r o
 
       found_first : Found (body_scopes w₀ count f t)
       found_first = subst Found (body_kept w₀ w s.changed count f t turn near) x.found
 
-      refused_by : (y : Refusal) → r ≡ outcome.Refused y → (o : Result Passing) → body_scopes w₀ count f t ≡ o → Found o → scopes_behind w₀ n count count 0 unbound ≡ refuse y
+      refused_by : (y : Refusal) → r ≡ outcome.Refused y → (o : Result Passing Refusal) → body_scopes w₀ count f t ≡ o → Found o → scopes_behind w₀ n count count 0 unbound ≡ Err y
       unfolding followed with_front
-      refused_by y p (refuse z) q a =
-          s.rest ∙ ap (with_front s.stored) (one_more ∙ ap (λ o. followed o (λ u. scopes_behind w₀ n count (count - (f + 1)) (f + 1) u)) q) ∙ ap refuse (same_refusal a p)
-      refused_by y p (ok z) q a = absurd (no_refusal p a.0)
+      refused_by y p (Err z) q a =
+          s.rest ∙ ap (with_front s.stored) (one_more ∙ ap (λ o. followed o (λ u. scopes_behind w₀ n count (count - (f + 1)) (f + 1) u)) q) ∙ ap Err (same_refusal a p)
+      refused_by y p (Ok z) q a = absurd (no_refusal p a.0)
 
       pub body_refuses : (y : Refusal) → r ≡ outcome.Refused y → Scoped n count w₀ w' (outcome.Refused y)
       body_refuses y p = record {
@@ -212,11 +213,11 @@ module _ {n count : ℕ} {w₀ w t : List ℕ} {f : ℕ} (d : Scopable n count w
         changed = further;
       }
 
-      passed_by : r ≡ outcome.Holds → (o : Result Passing) → body_scopes w₀ count f t ≡ o → Found o → Sized (first_at w₀ (f + 1) - first_at w₀ f) o
+      passed_by : r ≡ outcome.Holds → (o : Result Passing Refusal) → body_scopes w₀ count f t ≡ o → Found o → Sized (first_at w₀ (f + 1) - first_at w₀ f) o
           → BodiesSoFar n count w₀ w' t' (f + 1)
       unfolding followed
-      passed_by p (refuse z) q a m = absurd (no_refusal a p)
-      passed_by p (ok z) q a m = record {
+      passed_by p (Err z) q a m = absurd (no_refusal a p)
+      passed_by p (Ok z) q a m = record {
         few = omega arith;
         long = x.table_long ∙ s.long;
         stored = s.stored ++ z.0;
@@ -245,22 +246,22 @@ module _ {n count : ℕ} {w₀ w t : List ℕ} {f : ℕ} (d : Scopable n count w
     pub root_below : root ≤ n
     root_below = omega (arith, root_at, d.last)
 
-    root_rest : scopes_behind w₀ n count (count - f) f t ≡ followed (scopes_from w₀ count (n - root) root t) (λ u. ok [])
+    root_rest : scopes_behind w₀ n count (count - f) f t ≡ followed (scopes_from w₀ count (n - root) root t) (λ u. Ok [])
     unfolding scopes_behind
     root_rest = let z : count - f ≡ 0 = omega arith in rw (z, all, root_at) refl
 
     module _ {w' t' : List ℕ} {r : Ruling} (x : PartScoped count root n w w' t t' r) where
-      abbrev RootFound : Result Passing → Type 0
+      abbrev RootFound : Result Passing Refusal → Type 0
       RootFound o = Answers (λ (p : Passing). Region w' (lets_at + root) p.0 × (t' ≡ p.1)) r o
 
       root_found : RootFound (scopes_from w₀ count (n - root) root t)
       root_found = subst RootFound (scopes_kept w₀ w s.changed count (n - root) root t (omega (arith, root_below, d.few))) x.found
 
-      root_by : (o : Result Passing) → scopes_from w₀ count (n - root) root t ≡ o → RootFound o → Answers (Region w' lets_at) r (scopes_behind w₀ n count count 0 unbound)
+      root_by : (o : Result Passing Refusal) → scopes_from w₀ count (n - root) root t ≡ o → RootFound o → Answers (Region w' lets_at) r (scopes_behind w₀ n count count 0 unbound)
       unfolding followed with_front
-      root_by (refuse z) q a = rw (s.rest ∙ ap (with_front s.stored) (root_rest ∙ ap (λ o. followed o (λ u. ok [])) q)) a
-      root_by (ok z) q a =
-          rw (s.rest ∙ ap (with_front s.stored) (root_rest ∙ ap (λ o. followed o (λ u. ok [])) q)) (
+      root_by (Err z) q a = rw (s.rest ∙ ap (with_front s.stored) (root_rest ∙ ap (λ o. followed o (λ u. Ok [])) q)) a
+      root_by (Ok z) q a =
+          rw (s.rest ∙ ap (with_front s.stored) (root_rest ∙ ap (λ o. followed o (λ u. Ok [])) q)) (
             a.0,
             region_append s.stored (z.0 ++ [])
                 (region_kept x.changed (inl (omega (arith, s.counted, root_at, ap (λ g. first_at w₀ g) all))) s.held)

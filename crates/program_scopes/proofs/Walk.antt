@@ -1,5 +1,6 @@
 -- Judging the steps of an expression in line order, with a table, comes to the scopes of the expression.
 -- One induction on the expression: the table that agrees with the scopes in front of it agrees behind it.
+use Rattle.std.proofs.Common.{Result, Ok, Err}
 use mathlib.Core.Path.{◌≡◌, refl, sym, ap, subst, ◌∙◌}
 use mathlib.Core.Logic.{◌⊎◌, inl, inr, ⊎_elim}
 use mathlib.Core.List.{List, [], ◌∷◌, ◌++◌}
@@ -9,8 +10,9 @@ use native.Mathlib.Omega.{arith}
 use lib.Dec.{leb, ltb}
 use lib.ListN.{length, get_or, set}
 use borrow.Author.Tests.{le-leb, lt-leb, lt-ltb, le-ltb, ltb-true, ltb-false}
+use Rattle.spec.specs.declared.Refusal.{Refusal}
 use Rattle.spec.specs.Choice.{when◌then◌else◌}
-use Rattle.spec.specs.Reading.{Result, refuse, ok, ◌>>=◌}
+use Rattle.spec.specs.Reading.{◌>>=◌}
 use Rattle.spec.specs.Expression.{Position, Expr, leaf, unary, binary, size, among, scope_step, scope}
 use Rattle.spec.specs.Words.{calls, role, binding, largest_value}
 use Rattle.spec.specs.declared.Refusal.TheVariants.{Unbound, Rebound, NoProcedure}
@@ -36,7 +38,7 @@ use Rattle.program_scopes.proofs.Tables.{end_at, names, Right, Bound, Extends, A
 
 -- of a sheet with `count` procedures
 module _ (count : ℕ) where
-  joined : (xs ys : List ℕ) (o : Result Passing) → storing 0 (after xs (after ys o)) ≡ after (0 ∷ (xs ++ ys)) o
+  joined : (xs ys : List ℕ) (o : Result Passing Refusal) → storing 0 (after xs (after ys o)) ≡ after (0 ∷ (xs ++ ys)) o
   unfolding after
   joined xs ys o = ap (storing 0) (after_append xs ys o)
 
@@ -50,9 +52,9 @@ module _ (count : ℕ) where
     pub bind : Bound table bound
     pub goes : scopes_from w count (s + m) k t ≡ after ls (scopes_from w count m (k + s) table)
 
-  abbrev pub Walked : List ℕ → (m k s : ℕ) → (ls t : List ℕ) → Result (List ℕ) → Type 0
-  Walked w m k s ls t (refuse r) = scopes_from w count (s + m) k t ≡ refuse r
-  Walked w m k s ls t (ok bound) = Gone w m k s ls t bound
+  abbrev pub Walked : List ℕ → (m k s : ℕ) → (ls t : List ℕ) → Result (List ℕ) Refusal → Type 0
+  Walked w m k s ls t (Err r) = scopes_from w count (s + m) k t ≡ Err r
+  Walked w m k s ls t (Ok bound) = Gone w m k s ls t bound
 
   -- ------------------------------------------------------------------ one step
 
@@ -107,7 +109,7 @@ module _ (count : ℕ) where
           let till : k < scope_till w b = omega (arith, r.3) in
           step_use ∙ rw (← q, lt-leb no_mark b low, le-ltb k (scope_from w b) from, lt-leb (scope_till w b) k till, r.0) refl
 
-      outside : (i b : ℕ) → b ≡ get_or t v no_mark → Right w k hi false i b → scopes_from w count (suc m) k t ≡ refuse (Unbound l.line)
+      outside : (i b : ℕ) → b ≡ get_or t v no_mark → Right w k hi false i b → scopes_from w count (suc m) k t ≡ Err (Unbound l.line)
       unfolding continued step_line_at
       outside i b q r =
           let o : (no_mark ≤ b) ⊎ ((k < scope_from w b) ⊎ (scope_till w b ≤ k)) =
@@ -117,7 +119,7 @@ module _ (count : ℕ) where
           (ap (judge_var w k) (sym q) ∙ var_refused w k b o ∙ ap (λ i. Refused (Unbound i)) h.line)
 
       walk_use : (y : Bool) → Right w k hi y (let_in ins v) (get_or t v no_mark)
-          → Walked w m k 1 (let_in ins v ∷ []) t (when y then ok bound else refuse (Unbound l.line))
+          → Walked w m k 1 (let_in ins v ∷ []) t (when y then Ok bound else Err (Unbound l.line))
       unfolding after
       walk_use true r = record {
         table = t;
@@ -131,11 +133,11 @@ module _ (count : ℕ) where
   -- ------------------------------------------------------------------ a step and its parts
 
   -- a step for which 0 is stored, and then its one part
-  walk_one : (w : List ℕ) (m k s : ℕ) (ls t : List ℕ) (o : Result (List ℕ)) → scopes_from w count (suc s + m) k t ≡ storing 0 (scopes_from w count (s + m) (k + 1) t)
+  walk_one : (w : List ℕ) (m k s : ℕ) (ls t : List ℕ) (o : Result (List ℕ) Refusal) → scopes_from w count (suc s + m) k t ≡ storing 0 (scopes_from w count (s + m) (k + 1) t)
       → Walked w m (k + 1) s ls t o → Walked w m k (suc s) (0 ∷ ls) t o
   unfolding storing after
-  walk_one w m k s ls t (refuse r) p x = p ∙ ap (storing 0) x
-  walk_one w m k s ls t (ok bound) p x =
+  walk_one w m k s ls t (Err r) p x = p ∙ ap (storing 0) x
+  walk_one w m k s ls t (Ok bound) p x =
       let q : k + 1 + s ≡ k + suc s = omega arith in
       record {
         table = x.table;
@@ -149,11 +151,11 @@ module _ (count : ℕ) where
   module _ (w : List ℕ) (m k s₁ s₂ : ℕ) (ls₁ ls₂ t t₀ : List ℕ)
       (p : scopes_from w count (suc (s₁ + s₂) + m) k t ≡ storing 0 (scopes_from w count (s₁ + (s₂ + m)) (k + 1) t₀))
       (x₀ : Extends w (k + suc (s₁ + s₂)) t t₀) where
-    behind : (b₁ : List ℕ) (x₁ : Gone w (s₂ + m) (k + 1) s₁ ls₁ t₀ b₁) (o : Result (List ℕ)) → Walked w m (k + 1 + s₁) s₂ ls₂ x₁.table o
+    behind : (b₁ : List ℕ) (x₁ : Gone w (s₂ + m) (k + 1) s₁ ls₁ t₀ b₁) (o : Result (List ℕ) Refusal) → Walked w m (k + 1 + s₁) s₂ ls₂ x₁.table o
         → Walked w m k (suc (s₁ + s₂)) (0 ∷ (ls₁ ++ ls₂)) t o
     unfolding storing
-    behind b₁ x₁ (refuse r) x₂ = p ∙ ap (storing 0) (x₁.goes ∙ ap (after ls₁) x₂ ∙ after_stop ls₁ r)
-    behind b₁ x₁ (ok b₂) x₂ =
+    behind b₁ x₁ (Err r) x₂ = p ∙ ap (storing 0) (x₁.goes ∙ ap (after ls₁) x₂ ∙ after_stop ls₁ r)
+    behind b₁ x₁ (Ok b₂) x₂ =
         let q : k + 1 + s₁ + s₂ ≡ k + suc (s₁ + s₂) = omega arith in
         let y₂ : Extends w (k + suc (s₁ + s₂)) x₁.table x₂.table = subst (λ i. Extends w i x₁.table x₂.table) q x₂.extends in
         let y₁ : Extends w (k + suc (s₁ + s₂)) t₀ x₂.table =
@@ -167,12 +169,12 @@ module _ (count : ℕ) where
               ∙ ap (λ i. after (0 ∷ (ls₁ ++ ls₂)) (scopes_from w count m i x₂.table)) q;
         }
 
-    walk_two : (o₁ : Result (List ℕ)) (more : List ℕ → Result (List ℕ)) → Walked w (s₂ + m) (k + 1) s₁ ls₁ t₀ o₁
+    walk_two : (o₁ : Result (List ℕ) Refusal) (more : List ℕ → Result (List ℕ) Refusal) → Walked w (s₂ + m) (k + 1) s₁ ls₁ t₀ o₁
         → ((b₁ : List ℕ) (x₁ : Gone w (s₂ + m) (k + 1) s₁ ls₁ t₀ b₁) → Walked w m (k + 1 + s₁) s₂ ls₂ x₁.table (more b₁))
         → Walked w m k (suc (s₁ + s₂)) (0 ∷ (ls₁ ++ ls₂)) t (o₁ >>= more)
     unfolding storing ◌>>=◌
-    walk_two (refuse r) more x₁ x₂ = p ∙ ap (storing 0) x₁
-    walk_two (ok b₁) more x₁ x₂ = behind b₁ x₁ (more b₁) (x₂ b₁ x₁)
+    walk_two (Err r) more x₁ x₂ = p ∙ ap (storing 0) x₁
+    walk_two (Ok b₁) more x₁ x₂ = behind b₁ x₁ (more b₁) (x₂ b₁ x₁)
 
   -- a let, and then its two parts
   module _ (w : List ℕ) (m k s₁ s₂ : ℕ) (ls₁ ls₂ t : List ℕ) {l : Position} {v : ℕ} (h : Head w k (Binary Let) l v) (bound : List ℕ)
@@ -182,11 +184,11 @@ module _ (count : ℕ) where
     step_let = let q : suc (s₁ + s₂) + m ≡ suc (s₁ + (s₂ + m)) = omega arith in rw q (step w (s₁ + (s₂ + m)) k t h)
 
     walk_let : (x₀ : among v bound ≡ false → Extends w (k + suc (s₁ + s₂)) t (set t v k))
-        → (o₁ : List ℕ → Result (List ℕ)) (more : List ℕ → Result (List ℕ))
+        → (o₁ : List ℕ → Result (List ℕ) Refusal) (more : List ℕ → Result (List ℕ) Refusal)
         → (among v bound ≡ false → Walked w (s₂ + m) (k + 1) s₁ ls₁ (set t v k) (o₁ (v ∷ bound)))
         → (among v bound ≡ false → (b₁ : List ℕ) (x₁ : Gone w (s₂ + m) (k + 1) s₁ ls₁ (set t v k) b₁) → Walked w m (k + 1 + s₁) s₂ ls₂ x₁.table (more b₁))
         → (y : Bool) → among v bound ≡ y
-        → Walked w m k (suc (s₁ + s₂)) (0 ∷ (ls₁ ++ ls₂)) t ((when y then refuse (Rebound l.line) else ok (v ∷ bound)) >>= λ b. o₁ b >>= more)
+        → Walked w m k (suc (s₁ + s₂)) (0 ∷ (ls₁ ++ ls₂)) t ((when y then Err (Rebound l.line) else Ok (v ∷ bound)) >>= λ b. o₁ b >>= more)
     unfolding continued judge_let step_line_at ◌>>=◌
     walk_let x₀ o₁ more x₁ x₂ true e =
         let low : get_or t v no_mark < no_mark = ltb-true (get_or t v no_mark) no_mark (sym (bind v small) ∙ e) in
@@ -225,7 +227,7 @@ module _ (count : ℕ) where
 
   -- a step of one part, which calls a procedure or not, and then its part
   module _ (w : List ℕ) (m k s : ℕ) (ls t : List ℕ) (ins : List (ℕ × ℕ)) (bound : List ℕ) (x : UnaryWord) {l : Position} {v : ℕ} (h : Head w k (Unary x) l v)
-      (more : List ℕ → Result (List ℕ)) where
+      (more : List ℕ → Result (List ℕ) Refusal) where
     step_calls : role (Unary x) ≡ Calls → scopes_from w count (suc s + m) k t ≡ continued (λ u. scopes_from w count (s + m) (k + 1) u) k t v (judge_call w count k)
     unfolding judge_by
     step_calls e =
@@ -233,7 +235,7 @@ module _ (count : ℕ) where
         rw q (step w (s + m) k t h ∙ ap (λ r. continued (λ u. scopes_from w count (s + m) (k + 1) u) k t v (judge_by w count k (get_or t v no_mark) r)) e)
 
     walk_call : role (Unary x) ≡ Calls → Walked w m (k + 1) s ls t (more bound) → (y : Bool) → ltb v count ≡ y
-        → Walked w m k (suc s) (0 ∷ ls) t ((when y then ok bound else refuse (NoProcedure l.line)) >>= more)
+        → Walked w m k (suc s) (0 ∷ ls) t ((when y then Ok bound else Err (NoProcedure l.line)) >>= more)
     unfolding continued judge_call value_at step_line_at ◌>>=◌
     walk_call e x₁ true q = walk_one w m k s ls t (more bound) (step_calls e ∙ rw (h.value, q) refl) x₁
     walk_call e x₁ false q = step_calls e ∙ rw (h.value, q, h.line) refl

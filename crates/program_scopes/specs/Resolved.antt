@@ -1,18 +1,19 @@
 -- What arranging stored lines answers, and what it leaves in the work space.
-use Rattle.std.specs.Prelude.{◌≡◌, List, [], map, ℕ, ◌+◌, ◌≤◌, length}
-use Rattle.spec.specs.Reading.{Result, ok, ◌>>=◌}
+use Rattle.std.specs.Prelude.{◌≡◌, List, [], map, ℕ, ◌+◌, ◌≤◌, length, Result, Ok}
+use Rattle.spec.specs.declared.Refusal.{Refusal}
+use Rattle.spec.specs.Reading.{◌>>=◌}
 use Rattle.spec.specs.Expression.{Expr, Item, steps_among, Procedure, structure, scopes}
 use Rattle.workspace.specs.Layout.{ends_at, lets_at, proc_lines_at, proc_vars_at, proc_firsts_at, row_types_at, work_size}
 use Rattle.workspace.specs.Holds.{all_ends, all_lets, first_steps, HoldsSteps}
 use Rattle.workspace.specs.Region.{Region, ChangedWithin}
 use Rattle.program_tree.specs.Items.{ItemsStored}
 use Rattle.program_tree.specs.Outcomes.{Answers}
-use Rattle.spec.specs.declared.Ruling.{Ruling}
+use Rattle.workspace.specs.declared.Ruling.{Ruling}
 
 -- the procedures and the root that lines list, with their variables in scope; `last` is the last line read
-unfoldable pub resolved_of : (last count : ℕ) → List Item → Result (List Procedure × Expr)
+unfoldable pub resolved_of : (last count : ℕ) → List Item → Result (List Procedure × Expr) Refusal
 resolved_of last count items =
-    structure last count 0 items >>= λ found. scopes count found.0 found.1 [] >>= λ bound. ok found
+    structure last count 0 items >>= λ found. scopes count found.0 found.1 [] >>= λ bound. Ok found
 
 -- lines are stored that may list so many procedures
 pub record Resolvable (steps procs count : ℕ) (w : List ℕ) : Type 0 where

@@ -1,13 +1,14 @@
 -- Scopes in line order: a table has, for each variable, the index of the let that binds it, or the mark of its procedure.
-use Rattle.std.specs.Prelude.{◌≡◌, List, [], ◌∷◌, ◌++◌, ℕ, suc, zero, ◌+◌, ◌-◌, ◌<◌, ◌≤◌, ltb, length, get_or, set, replicate}
+use Rattle.std.specs.Prelude.{◌≡◌, List, [], ◌∷◌, ◌++◌, ℕ, suc, zero, ◌+◌, ◌-◌, ◌<◌, ◌≤◌, ltb, length, get_or, set, replicate, Result, Ok, Err}
+use Rattle.spec.specs.declared.Refusal.{Refusal}
 use Rattle.spec.specs.Choice.{when◌then◌else◌}
-use Rattle.spec.specs.Reading.{Result, refuse, ok}
+
 use Rattle.spec.specs.declared.Refusal.TheVariants.{Rebound}
 use Rattle.workspace.specs.Layout.{lets_at, proc_lines_at, proc_vars_at, proc_firsts_at, proc_mark, work_size}
 use Rattle.workspace.specs.Region.{Region, ChangedWithin}
 use Rattle.workspace.specs.Steps.{value_at}
 use Rattle.program_tree.specs.Outcomes.{Answers}
-use Rattle.spec.specs.declared.Ruling.{Ruling}
+use Rattle.workspace.specs.declared.Ruling.{Ruling}
 use Rattle.program_scopes.specs.Judging.{no_mark, judge_of}
 use Rattle.program_scopes.specs.declared.binders.Judged.{Judged}
 use Rattle.program_scopes.specs.declared.binders.Judged.TheVariants.{Bind, Store, Refused}
@@ -21,19 +22,19 @@ abbrev pub Passing : Type 0
 Passing = List ℕ × List ℕ
 
 -- a number stored in front of those of the steps behind
-unfoldable pub storing : ℕ → Result Passing → Result Passing
-storing x (refuse r) = refuse r
-storing x (ok p) = ok (x ∷ p.0, p.1)
+unfoldable pub storing : ℕ → Result Passing Refusal → Result Passing Refusal
+storing x (Err r) = Err r
+storing x (Ok p) = Ok (x ∷ p.0, p.1)
 
 -- the step at index k with number v, judged, and the steps behind it with the table that it leaves
-unfoldable pub continued : (List ℕ → Result Passing) → (k : ℕ) → (table : List ℕ) → (v : ℕ) → Judged → Result Passing
+unfoldable pub continued : (List ℕ → Result Passing Refusal) → (k : ℕ) → (table : List ℕ) → (v : ℕ) → Judged → Result Passing Refusal
 continued behind k t v Bind = storing 0 (behind (set t v k))
 continued behind k t v (Store x) = storing x (behind t)
-continued behind k t v (Refused r) = refuse r
+continued behind k t v (Refused r) = Err r
 
 -- the next m steps from index k on: the first refusal, or what is stored for each
-unfoldable pub scopes_from : List ℕ → (count m k : ℕ) → (table : List ℕ) → Result Passing
-scopes_from w count zero k t = ok ([], t)
+unfoldable pub scopes_from : List ℕ → (count m k : ℕ) → (table : List ℕ) → Result Passing Refusal
+scopes_from w count zero k t = Ok ([], t)
 scopes_from w count (suc m) k t =
     continued (λ u. scopes_from w count m (k + 1) u) k t (value_at w k) (judge_of w count k (get_or t (value_at w k) no_mark))
 
@@ -50,19 +51,19 @@ abbrev pub first_at : List ℕ → (f : ℕ) → ℕ
 first_at w f = get_or w (proc_firsts_at + f) 0
 
 -- numbers in front of those that are stored behind
-unfoldable pub with_front : List ℕ → Result (List ℕ) → Result (List ℕ)
-with_front xs (refuse r) = refuse r
-with_front xs (ok ys) = ok (xs ++ ys)
+unfoldable pub with_front : List ℕ → Result (List ℕ) Refusal → Result (List ℕ) Refusal
+with_front xs (Err r) = Err r
+with_front xs (Ok ys) = Ok (xs ++ ys)
 
 -- what is stored for steps, and then for those behind them
-unfoldable pub followed : Result Passing → (List ℕ → Result (List ℕ)) → Result (List ℕ)
-followed (refuse r) behind = refuse r
-followed (ok p) behind = with_front p.0 (behind p.1)
+unfoldable pub followed : Result Passing Refusal → (List ℕ → Result (List ℕ) Refusal) → Result (List ℕ) Refusal
+followed (Err r) behind = Err r
+followed (Ok p) behind = with_front p.0 (behind p.1)
 
 -- the procedure f binds its variable, and its body is judged
-unfoldable pub body_scopes : List ℕ → (count f : ℕ) → (table : List ℕ) → Result Passing
+unfoldable pub body_scopes : List ℕ → (count f : ℕ) → (table : List ℕ) → Result Passing Refusal
 body_scopes w count f t =
-    when ltb (get_or t (get_or w (proc_vars_at + f) 0) no_mark) no_mark then refuse (Rebound (get_or w (proc_lines_at + f) 0))
+    when ltb (get_or t (get_or w (proc_vars_at + f) 0) no_mark) no_mark then Err (Rebound (get_or w (proc_lines_at + f) 0))
     else scopes_from w count (first_at w (f + 1) - first_at w f) (first_at w f) (set t (get_or w (proc_vars_at + f) 0) (proc_mark + f))
 
 -- a body is due with a table
@@ -80,8 +81,8 @@ pub record BodyScoped (count f : ℕ) (w w' t t' : List ℕ) (r : Ruling) : Type
   pub table_long : length t' ≡ length t
 
 -- the next m procedures from number f on, and the root, in a sheet of n steps
-unfoldable pub scopes_behind : List ℕ → (n count m f : ℕ) → (table : List ℕ) → Result (List ℕ)
-scopes_behind w n count zero f t = followed (scopes_from w count (n - first_at w f) (first_at w f) t) (λ u. ok [])
+unfoldable pub scopes_behind : List ℕ → (n count m f : ℕ) → (table : List ℕ) → Result (List ℕ) Refusal
+scopes_behind w n count zero f t = followed (scopes_from w count (n - first_at w f) (first_at w f) t) (λ u. Ok [])
 scopes_behind w n count (suc m) f t = followed (body_scopes w count f t) (λ u. scopes_behind w n count m (f + 1) u)
 
 -- the work space has the bodies one behind the other, and then the root

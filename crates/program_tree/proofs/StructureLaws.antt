@@ -22,7 +22,7 @@ use borrow.Author.Tests.{le-leb, lt-leb}
 use Rattle.spec.specs.Choice.{when◌then◌else◌}
 use Rattle.spec.specs.declared.Refusal.TheVariants.{ProgramLines}
 use Rattle.program_tree.specs.Trees.{next_of, limit_at, break_line, left_at, ExpressionAnswer, ExpressionFound}
-use Rattle.spec.specs.declared.Ruling.TheVariants as outcome
+use Rattle.workspace.specs.declared.Ruling.TheVariants as outcome
 use Rattle.program_tree.specs.declared.Next.TheVariants.{Proc, Step, End}
 use Rattle.program_tree.specs.declared.Found.{Found}
 use Rattle.program_tree.specs.declared.Found.TheVariants.{At, Refused}

@@ -1,12 +1,13 @@
 -- The loop over the procedures. From each `proc` line on the walk comes to what it comes to from the top, with the bodies passed in
 -- front: that is said of every answer and every work space that the rest of the walk may leave.
+use Rattle.std.proofs.Common.{Result, Ok, Err}
 use mathlib.Core.Path.{◌≡◌, refl, sym, ap, subst, ◌∙◌}
 use mathlib.Core.Logic.{inl}
 use mathlib.Core.List.{List, [], ◌∷◌}
 use Prim.Native.Nat.{ℕ, suc, ◌+◌, ◌-◌, ◌<◌, ◌≤◌}
 use native.Mathlib.Omega.{arith}
 use native.Mathlib.Nat.{sub-zero}
-use Rattle.spec.specs.Reading.{Result, refuse, ok, ◌>>=◌}
+use Rattle.spec.specs.Reading.{◌>>=◌}
 use Rattle.spec.specs.Expression.{Expr, size, Step, Item, step, proc, line_of_item, expression, no_line_left, Procedure, structure}
 use Rattle.spec.specs.declared.Refusal.{Refusal}
 use Rattle.workspace.specs.Layout.{ends_at, step_room}
@@ -18,8 +19,8 @@ use Rattle.workspace.proofs.Held.{ends_length}
 use Rattle.program_tree.specs.Items.{ItemsStored}
 use Rattle.program_tree.specs.Structure.{RoomFor}
 use Rattle.program_tree.specs.Trees.{left_at, ExpressionDue, ExpressionFound, StoredFrom, LinesLeft, body_due, BodyAnswer, BodyFound, root_first, TreeAnswer, Structured}
-use Rattle.spec.specs.declared.Ruling.{Ruling}
-use Rattle.spec.specs.declared.Ruling.TheVariants as outcome
+use Rattle.workspace.specs.declared.Ruling.{Ruling}
+use Rattle.workspace.specs.declared.Ruling.TheVariants as outcome
 use Rattle.program_tree.specs.declared.Found.{Found}
 use Rattle.program_tree.specs.declared.Found.TheVariants.{At, Refused}
 use Rattle.program_tree.proofs.StructureLaws.{left_proc, left_step, left_none}
@@ -36,36 +37,36 @@ same_refusal p q = cc
 
 -- ------------------------------------------------------------------ answers from an index on
 
-abbrev pub AnswerFrom : (w' : List ℕ) (i : ℕ) → Found → Result (List Procedure × Expr) → Type 0
-AnswerFrom w' i r (refuse x) = r ≡ Refused x
-AnswerFrom w' i r (ok (ps, root)) = (r ≡ At (root_first i ps)) × Region w' (ends_at + i) (all_ends i ps root)
+abbrev pub AnswerFrom : (w' : List ℕ) (i : ℕ) → Found → Result (List Procedure × Expr) Refusal → Type 0
+AnswerFrom w' i r (Err x) = r ≡ Refused x
+AnswerFrom w' i r (Ok (ps, root)) = (r ≡ At (root_first i ps)) × Region w' (ends_at + i) (all_ends i ps root)
 
-answer_top : (w' : List ℕ) (r : Found) (o : Result (List Procedure × Expr)) → AnswerFrom w' 0 r o → TreeAnswer w' r o
-answer_top w' r (refuse x) a = a
-answer_top w' r (ok (ps, root)) a = a
+answer_top : (w' : List ℕ) (r : Found) (o : Result (List Procedure × Expr) Refusal) → AnswerFrom w' 0 r o → TreeAnswer w' r o
+answer_top w' r (Err x) a = a
+answer_top w' r (Ok (ps, root)) a = a
 
 -- a procedure in front of what is found
-unfoldable in_front : Procedure → Result (List Procedure × Expr) → Result (List Procedure × Expr)
-in_front p (refuse r) = refuse r
-in_front p (ok (ps, root)) = ok (p ∷ ps, root)
+unfoldable in_front : Procedure → Result (List Procedure × Expr) Refusal → Result (List Procedure × Expr) Refusal
+in_front p (Err r) = Err r
+in_front p (Ok (ps, root)) = Ok (p ∷ ps, root)
 
 answer_front : {w w' : List ℕ} (i : ℕ) (p : Procedure) (r : Found) → Region w (ends_at + i) (ends i p.body)
     → ChangedWithin (ends_at + (i + size p.body)) (ends_at + step_room) w w'
-    → (o : Result (List Procedure × Expr)) → AnswerFrom w' (i + size p.body) r o → AnswerFrom w' i r (in_front p o)
+    → (o : Result (List Procedure × Expr) Refusal) → AnswerFrom w' (i + size p.body) r o → AnswerFrom w' i r (in_front p o)
 unfolding in_front root_first all_ends
-answer_front i p r m c (refuse x) a = a
-answer_front i p r m c (ok (ps, root)) a = (
+answer_front i p r m c (Err x) a = a
+answer_front i p r m c (Ok (ps, root)) a = (
   a.0,
   region_append (ends i p.body) (all_ends (i + size p.body) ps root)
       (region_kept c (inl (omega (arith, ends_length i p.body))) m)
       (region_moved _ _ (omega (arith, ends_length i p.body)) a.1),
 )
 
-front_by : (line x : ℕ) (b : Expr) (o : Result (List Procedure × Expr))
-    → (o >>= λ t. ok (record { line = line; parameter = x; body = b } ∷ t.0, t.1)) ≡ in_front (record { line = line; parameter = x; body = b }) o
+front_by : (line x : ℕ) (b : Expr) (o : Result (List Procedure × Expr) Refusal)
+    → (o >>= λ t. Ok (record { line = line; parameter = x; body = b } ∷ t.0, t.1)) ≡ in_front (record { line = line; parameter = x; body = b }) o
 unfolding in_front ◌>>=◌
-front_by line x b (refuse r) = refl
-front_by line x b (ok (ps, root)) = refl
+front_by line x b (Err r) = refl
+front_by line x b (Ok (ps, root)) = refl
 
 -- ------------------------------------------------------------------ one procedure of the walk
 
@@ -79,11 +80,11 @@ record BodyOn (steps procs i j last e : ℕ) (w' : List ℕ) (items : List Item)
   walked : (k : ℕ) → structure last (suc k) i items ≡ in_front procedure (structure last k (i + size procedure.body) behind)
 
 module _ (steps procs i j last : ℕ) (w' : List ℕ) (r : Found) where
-  on_by : (e x line : ℕ) (items : List Item) → r ≡ At e → (o : Result (Expr × List Item)) → expression last i items ≡ o
+  on_by : (e x line : ℕ) (items : List Item) → r ≡ At e → (o : Result (Expr × List Item) Refusal) → expression last i items ≡ o
       → BodyAnswer steps procs i j w' r o → BodyOn steps procs i j last e w' (proc x line ∷ items)
   unfolding structure ◌>>=◌
-  on_by e x line items p (refuse y) q a = absurd (no_refusal a p)
-  on_by e x line items p (ok (b, behind)) q a = record {
+  on_by e x line items p (Err y) q a = absurd (no_refusal a p)
+  on_by e x line items p (Ok (b, behind)) q a = record {
     procedure = record { line = line; parameter = x; body = b };
     behind = behind;
     ended = same_at a.0 p;
@@ -98,17 +99,17 @@ module _ (steps procs i j last : ℕ) (w' : List ℕ) (r : Found) where
   body_on e (step s ∷ items) p a = absurd (no_refusal a p)
   body_on e (proc x line ∷ items) p a = on_by e x line items p (expression last i items) refl a
 
-  off_by : (x : Refusal) (y line : ℕ) (items : List Item) → r ≡ Refused x → (o : Result (Expr × List Item)) → expression last i items ≡ o
-      → BodyAnswer steps procs i j w' r o → (k : ℕ) → structure last (suc k) i (proc y line ∷ items) ≡ refuse x
+  off_by : (x : Refusal) (y line : ℕ) (items : List Item) → r ≡ Refused x → (o : Result (Expr × List Item) Refusal) → expression last i items ≡ o
+      → BodyAnswer steps procs i j w' r o → (k : ℕ) → structure last (suc k) i (proc y line ∷ items) ≡ Err x
   unfolding structure ◌>>=◌
-  off_by x y line items p (refuse z) q a k = rw q (ap refuse (same_refusal a p))
-  off_by x y line items p (ok (b, behind)) q a k = absurd (no_refusal p a.0)
+  off_by x y line items p (Err z) q a k = rw q (ap Err (same_refusal a p))
+  off_by x y line items p (Ok (b, behind)) q a k = absurd (no_refusal p a.0)
 
   body_off : (x : Refusal) (items : List Item) → r ≡ Refused x → BodyAnswer steps procs i j w' r (body_due last i items)
-      → (k : ℕ) → structure last (suc k) i items ≡ refuse x
+      → (k : ℕ) → structure last (suc k) i items ≡ Err x
   unfolding body_due structure
-  body_off x [] p a k = ap refuse (same_refusal a p)
-  body_off x (step s ∷ items) p a k = ap refuse (same_refusal a p)
+  body_off x [] p a k = ap Err (same_refusal a p)
+  body_off x (step s ∷ items) p a k = ap Err (same_refusal a p)
   body_off x (proc y line ∷ items) p a k = off_by x y line items p (expression last i items) refl a k
 
 -- ------------------------------------------------------------------ the loop
@@ -196,9 +197,9 @@ module _ {steps procs count last : ℕ} {w₀ w : List ℕ} {i f : ℕ} (s : Wal
 -- ------------------------------------------------------------------ the root
 
 -- what is left behind it
-abbrev LeftAnswer : Ruling → Result (Unit {0}) → Type 0
-LeftAnswer o (refuse x) = o ≡ outcome.Refused x
-LeftAnswer o (ok u) = o ≡ outcome.Holds
+abbrev LeftAnswer : Ruling → Result (Unit {0}) Refusal → Type 0
+LeftAnswer o (Err x) = o ≡ outcome.Refused x
+LeftAnswer o (Ok u) = o ≡ outcome.Holds
 
 left_answer : (steps procs e j : ℕ) (w : List ℕ) (items : List Item) → StoredFrom w steps procs e j items → LeftAnswer (left_at w steps procs e j) (no_line_left items)
 unfolding StoredFrom no_line_left line_of_item next_by step_line_at
@@ -215,39 +216,39 @@ same_fault : {x y : Refusal} {o : Ruling} → o ≡ outcome.Refused x → o ≡ 
 same_fault p q = cc
 
 module _ (steps procs i j last : ℕ) (w' : List ℕ) (r : Found) (items : List Item) where
-  root_off_by : (x : Refusal) → r ≡ Refused x → (o : Result (Expr × List Item)) → expression last i items ≡ o → BodyAnswer steps procs i j w' r o
+  root_off_by : (x : Refusal) → r ≡ Refused x → (o : Result (Expr × List Item) Refusal) → expression last i items ≡ o → BodyAnswer steps procs i j w' r o
       → AnswerFrom w' i (Refused x) (structure last 0 i items)
   unfolding structure ◌>>=◌
-  root_off_by x p (refuse y) q a = rw q (ap Refused (same_refusal p a))
-  root_off_by x p (ok (b, behind)) q a = absurd (no_refusal p a.0)
+  root_off_by x p (Err y) q a = rw q (ap Refused (same_refusal p a))
+  root_off_by x p (Ok (b, behind)) q a = absurd (no_refusal p a.0)
 
   module _ (e : ℕ) (p : r ≡ At e) (t : Ruling) (is : t ≡ left_at w' steps procs e j) where
-    left_of : (b : Expr) (behind : List Item) → BodyAnswer steps procs i j w' r (ok (b, behind)) → LeftAnswer t (no_line_left behind)
+    left_of : (b : Expr) (behind : List Item) → BodyAnswer steps procs i j w' r (Ok (b, behind)) → LeftAnswer t (no_line_left behind)
     left_of b behind a =
         subst (λ o. LeftAnswer o (no_line_left behind)) (sym is)
         (left_answer steps procs e j w' behind (subst (λ n. StoredFrom w' steps procs n j behind) (sym (same_at a.0 p)) a.2))
 
-    passed_by : (b : Expr) (behind : List Item) → expression last i items ≡ ok (b, behind) → Region w' (ends_at + i) (ends i b) → t ≡ outcome.Holds
-        → (u : Result (Unit {0})) → no_line_left behind ≡ u → LeftAnswer t u → AnswerFrom w' i (At i) (structure last 0 i items)
+    passed_by : (b : Expr) (behind : List Item) → expression last i items ≡ Ok (b, behind) → Region w' (ends_at + i) (ends i b) → t ≡ outcome.Holds
+        → (u : Result (Unit {0}) Refusal) → no_line_left behind ≡ u → LeftAnswer t u → AnswerFrom w' i (At i) (structure last 0 i items)
     unfolding structure ◌>>=◌ root_first all_ends
-    passed_by b behind q m g (refuse x) v a = absurd (no_pass a g)
-    passed_by b behind q m g (ok d) v a = rw (q, v) (refl, m)
+    passed_by b behind q m g (Err x) v a = absurd (no_pass a g)
+    passed_by b behind q m g (Ok d) v a = rw (q, v) (refl, m)
 
-    failed_by : (x : Refusal) (b : Expr) (behind : List Item) → expression last i items ≡ ok (b, behind) → t ≡ outcome.Refused x
-        → (u : Result (Unit {0})) → no_line_left behind ≡ u → LeftAnswer t u → AnswerFrom w' i (Refused x) (structure last 0 i items)
+    failed_by : (x : Refusal) (b : Expr) (behind : List Item) → expression last i items ≡ Ok (b, behind) → t ≡ outcome.Refused x
+        → (u : Result (Unit {0}) Refusal) → no_line_left behind ≡ u → LeftAnswer t u → AnswerFrom w' i (Refused x) (structure last 0 i items)
     unfolding structure ◌>>=◌
-    failed_by x b behind q g (refuse y) v a = rw (q, v) (ap Refused (same_fault g a))
-    failed_by x b behind q g (ok d) v a = absurd (no_pass g a)
+    failed_by x b behind q g (Err y) v a = rw (q, v) (ap Refused (same_fault g a))
+    failed_by x b behind q g (Ok d) v a = absurd (no_pass g a)
 
-    root_passed_by : t ≡ outcome.Holds → (o : Result (Expr × List Item)) → expression last i items ≡ o → BodyAnswer steps procs i j w' r o
+    root_passed_by : t ≡ outcome.Holds → (o : Result (Expr × List Item) Refusal) → expression last i items ≡ o → BodyAnswer steps procs i j w' r o
         → AnswerFrom w' i (At i) (structure last 0 i items)
-    root_passed_by g (refuse y) q a = absurd (no_refusal a p)
-    root_passed_by g (ok (b, behind)) q a = passed_by b behind q a.1 g (no_line_left behind) refl (left_of b behind a)
+    root_passed_by g (Err y) q a = absurd (no_refusal a p)
+    root_passed_by g (Ok (b, behind)) q a = passed_by b behind q a.1 g (no_line_left behind) refl (left_of b behind a)
 
-    root_failed_by : (x : Refusal) → t ≡ outcome.Refused x → (o : Result (Expr × List Item)) → expression last i items ≡ o → BodyAnswer steps procs i j w' r o
+    root_failed_by : (x : Refusal) → t ≡ outcome.Refused x → (o : Result (Expr × List Item) Refusal) → expression last i items ≡ o → BodyAnswer steps procs i j w' r o
         → AnswerFrom w' i (Refused x) (structure last 0 i items)
-    root_failed_by x g (refuse y) q a = absurd (no_refusal a p)
-    root_failed_by x g (ok (b, behind)) q a = failed_by x b behind q g (no_line_left behind) refl (left_of b behind a)
+    root_failed_by x g (Err y) q a = absurd (no_refusal a p)
+    root_failed_by x g (Ok (b, behind)) q a = failed_by x b behind q g (no_line_left behind) refl (left_of b behind a)
 
 module _ {steps procs count last : ℕ} {w₀ w : List ℕ} {i f : ℕ} (s : Walked steps procs count last w₀ w i f) (l : count ≤ f) where
   none_due : count - f ≡ 0
@@ -275,9 +276,9 @@ module _ {steps procs count last : ℕ} {w₀ w : List ℕ} {i f : ℕ} (s : Wal
         (λ items h. root_off_by steps procs i count last w₁ r items y p (expression last i items) refl (root_at items h))
 
     module _ {e : ℕ} (p : r ≡ At e) where
-      ends_by : (items : List Item) → (o : Result (Expr × List Item)) → expression last i items ≡ o → BodyAnswer steps procs i count w₁ r o → e ≤ steps
-      ends_by items (refuse y) q a = absurd (no_refusal a p)
-      ends_by items (ok (b, behind)) q a = omega (arith, same_at a.0 p, steps_left w₁ steps procs (i + size b) count behind a.2)
+      ends_by : (items : List Item) → (o : Result (Expr × List Item) Refusal) → expression last i items ≡ o → BodyAnswer steps procs i count w₁ r o → e ≤ steps
+      ends_by items (Err y) q a = absurd (no_refusal a p)
+      ends_by items (Ok (b, behind)) q a = omega (arith, same_at a.0 p, steps_left w₁ steps procs (i + size b) count behind a.2)
 
       pub root_within : e ≤ steps
       root_within = ends_by s.left.items (expression last i s.left.items) refl (root_at s.left.items s.left.stored)

@@ -1,7 +1,8 @@
 -- The procedures and the root that the lines stored list, walked from the top.
-use Rattle.std.specs.Prelude.{◌≡◌, Bool, ◌&&◌, List, [], ◌∷◌, ℕ, ◌+◌, ◌-◌, ◌<◌, ◌≤◌, eqb, ltb, length, get_or}
+use Rattle.std.specs.Prelude.{◌≡◌, Bool, ◌&&◌, List, [], ◌∷◌, ℕ, ◌+◌, ◌-◌, ◌<◌, ◌≤◌, eqb, ltb, length, get_or, Result, Ok, Err}
+use Rattle.spec.specs.declared.Refusal.{Refusal}
 use Rattle.spec.specs.Choice.{when◌then◌else◌}
-use Rattle.spec.specs.Reading.{Result, refuse, ok}
+
 use Rattle.spec.specs.Expression.{Expr, size, Item, step, proc, steps_among, Procedure, listed, expression, structure}
 use Rattle.spec.specs.declared.Refusal.TheVariants.{ProgramLines}
 use Rattle.workspace.specs.Layout.{ends_at, lines_at, proc_lines_at, proc_firsts_at, step_room}
@@ -10,8 +11,8 @@ use Rattle.workspace.specs.Holds.{ends, all_ends}
 use Rattle.workspace.specs.Steps.{step_at, steps_from}
 use Rattle.program_tree.specs.Items.{proc_rows, HoldsItems}
 use Rattle.program_tree.specs.Structure.{RoomFor}
-use Rattle.spec.specs.declared.Ruling.{Ruling}
-use Rattle.spec.specs.declared.Ruling.TheVariants as outcome
+use Rattle.workspace.specs.declared.Ruling.{Ruling}
+use Rattle.workspace.specs.declared.Ruling.TheVariants as outcome
 use Rattle.program_tree.specs.declared.Next.{Next}
 use Rattle.program_tree.specs.declared.Next.TheVariants.{Proc, Step, End}
 use Rattle.program_tree.specs.declared.Found.{Found}
@@ -83,15 +84,15 @@ pub record LinesLeft (steps procs i j : ℕ) (w : List ℕ) : Type 0 where
   pub stored : StoredFrom w steps procs i j items
 
 -- the body of the procedure that is due, and the lines behind it
-unfoldable pub body_due : (last i : ℕ) → List Item → Result (Expr × List Item)
-body_due last i [] = refuse (ProgramLines last)
-body_due last i (step s ∷ items) = refuse (ProgramLines s.line)
+unfoldable pub body_due : (last i : ℕ) → List Item → Result (Expr × List Item) Refusal
+body_due last i [] = Err (ProgramLines last)
+body_due last i (step s ∷ items) = Err (ProgramLines s.line)
 body_due last i (proc x k ∷ items) = expression last i items
 
 -- where it ends, and what stands stored behind it, behind j of the `proc` lines
-abbrev pub BodyAnswer : (steps procs i j : ℕ) (w' : List ℕ) → Found → Result (Expr × List Item) → Type 0
-BodyAnswer steps procs i j w' r (refuse x) = r ≡ Refused x
-BodyAnswer steps procs i j w' r (ok (e, items)) =
+abbrev pub BodyAnswer : (steps procs i j : ℕ) (w' : List ℕ) → Found → Result (Expr × List Item) Refusal → Type 0
+BodyAnswer steps procs i j w' r (Err x) = r ≡ Refused x
+BodyAnswer steps procs i j w' r (Ok (e, items)) =
     (r ≡ At (i + size e)) × Region w' (ends_at + i) (ends i e) × StoredFrom w' steps procs (i + size e) j items
 
 pub record BodyFound (steps procs i j last : ℕ) (w w' : List ℕ) (r : Found) : Type 0 where
@@ -105,9 +106,9 @@ unfoldable pub root_first : (i : ℕ) → List Procedure → ℕ
 root_first i [] = i
 root_first i (p ∷ ps) = root_first (i + size p.body) ps
 
-abbrev pub TreeAnswer : (w' : List ℕ) → Found → Result (List Procedure × Expr) → Type 0
-TreeAnswer w' r (refuse x) = r ≡ Refused x
-TreeAnswer w' r (ok (ps, root)) = (r ≡ At (root_first 0 ps)) × Region w' ends_at (all_ends 0 ps root)
+abbrev pub TreeAnswer : (w' : List ℕ) → Found → Result (List Procedure × Expr) Refusal → Type 0
+TreeAnswer w' r (Err x) = r ≡ Refused x
+TreeAnswer w' r (Ok (ps, root)) = (r ≡ At (root_first 0 ps)) × Region w' ends_at (all_ends 0 ps root)
 
 -- what the walk answers, for the lines that the work space holds; `last` is the last line read
 pub record Structured (steps procs count last : ℕ) (w w' : List ℕ) (r : Found) : Type 0 where

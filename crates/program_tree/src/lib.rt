@@ -7,7 +7,8 @@ ghost use Rattle.program_tree.specs.Items.{ItemsStored};
 ghost use Rattle.program_tree.specs.Structure.{RoomFor, parts_of, Ended, ending_of};
 ghost use Rattle.program_tree.specs.Trees.{proc_next, next_of, limit_at, break_line, left_at, ExpressionDue, ExpressionFound, LinesLeft, BodyFound, Structured};
 
-use spec::{Refusal, Ruling, Word};
+use spec::{Refusal, Word};
+use workspace::Ruling;
 use workspace::{ENDS, LINES, PROC_FIRSTS, PROC_LINES, WORDS};
 
 // Reads the step at index k, and stores the index just past it and past each step in it: that index, or one behind all n steps

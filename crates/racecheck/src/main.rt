@@ -2,8 +2,7 @@
 // `UNREAD`. The judging is in the library `checker`, the wording in `answers`; here is only what meets the outside.
 #![tactic(auto)]
 
-ghost use Rattle.std.specs.Prelude.{◌≡◌, length};
-ghost use Rattle.std.proofs.Math.Option.{some};
+ghost use Rattle.std.specs.Prelude.{◌≡◌, length, Some};
 ghost use Rattle.file_io.specs.Files.{Within, text_in};
 ghost use Rattle.racecheck.specs.Told.{told, told_of};
 
@@ -13,7 +12,7 @@ use std::fs::Files;
 
 // Judges two texts in a work space of its own.
 fn judge(program: &[u8], split: &[u8]) -> Outcome
-    ensures { told result ≡ told_of (some program.now) (some split.now) }
+    ensures { told result ≡ told_of (Some program.now) (Some split.now) }
 {
     let mut work = [0u32; 16384];
     Outcome::Answered(checker::check(program, split, &mut work))

@@ -1,7 +1,7 @@
 -- From what a drill tells to the pair of a seed, which buffers for any sheet have room for.
+use Rattle.std.proofs.Common.{Some}
 use mathlib.Core.Path.{◌≡◌, refl, sym, ap, ◌∙◌}
 use mathlib.Core.List.{List}
-use mathlib.Core.Option.{some}
 use Prim.Native.Nat.{ℕ, ◌≤◌}
 use native.Mathlib.Omega.{arith}
 use lib.ListN.{length, take, length-take}
@@ -58,7 +58,7 @@ module _ (seed a b : ℕ) (d : Drilled) (R : Roomy a b) (answers : returned_by d
         let es : s ≡ length (split_of seed) = ap (λ (n : Numbers). n.split) told in
         let tp = front_back p program' (program_of seed) program ep fronts.0 in
         let ts = front_back s split' (split_of seed) split es fronts.1 in
-        ap some (λ i. record {
+        ap Some (λ i. record {
           next = ap (λ (n : Numbers). n.next) told i;
           program_length = ep i;
           split_length = es i;
@@ -72,7 +72,7 @@ module _ (seed a b : ℕ) (d : Drilled) (R : Roomy a b) (answers : returned_by d
 part : (n : ℕ) (text buffer : List ℕ) → n ≡ length text → take n buffer ≡ text → n ≤ length buffer
 part n text buffer e h = omega (arith, length-take n buffer, ap length h, e)
 
-same_drill : {x y : Drill} → some x ≡ some y → x ≡ y
+same_drill : {x y : Drill} → Some x ≡ Some y → x ≡ y
 same_drill h = cc
 
 -- a pair that is shown is within its buffers
@@ -91,7 +91,7 @@ module _ {x p s : ℕ} (r : Pair) (word program split : List ℕ) (is : r ≡ Ma
   drill : Drill
   drill = record { next = x; program_length = p; split_length = s; program = take p program; split = take s split }
 
-  asked : pair_of (seed_of word) ≡ some drill
+  asked : pair_of (seed_of word) ≡ Some drill
   unfolding shown drill
   asked = sym h ∙ ap (λ (y : Pair). shown y program split) is
 

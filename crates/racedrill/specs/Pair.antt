@@ -1,6 +1,5 @@
 -- What is made of a seed: the line's three numbers, and the two texts.
-use Rattle.std.specs.Prelude.{List, ℕ, ◌≤◌, length, take}
-use Rattle.std.proofs.Math.Option.{Option, none, some}
+use Rattle.std.specs.Prelude.{List, ℕ, ◌≤◌, length, take, Option, None, Some}
 use Rattle.spec.specs.Program.{program_limit}
 use Rattle.spec.specs.Split.{split_limit}
 use Rattle.drill_theory.specs.Draw.{drawn}
@@ -19,8 +18,8 @@ pub record Drill : Type 0 where
 
 -- document 02, request (ii), for a seed; nothing for a word that is none
 unfoldable pub pair_of : Seed → Option Drill
-pair_of Absent = none
-pair_of (Given seed) = some (record {
+pair_of Absent = None
+pair_of (Given seed) = Some (record {
   next = drawn seed;
   program_length = length (program_of seed);
   split_length = length (split_of seed);
@@ -30,8 +29,8 @@ pair_of (Given seed) = some (record {
 
 -- what an answer of the code shows, with the texts in front of two buffers
 unfoldable pub shown : Pair → (program split : List ℕ) → Option Drill
-shown NoSeed program split = none
-shown (Made x p s) program split = some (record {
+shown NoSeed program split = None
+shown (Made x p s) program split = Some (record {
   next = x;
   program_length = p;
   split_length = s;

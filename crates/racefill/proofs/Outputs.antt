@@ -1,12 +1,12 @@
 -- From what filling tells to what is written.
+use Rattle.std.proofs.Common.{Option, None, Some, Result, Ok, Err}
 use mathlib.Core.Path.{◌≡◌, refl, sym, ap, ◌∙◌}
 use mathlib.Core.Path.{subst as along}
 use mathlib.Core.List.{List}
 use Prim.Native.Nat.{ℕ, ◌≤◌}
 use native.Mathlib.Omega.{arith}
-use mathlib.Core.Option.{Option, none, some}
 use lib.ListN.{length, take}
-use Rattle.spec.specs.Reading.{Result, refuse, ok}
+
 use Rattle.spec.specs.Split.{split_limit}
 use Rattle.spec.specs.Workspace.{workspace_size}
 use Rattle.spec.specs.Verdict.{numbers4, returned}
@@ -36,11 +36,11 @@ same_fill p s enough fits = λ i. fill (enough i) (fits i) p s
 
 -- ------------------------------------------------------------------ a sheet
 
-text_length : (o : Result (List ℕ)) (text : List ℕ) → o ≡ ok text → (returned_for o).line ≡ length text
+text_length : (o : Result (List ℕ) Refusal) (text : List ℕ) → o ≡ Ok text → (returned_for o).line ≡ length text
 unfolding returned_for numbers4
 text_length o text e = rw e
 
-pub sheet_in_front : {n : ℕ} (room : ℕ) (p s before after : List ℕ) (f : Filled) {o : Result (List ℕ)} → fill room (length before) p s ≡ o
+pub sheet_in_front : {n : ℕ} (room : ℕ) (p s before after : List ℕ) (f : Filled) {o : Result (List ℕ) Refusal} → fill room (length before) p s ≡ o
     → returned_by f ≡ returned_for (fill room (length before) p s) → after ≡ buffer_after (fill room (length before) p s) before
     → f ≡ filled.Written n → InFront (output_of o) n after
 unfolding returned_by numbers4 output_of
@@ -54,12 +54,12 @@ sheet_in_front {n} room p s before after f same numbers buffer is =
 
 -- ------------------------------------------------------------------ a refusal
 
-refusal_output : (o : Result (List ℕ)) (r : Refusal) → returned (Refuse r) ≡ returned_for o → output_line (Answered (Refuse r)) ≡ output_of o
+refusal_output : (o : Result (List ℕ) Refusal) (r : Refusal) → returned (Refuse r) ≡ returned_for o → output_line (Answered (Refuse r)) ≡ output_of o
 unfolding returned_for output_of output_line answer_line numbers4
-refusal_output (refuse q) r e = ap refusal_line e
-refusal_output (ok t) r e = absurd (omega (arith, refusal_number r, ap (λ (n : Returned). n.number) e))
+refusal_output (Err q) r e = ap refusal_line e
+refusal_output (Ok t) r e = absurd (omega (arith, refusal_number r, ap (λ (n : Returned). n.number) e))
 
-pub refusal_in_front : {n : ℕ} {r : Refusal} (o : Result (List ℕ)) (before after : List ℕ) (f : Filled) {o' : Result (List ℕ)} → o ≡ o' → returned_by f ≡ returned_for o
+pub refusal_in_front : {n : ℕ} {r : Refusal} (o : Result (List ℕ) Refusal) (before after : List ℕ) (f : Filled) {o' : Result (List ℕ) Refusal} → o ≡ o' → returned_by f ≡ returned_for o
     → f ≡ filled.Refused r → WrittenAt before after 0 (output_line (Answered (Refuse r))) n → n ≤ 51 → 51 ≤ length before
     → InFront (output_of o') n after
 unfolding returned_by
@@ -74,8 +74,8 @@ unread_program buffer split e = sym (ap (λ (y : Contents). output_for (text_in 
 
 unread_split : {x : Contents} (program : Option (List ℕ)) (buffer : List ℕ) → x ≡ Unread → output_line UnreadLine ≡ output_for program (text_in x buffer)
 unfolding output_for
-unread_split none buffer e = refl
-unread_split (some p) buffer e = sym (ap (λ (y : Contents). output_for (some p) (text_in y buffer)) e)
+unread_split None buffer e = refl
+unread_split (Some p) buffer e = sym (ap (λ (y : Contents). output_for (Some p) (text_in y buffer)) e)
 
 module _ {n : ℕ} (before after : List ℕ) (w : WrittenAt before after 0 (output_line UnreadLine) n) (short : n ≤ 51) (room : length before ≡ split_limit) where
   line : InFront (output_line UnreadLine) n after

@@ -1,4 +1,5 @@
 -- The run of a program behind a trace: how it is begun, kept, and told.
+use Rattle.std.proofs.Common.{Result, Ok, Err}
 use Prim.Native.Nat.{ℕ, ◌<◌, ◌≤◌}
 use mathlib.Core.Path.{◌≡◌, refl, sym, ◌∙◌, ap, subst}
 use mathlib.Core.Bool.{true}
@@ -7,7 +8,7 @@ use native.Mathlib.Omega.{arith}
 use lib.ListN.{length, take, drop, length-take}
 use lib.Seq.{length-take-le, take_at}
 use Rattle.spec.specs.Text.{Line, lines}
-use Rattle.spec.specs.Reading.{Result, refuse, ok}
+
 use Rattle.spec.specs.Program.{Program}
 use Rattle.spec.specs.declared.Refusal.{Refusal}
 use Rattle.replay_control.specs.Layout.{space_size}
@@ -27,7 +28,7 @@ use Rattle.replay.proofs.Joined.{lines_joined, joined_again, none_behind, stoppe
 
 -- ------------------------------------------------------------------ begun
 
-pub refused_comes : (o : Result Program) (r : Refusal) (p s : List ℕ) (q : Point) → o ≡ refuse r → q ≡ refused_point r → LoopPost q.progress (λ ls. replayed o ls) p s q
+pub refused_comes : (o : Result Program Refusal) (r : Refusal) (p s : List ℕ) (q : Point) → o ≡ Err r → q ≡ refused_point r → LoopPost q.progress (λ ls. replayed o ls) p s q
 unfolding refused_point replayed ended refused
 refused_comes o r p s q e h = rw (h, e) (λ ls. refl)
 
@@ -39,15 +40,15 @@ pub refused_telling : (r : Refusal) {q : Point} → q ≡ refused_point r → te
 unfolding telling telling_by refused_point ended refused
 refused_telling r h = ap telling h
 
-pub refused_begins : (o : Result Program) (r : Refusal) (p s : List ℕ) (q : Point) → o ≡ refuse r → q ≡ refused_point r →
+pub refused_begins : (o : Result Program Refusal) (r : Refusal) (p s : List ℕ) (q : Point) → o ≡ Err r → q ≡ refused_point r →
     LoopPost q.progress (λ ls. replayed o ls) p s q × (q.steps ≡ 0)
 refused_begins o r p s q e h = (refused_comes o r p s q e h, no_steps r h)
 
-pub read_begins : (o : Result Program) (P : Program) (p s : List ℕ) (q : Point) → o ≡ ok P → LoopPost q.progress (play (start_replay P)) p s q → LoopPost q.progress (λ ls. replayed o ls) p s q
+pub read_begins : (o : Result Program Refusal) (P : Program) (p s : List ℕ) (q : Point) → o ≡ Ok P → LoopPost q.progress (play (start_replay P)) p s q → LoopPost q.progress (λ ls. replayed o ls) p s q
 unfolding replayed
-read_begins o P p s q e C = subst (λ (x : Result Program). LoopPost q.progress (λ ls. replayed x ls) p s q) (sym e) C
+read_begins o P p s q e C = subst (λ (x : Result Program Refusal). LoopPost q.progress (λ ls. replayed x ls) p s q) (sym e) C
 
-pub refused_run : (text job s : List ℕ) (r : Refusal) (q : Point) → judged (length s) text ≡ refuse r → q ≡ refused_point r → RunOf text [] job s q
+pub refused_run : (text job s : List ℕ) (r : Refusal) (q : Point) → judged (length s) text ≡ Err r → q ≡ refused_point r → RunOf text [] job s q
 unfolding lines
 refused_run text job s r q e h = record { comes = refused_comes (judged (length s) text) r job (take replay_space s) q e h }
 
@@ -63,7 +64,7 @@ module _ (N : ℕ) (is : N ≡ replay_space) (s x : List ℕ) (h : N ≤ length 
         let room : replay_space ≤ length (x ++ drop N s) = omega (arith, is, h, long) in
         record {
           comes = subst (λ (y : List ℕ). LoopPost q.progress (λ ls. replayed (judged (length (x ++ drop N s)) text) ls) job y q) (sym front)
-              (subst (λ (o : Result Program). LoopPost q.progress (λ ls. replayed o ls) job x q) (room_enough (length (x ++ drop N s)) text room) C);
+              (subst (λ (o : Result Program Refusal). LoopPost q.progress (λ ls. replayed o ls) job x q) (room_enough (length (x ++ drop N s)) text room) C);
         }
 
     -- behind a piece

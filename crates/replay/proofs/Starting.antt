@@ -1,11 +1,12 @@
 -- The start of a replay: from the sheet that the space holds to the point in front of the first line.
+use Rattle.std.proofs.Common.{Result, Ok, Err}
 use Prim.Native.Nat.{ℕ, ◌+◌, ◌<◌, ◌≤◌}
 use mathlib.Core.Path.{◌≡◌, refl, sym, ◌∙◌, ap, subst}
 use mathlib.Core.List.{List, [], ◌∷◌, map}
 use native.Mathlib.Omega.{arith}
 use borrow.Author.Tests.{le-leb, lt-leb}
 use lib.ListN.{length, get_or, length-map}
-use Rattle.spec.specs.Reading.{Result, refuse, ok, ◌>>=◌, require}
+use Rattle.spec.specs.Reading.{◌>>=◌, require}
 use Rattle.spec.specs.Expression.{Step, Expr, size, steps_among, Procedure}
 use Rattle.spec.specs.Program.{Program, program, program_limit}
 use Rattle.spec.specs.WellFormed.{prefix, listing, WellFormedProgram}
@@ -177,16 +178,16 @@ module _ (text : List ℕ) (fits : length text ≤ 16384) where
   unfolding judged ◌>>=◌ require replay_space program_limit
   judged_read = rw (le-leb (length text) 16384 fits) refl
 
-  pub sheet_refused : (w : List ℕ) (answer : ProgramRead) (r : Refusal) → Answered w answer (program text) → answer ≡ Refused r → judged replay_space text ≡ refuse r
+  pub sheet_refused : (w : List ℕ) (answer : ProgramRead) (r : Refusal) → Answered w answer (program text) → answer ≡ Refused r → judged replay_space text ≡ Err r
   sheet_refused w answer r a e = judged_read ∙ by_sheet (program text) a
     where
-      by_sheet : (o : Result Program) → Answered w answer o → o ≡ refuse r
-      by_sheet (refuse x) a = ap refuse (let z : Refused x ≡ Refused r = sym a ∙ e in let y : x ≡ r = cc in y)
-      by_sheet (ok P) a = absurd (let z : Read (length P.steps) (length P.procedures) ≡ Refused r = sym a.0 ∙ e in let y : ◌≡◌ {A = ℕ} 0 1 = cc in omega arith)
+      by_sheet : (o : Result Program Refusal) → Answered w answer o → o ≡ Err r
+      by_sheet (Err x) a = ap Err (let z : Refused x ≡ Refused r = sym a ∙ e in let y : x ≡ r = cc in y)
+      by_sheet (Ok P) a = absurd (let z : Read (length P.steps) (length P.procedures) ≡ Refused r = sym a.0 ∙ e in let y : ◌≡◌ {A = ℕ} 0 1 = cc in omega arith)
 
   pub record Sheet (w : List ℕ) (n m : ℕ) : Type 0 where
     pub P : Program
-    pub read : program text ≡ ok P
+    pub read : program text ≡ Ok P
     pub counted : length P.steps ≡ n
     pub listed : length P.procedures ≡ m
     pub few : n ≤ 256
@@ -196,9 +197,9 @@ module _ (text : List ℕ) (fits : length text ≤ 16384) where
   pub sheet_read : (w : List ℕ) (answer : ProgramRead) (n m : ℕ) → Answered w answer (program text) → answer ≡ Read n m → Sheet w n m
   sheet_read w answer n m a e = by_sheet (program text) refl a
     where
-      by_sheet : (o : Result Program) → program text ≡ o → Answered w answer o → Sheet w n m
-      by_sheet (refuse x) q a = absurd (let z : Refused x ≡ Read n m = sym a ∙ e in let y : ◌≡◌ {A = ℕ} 0 1 = cc in omega arith)
-      by_sheet (ok P) q (r, h, l, k) =
+      by_sheet : (o : Result Program Refusal) → program text ≡ o → Answered w answer o → Sheet w n m
+      by_sheet (Err x) q a = absurd (let z : Refused x ≡ Read n m = sym a ∙ e in let y : ◌≡◌ {A = ℕ} 0 1 = cc in omega arith)
+      by_sheet (Ok P) q (r, h, l, k) =
           let z : Read (length P.steps) (length P.procedures) ≡ Read n m = sym r ∙ e in
           let y : length P.steps ≡ n = cc in
           let x : length P.procedures ≡ m = cc in
@@ -229,10 +230,10 @@ module _ (text : List ℕ) (fits : length text ≤ 16384) where
     pub sheet_holds : (s : List ℕ) → length s ≡ space_size → ((i : ℕ) → i < continuations_at → get_or s i 0 ≡ get_or w i 0) → Held s n m
     sheet_holds s long same = record { listed = F.P; held = sheet_held s long same; few = F.few; procs = F.procs; long = long }
 
-    pub sheet_judged : judged replay_space text ≡ ok F.P
+    pub sheet_judged : judged replay_space text ≡ Ok F.P
     sheet_judged = judged_read ∙ F.read
 
-pub long_program : (text : List ℕ) → 16384 < length text → judged replay_space text ≡ refuse LongProgram
+pub long_program : (text : List ℕ) → 16384 < length text → judged replay_space text ≡ Err LongProgram
 unfolding judged ◌>>=◌ require replay_space program_limit
 long_program text h = rw (lt-leb (length text) 16384 h) refl
 
@@ -243,6 +244,6 @@ pub room_enough : (room : ℕ) (text : List ℕ) → replay_space ≤ room → j
 unfolding judged ◌>>=◌ require replay_space
 room_enough room text h = rw (le-leb space_size room h) refl
 
-pub short_room : (room : ℕ) (text : List ℕ) → room < space_size → judged room text ≡ refuse ShortWorkspace
+pub short_room : (room : ℕ) (text : List ℕ) → room < space_size → judged room text ≡ Err ShortWorkspace
 unfolding judged ◌>>=◌ require replay_space
 short_room room text h = rw (lt-leb space_size room h) refl

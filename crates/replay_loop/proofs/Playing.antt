@@ -1,9 +1,9 @@
 -- A line done on numbers is the machine's line: the run goes on to the same end, or ends so.
+use Rattle.std.proofs.Common.{Option, None, Some}
 use Prim.Native.Nat.{ℕ, suc, ◌+◌, ◌-◌, ◌<◌, ◌≤◌}
 use mathlib.Core.Path.{◌≡◌, refl, sym, ◌∙◌, ap, subst}
 use mathlib.Core.Bool.{Bool, true, false}
 use mathlib.Core.List.{List, [], ◌∷◌, ◌++◌}
-use mathlib.Core.Option.{Option, none, some}
 use native.Mathlib.Omega.{arith}
 use lib.Dec.{eqb}
 use lib.ListN.{length, drop, length-drop, drop_of_length-le}
@@ -39,13 +39,13 @@ Tells Goes whole p s piece q = LoopPre whole p s piece q
 abbrev pub LineTells : (whole : List Line → Replayed) (p piece : List ℕ) → Point × List ℕ → Type 0
 LineTells whole p piece r = Tells r.0.progress whole p r.1 piece r.0
 
-limited_step : (o : Option Replay) (R : Replay) → check_limits within o ≡ step R → o ≡ some R
+limited_step : (o : Option Replay) (R : Replay) → check_limits within o ≡ step R → o ≡ Some R
 unfolding check_limits
-limited_step none R e = absurd (let y : ◌≡◌ {A = ℕ} 0 1 = cc in omega arith)
-limited_step (some a) R e = by_limit (within a) e
+limited_step None R e = absurd (let y : ◌≡◌ {A = ℕ} 0 1 = cc in omega arith)
+limited_step (Some a) R e = by_limit (within a) e
   where
-    by_limit : (b : Bool) → ◌≡◌ {A = Outcome Replay} (when b then step a else past_limit) (step R) → some a ≡ some R
-    by_limit true e = ap some (let z : a ≡ R = cc in z)
+    by_limit : (b : Bool) → ◌≡◌ {A = Outcome Replay} (when b then step a else past_limit) (step R) → Some a ≡ Some R
+    by_limit true e = ap Some (let z : a ≡ R = cc in z)
     by_limit false e = absurd (let y : ◌≡◌ {A = ℕ} 0 1 = cc in omega arith)
 
 -- a text that is not empty has a line
@@ -107,8 +107,8 @@ module _ (whole : List Line → Replayed) (p s piece : List ℕ) (q : Point) (P 
       w = λ ls. ap (λ (x : List Line). play_from q.steps q.race R (x ++ ls)) (sym e) ∙ P.comes_to ls
 
       by_form : (o : Option TraceLine) → trace_line l ≡ o → LineTells whole p piece (line_done p s q (move_in (length piece) (line_at (drop q.at piece))))
-      by_form none z = rw (told, z) (rw z at w)
-      by_form (some m) z =
+      by_form None z = rw (told, z) (rw z at w)
+      by_form (Some m) z =
           rw (told, z)
           (by_answer (check_limits within (machine.stepped R m)) (stepped p s q.threads (stored m.thread) (stored m.choice)) (length piece - length r) rest (answers h m)
           (λ R' y. stepped_counts q.steps R R' m P.counts (limited_step (machine.stepped R m) R' y))

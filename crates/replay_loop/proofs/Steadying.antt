@@ -1,8 +1,8 @@
 -- A line that goes on leaves a point further in the piece, whose counts still have room, whatever the numbers hold.
+use Rattle.std.proofs.Common.{Option, None, Some}
 use Prim.Native.Nat.{ℕ, ◌-◌, ◌<◌, ◌≤◌}
 use mathlib.Core.Path.{◌≡◌, refl, subst}
 use mathlib.Core.List.{List, [], ◌∷◌}
-use mathlib.Core.Option.{Option, none, some}
 use native.Mathlib.Omega.{arith}
 use lib.ListN.{length, drop}
 use Rattle.spec.specs.Text.{Field}
@@ -45,20 +45,20 @@ module _ (p s piece : List ℕ) (q : Point) (S : Steady piece q) where
 
   by_numbers : (o : Option (List ℕ)) (next : ℕ) → q.at < next → next ≤ length piece → Leads piece q (line_done p s q (move_of o next))
   unfolding line_done move_of stopped_by
-  by_numbers none next further low = tt
-  by_numbers (some []) next further low = tt
-  by_numbers (some (t ∷ [])) next further low = tt
-  by_numbers (some (t ∷ c ∷ [])) next further low =
+  by_numbers None next further low = tt
+  by_numbers (Some []) next further low = tt
+  by_numbers (Some (t ∷ [])) next further low = tt
+  by_numbers (Some (t ∷ c ∷ [])) next further low =
       by_step (stepped p s q.threads (stored t) (stored c)) next (stepped_few p s q.threads (stored t) (stored c) S.few) further low
-  by_numbers (some (t ∷ c ∷ x ∷ xs)) next further low = tt
+  by_numbers (Some (t ∷ c ∷ x ∷ xs)) next further low = tt
 
   line_leads : Leads piece q (line_done p s q (move_in (length piece) (line_at (drop q.at piece))))
   unfolding line_done move_in stopped_by
   line_leads = by_line_lem (line_at (drop q.at piece)) refl
     where
       by_line_lem : (o : Option (List Field × List ℕ)) → line_at (drop q.at piece) ≡ o → Leads piece q (line_done p s q (move_in (length piece) o))
-      by_line_lem none e = tt
-      by_line_lem (some (fs, r)) e =
+      by_line_lem None e = tt
+      by_line_lem (Some (fs, r)) e =
           let rest = rest_at piece q.at fs r S.in_piece e in
           by_numbers (numerals fs) (length piece - length r) rest.further rest.in_text_lem
 

@@ -1,15 +1,16 @@
 -- The replay on the machine is the replay of crates/replay_theory, for every space, program and trace.
+use Rattle.std.proofs.Common.{Option, None as none, Some as some, option_map as map, Result, Ok, Err}
 use Prim.Native.Nat.{ℕ, suc, ◌+◌}
 use mathlib.Core.Path.{◌≡◌, refl, sym, ◌∙◌, ap}
 use mathlib.Core.Bool.{Bool, true, false, ◌&&◌}
-use mathlib.Core.Option.{Option, none, some, map}
 use mathlib.Core.List.{List, [], ◌∷◌}
 use native.Mathlib.Omega.{arith}
 use lib.Dec.{leb}
 use lib.ListN.{length}
+use Rattle.spec.specs.declared.Refusal.{Refusal}
 use Rattle.spec.specs.Choice.{when◌then◌else◌}
 use Rattle.spec.specs.Text.{Line, lines}
-use Rattle.spec.specs.Reading.{Result, refuse, ok}
+
 use Rattle.spec.specs.Program.{Program}
 use Rattle.spec.specs.WellFormed.{UsedInside}
 use Rattle.soundness.specs.Erasure.{erase_program}
@@ -167,9 +168,9 @@ pub machine_replays : (room : ℕ) (program_text trace_text : List ℕ) → repl
 unfolding replay replayed answer.replay answer.replayed start_replay
 machine_replays room program_text trace_text = by_cases (judged room program_text) refl
   where
-    by_cases : (o : Result Program) → judged room program_text ≡ o → replayed o (lines trace_text) ≡ answer.replayed o (lines trace_text)
-    by_cases (refuse r) q = refl
-    by_cases (ok P) q =
+    by_cases : (o : Result Program Refusal) → judged room program_text ≡ o → replayed o (lines trace_text) ≡ answer.replayed o (lines trace_text)
+    by_cases (Err r) q = refl
+    by_cases (Ok P) q =
         let w = judged_well_formed room program_text q in
         play_alike (start_replay P) (start_counted w) (lines trace_text)
         ∙ ap (λ (r : Run). answer.reported r (execution 1 r (lines trace_text))) (start_alike P (root_is_inside w))

@@ -1,10 +1,10 @@
 -- A replay on the machine, with its counts and what it has found so far: what the code runs. proofs/Replay shows that it is the replay of
 -- crates/replay_theory.
-use Rattle.std.specs.Prelude.{ℕ, ◌+◌, Bool, true, false, ◌&&◌, List, [], ◌∷◌, leb, length}
-use Rattle.std.proofs.Math.Option.{Option, none, some}
+use Rattle.std.specs.Prelude.{ℕ, ◌+◌, Bool, true, false, ◌&&◌, List, [], ◌∷◌, leb, length, Option, None as none, Some as some, Result, Ok, Err}
 use Rattle.std.proofs.Math.ListN.{get_elem?}
+use Rattle.spec.specs.declared.Refusal.{Refusal}
 use Rattle.spec.specs.Text.{Line, lines}
-use Rattle.spec.specs.Reading.{Result, refuse, ok}
+
 use Rattle.spec.specs.Program.{Program}
 use Rattle.calculus.specs.Expression.{Redex}
 use Rattle.calculus.specs.Reduction.{◌>>=◌}
@@ -96,9 +96,9 @@ play_from k race R (l ∷ ls) =
 unfoldable pub play : Replay → List Line → Replayed
 play R ls = play_from 0 (or_race None 0 (lowest_pair R)) R ls
 
-unfoldable pub replayed : Result Program → List Line → Replayed
-replayed (refuse r) ls = refused r
-replayed (ok P) ls = play (start_replay P) ls
+unfoldable pub replayed : Result Program Refusal → List Line → Replayed
+replayed (Err r) ls = refused r
+replayed (Ok P) ls = play (start_replay P) ls
 
 unfoldable pub replay : (room : ℕ) → (program_text trace_text : List ℕ) → Replayed
 replay room program_text trace_text = replayed (judged room program_text) (lines trace_text)

@@ -1,12 +1,13 @@
 -- What a report says: the first state with a race of the calculus, with its lowest pair; and none for a job that is accepted.
+use Rattle.std.proofs.Common.{None as none, Result, Ok, Err}
 use Prim.Native.Nat.{ℕ}
 use mathlib.Core.Path.{◌≡◌, refl, sym, ◌∙◌, ap, subst}
-use mathlib.Core.Option.{none}
 use mathlib.Core.List.{List, [], ◌∷◌}
 use native.Mathlib.Omega.{arith}
 use lib.ListN.{get_elem?}
+use Rattle.spec.specs.declared.Refusal.{Refusal}
 use Rattle.spec.specs.Text.{Line, lines}
-use Rattle.spec.specs.Reading.{Result, refuse, ok}
+
 use Rattle.spec.specs.Program.{Program}
 use Rattle.spec.proofs.Outcomes.{on_injective}
 use Rattle.spec.proofs.WellFormed.{well_formed_program}
@@ -68,13 +69,13 @@ module _ (r : Run) (proper : Proper r) (ls : List Line) where
 
 -- ---- Of two texts
 
-module _ (room : ℕ) (program_text trace_text : List ℕ) (P : Program) (read : judged room program_text ≡ ok P) where
+module _ (room : ℕ) (program_text trace_text : List ℕ) (P : Program) (read : judged room program_text ≡ Ok P) where
   abbrev start : Run
   start = start_run (erase_program P)
 
   played_as : replay room program_text trace_text ≡ reported start (execution 1 start (lines trace_text))
   unfolding replay replayed
-  played_as = ap (λ (o : Result Program). replayed o (lines trace_text)) read
+  played_as = ap (λ (o : Result Program Refusal). replayed o (lines trace_text)) read
 
   follows : Follows (runs_of P trace_text) (lines trace_text) (replay room program_text trace_text).report.steps
       (returned_for (replay room program_text trace_text).ending)
@@ -132,9 +133,9 @@ pub safe_text_has_no_race : (program_text : List ℕ) → SafeText program_text 
 unfolding replay replayed refused
 safe_text_has_no_race program_text safe room trace_text = by_cases (judged room program_text) refl
   where
-    by_cases : (o : Result Program) → judged room program_text ≡ o → (replayed o (lines trace_text)).report.race ≡ None
-    by_cases (refuse r) q = refl
-    by_cases (ok P) q =
+    by_cases : (o : Result Program Refusal) → judged room program_text ≡ o → (replayed o (lines trace_text)).report.race ≡ None
+    by_cases (Err r) q = refl
+    by_cases (Ok P) q =
         let same : P ≡ safe.P =
         on_injective (sym (well_formed_program program_text (judged_well_formed room program_text q)) ∙ well_formed_program program_text safe.program) in
         safe_replay_has_no_race (erase_program P) (subst (λ (Q : Program). Safe (erase_program Q)) (sym same) safe.holds) (lines trace_text)

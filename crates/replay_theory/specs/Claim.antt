@@ -4,12 +4,11 @@
 -- threads' numbers and how many threads there have been, and they say how each goes on. They are proved in proofs/Followed, proofs/Calls and
 -- proofs/Reported, and fit one report, one answer and one list of runs alone (Exact). Three parts are implied by the others of their record and
 -- are told for the reader: `running` and `puts_body` of a step (proofs/Implied), `races` of the first race (`told_is_race`, proofs/AtMostOneRace).
-use Rattle.std.specs.Prelude.{ℕ, suc, ◌+◌, ◌≤◌, ◌<◌, ◌≡◌, Bool, true, false, ◌&&◌, ◌⊎◌, List, [], ◌∷◌, ◌++◌, eqb, length, take}
-use Rattle.std.proofs.Math.Option.{Option, none, some}
+use Rattle.std.specs.Prelude.{ℕ, suc, ◌+◌, ◌≤◌, ◌<◌, ◌≡◌, Bool, true, false, ◌&&◌, ◌⊎◌, List, [], ◌∷◌, ◌++◌, eqb, length, take, Option, None as none, Some as some, Ok}
 use Rattle.std.proofs.Math.ListN.{get_elem?}
 use Rattle.spec.specs.Choice.{when◌then◌else◌}
 use Rattle.spec.specs.Text.{Line, lines}
-use Rattle.spec.specs.Reading.{ok}
+
 use Rattle.spec.specs.Program.{Program}
 use Rattle.spec.specs.Verdict.{verdict}
 use Rattle.spec.specs.declared.Answer.TheVariants.{Accept}
@@ -207,12 +206,12 @@ RaceReported rs (Found n i j) = FirstRaceIs rs n i j
 
 -- For the program that the sheet lists, once it is judged in a space of so many numbers: what the steps and the four numbers tell,
 abbrev pub TraceFollowed : (room : ℕ) (program_text trace_text : List ℕ) → (steps : ℕ) → Numbers → Type 0
-TraceFollowed room program_text trace_text steps answer = (P : Program) → judged room program_text ≡ ok P →
+TraceFollowed room program_text trace_text steps answer = (P : Program) → judged room program_text ≡ Ok P →
     Follows (runs_of P trace_text) (lines trace_text) steps answer
 
 -- what the race tells,
 abbrev pub RaceFound : (room : ℕ) (program_text trace_text : List ℕ) → FirstRace → Type 0
-RaceFound room program_text trace_text race = (P : Program) → judged room program_text ≡ ok P → RaceReported (runs_of P trace_text) race
+RaceFound room program_text trace_text race = (P : Program) → judged room program_text ≡ Ok P → RaceReported (runs_of P trace_text) race
 
 -- and "For an accepted job it never reports a race", with whatever split sheet it is accepted.
 abbrev pub NoneIfAccepted : (program_text : List ℕ) → FirstRace → Type 0

@@ -1,10 +1,10 @@
 -- Replays with what they come to, as tables; crates/replay_examples computes those that go to a limit. The bar (|) stands for byte 10.
-use Rattle.std.specs.Prelude.{ℕ, ◌≡◌, List, [], ◌∷◌, map}
+use Rattle.std.specs.Prelude.{ℕ, ◌≡◌, List, [], ◌∷◌, map, Option, Result, Ok, Err}
 use Prim.Native.String.{String, ◌++◌}
-use Rattle.std.proofs.Math.Option.{Option}
 use Rattle.std.proofs.Math.Decide.{ℕ_discrete, dec_lt}
+use Rattle.spec.specs.declared.Refusal.{Refusal}
 use Rattle.spec.specs.Text.{Line, lines}
-use Rattle.spec.specs.Reading.{Result, refuse, ok}
+
 use Rattle.spec.specs.Program.{Program}
 use Rattle.spec.specs.Pairs.KnownPairs.{barred, found, P}
 use Rattle.spec.specs.Pairs.EdgeSheets.{times}
@@ -249,9 +249,9 @@ called_rows =
 unfoldable pub two_finished : String
 two_finished = "P,12|let,0|newtid,0|let,1|spawn,0|var,0|int,0|let,2|spawn,0|var,0|int,0|join,0|var,0|"
 
-unfoldable pub steps_from : Result Program → List Line → List Run
-steps_from (refuse r) ls = []
-steps_from (ok P) ls = (execution 1 (start_run (erase_program P)) ls).0
+unfoldable pub steps_from : Result Program Refusal → List Line → List Run
+steps_from (Err r) ls = []
+steps_from (Ok P) ls = (execution 1 (start_run (erase_program P)) ls).0
 
 -- the records of threads 0 to 3 in the last state of a replay
 unfoldable pub last_records : List Run → List (Option Status)

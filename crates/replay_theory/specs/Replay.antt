@@ -1,9 +1,8 @@
 -- The answer of a replay, and its report, in the order 1; 10 to 15, 45 and 49; then line by line 46, 47, 48.
-use Rattle.std.specs.Prelude.{ℕ, ◌+◌, Bool, List, [], ◌∷◌, leb, length}
-use Rattle.std.proofs.Math.Option.{Option, none, some}
+use Rattle.std.specs.Prelude.{ℕ, ◌+◌, Bool, List, [], ◌∷◌, leb, length, Option, None as none, Some as some, Result, Ok, Err}
 use Rattle.spec.specs.Choice.{when◌then◌else◌}
 use Rattle.spec.specs.Text.{Line, lines}
-use Rattle.spec.specs.Reading.{Result, refuse, ok, ◌>>=◌, require}
+use Rattle.spec.specs.Reading.{◌>>=◌, require}
 use Rattle.spec.specs.Program.{Program, program, program_limit}
 use Rattle.spec.specs.Verdict.{returned}
 use Rattle.spec.specs.declared.Refusal.{Refusal}
@@ -74,15 +73,15 @@ unfoldable pub replay_space : ℕ
 replay_space = 542960
 
 -- "less is 1, before all else"; "The replay first judges the program sheet"
-unfoldable pub judged : (room : ℕ) → (program_text : List ℕ) → Result Program
+unfoldable pub judged : (room : ℕ) → (program_text : List ℕ) → Result Program Refusal
 judged room program_text = do
   enough ← require (leb replay_space room) ShortWorkspace
   fits ← require (leb (length program_text) program_limit) LongProgram
   program program_text
 
-unfoldable pub replayed : Result Program → List Line → Replayed
-replayed (refuse r) ls = refused r
-replayed (ok P) ls = let start = start_run (erase_program P) in reported start (execution 1 start ls)
+unfoldable pub replayed : Result Program Refusal → List Line → Replayed
+replayed (Err r) ls = refused r
+replayed (Ok P) ls = let start = start_run (erase_program P) in reported start (execution 1 start ls)
 
 -- the replay of a program and a trace, with a space of `room` numbers
 unfoldable pub replay : (room : ℕ) → (program_text trace_text : List ℕ) → Replayed

@@ -8,7 +8,8 @@ ghost use Rattle.rule_rows.specs.Table.{flows};
 
 use crate::StepView;
 use conditions::{Relation, flow};
-use spec::{MapNumber, Ruling};
+use spec::MapNumber;
+use workspace::Ruling;
 
 // a = b.
 pub fn equal(work: &[u32], s: StepView, condition: u32, a: MapNumber, b: MapNumber) -> Ruling

@@ -8,7 +8,7 @@ ghost use Rattle.conditions.specs.Outcome.{outcome};
 ghost use Rattle.rule_table.specs.Outcome.{step_outcome};
 
 use rule_rows::cell;
-use spec::Ruling;
+use workspace::Ruling;
 use table::check_rule;
 use workspace::{WORDS, rule_of};
 

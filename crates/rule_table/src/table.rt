@@ -14,7 +14,7 @@ use sequential_rules::{
     check_call, check_if, check_int, check_let, check_read, check_ref, check_var, check_while,
     check_write,
 };
-use spec::Ruling;
+use workspace::Ruling;
 use workspace::Rule;
 
 // The conditions of step k, which has the rule r; D is the denominator.

@@ -4,7 +4,8 @@ ghost use Rattle.conditions.specs.Outcome.{outcome, first_false_from};
 ghost use Rattle.rule_rows.specs.Table.{procedure_row};
 
 use conditions::{Relation, agrees, flow, type_false};
-use spec::{MapNumber, Ruling, Signature, TypeNumber};
+use spec::{MapNumber, Signature, TypeNumber};
+use workspace::Ruling;
 
 // A procedure with the signature g, whose body has this type and this post: 1 type of the body is result; 2 post of the body
 // ≥ after.

@@ -10,7 +10,8 @@ ghost use Rattle.rule_rows.specs.Table.{row_in};
 
 use conditions::{agrees, and_then, holds_at_least, may_show, type_false};
 use rule_rows::{StepView, at_least, equal, sum};
-use spec::{Ruling, TypeLine};
+use spec::TypeLine;
+use workspace::Ruling;
 use workspace::type_at;
 
 // VAR: 1 type is that of its let's e1, or for a lock a looser one; 2 post = pre.

@@ -1,11 +1,12 @@
 -- What the readers of the two sheets found, put together.
+use Rattle.std.proofs.Common.{Ok, Err}
 use mathlib.Core.Path.{◌≡◌}
 use mathlib.Core.Path.{subst as along}
 use mathlib.Core.List.{List}
 use Prim.Native.Nat.{ℕ, ◌≤◌, ◌<◌}
 use native.Mathlib.Omega.{arith}
 use lib.ListN.{length}
-use Rattle.spec.specs.Reading.{refuse, ok}
+
 use Rattle.spec.specs.Program.{Program, program_limit}
 use Rattle.spec.specs.Split.{Split, split_limit, split}
 use Rattle.spec.specs.WellFormed.{WellFormedProgram}
@@ -29,17 +30,17 @@ use Rattle.sheets.specs.declared.Reading.TheVariants.{Held, Refused}
 
 -- a program that is well formed, and the split's text
 module _ (purpose : Purpose) (p s : List ℕ) {P : Program} (F : WellFormedProgram p P) where
-  pub too_long : 65536 < length s → sheets purpose p s ≡ refuse LongSplit
+  pub too_long : 65536 < length s → sheets purpose p s ≡ Err LongSplit
   unfolding program_limit
   too_long h = long_split purpose p s F.fits P (well_formed_program p F) h
 
   module _ (fits : length s ≤ 65536) where
-    pub split_stops : {r : Refusal} → split purpose P s ≡ refuse r → sheets purpose p s ≡ refuse r
+    pub split_stops : {r : Refusal} → split purpose P s ≡ Err r → sheets purpose p s ≡ Err r
     unfolding program_limit
     split_stops e = split_refused purpose p s F.fits P (well_formed_program p F) fits _ e
 
     -- the split is read into the work space behind the program
-    pub both_held : {w w' : List ℕ} {n k : ℕ} (header : Header) {S : Split} → split purpose P s ≡ ok S
+    pub both_held : {w w' : List ℕ} {n k : ℕ} (header : Header) {S : Split} → split purpose P s ≡ Ok S
         → ChangedWithin row_types_at work_size w w' → HoldsProgram w P → HoldsSplit w' S → n ≡ length P.steps → n ≤ 256
         → k ≡ length P.procedures → k ≤ 16
         → S.header ≡ header → Small header → SheetsHeld purpose p s w' n k header
@@ -71,7 +72,7 @@ module _ (purpose : Purpose) (p s : List ℕ) {P : Program} (F : WellFormedProgr
 -- ------------------------------------------------------------------ what an answer says
 
 module _ (purpose : Purpose) (p s w : List ℕ) (answer : Reading) (told : SheetsAnswered purpose p s w answer) where
-  pub refused_by : {r : Refusal} → answer ≡ Refused r → sheets purpose p s ≡ refuse r
+  pub refused_by : {r : Refusal} → answer ≡ Refused r → sheets purpose p s ≡ Err r
   refused_by e = along (SheetsAnswered purpose p s w) e told
 
   pub held_by : {n k : ℕ} {header : Header} → answer ≡ Held n k header → SheetsHeld purpose p s w n k header

@@ -1,6 +1,6 @@
 -- What the answer to both sheets means: a refusal is that of the definition; else the work space holds what they say.
-use Rattle.std.specs.Prelude.{◌≡◌, List, ℕ, ◌≤◌, length}
-use Rattle.spec.specs.Reading.{refuse, ok}
+use Rattle.std.specs.Prelude.{◌≡◌, List, ℕ, ◌≤◌, length, Ok, Err}
+
 use Rattle.spec.specs.Program.{Program}
 use Rattle.spec.specs.Split.{Split}
 use Rattle.spec.specs.WellFormed.{WellFormedProgram}
@@ -23,7 +23,7 @@ pub record HoldsBoth (w : List ℕ) (header : Header) (steps procedures : ℕ) (
 pub record SheetsHeld (purpose : Purpose) (program_text split_text w : List ℕ) (steps procedures : ℕ) (header : Header) : Type 0 where
   pub P : Program
   pub S : Split
-  pub read : sheets purpose program_text split_text ≡ ok (P, S)
+  pub read : sheets purpose program_text split_text ≡ Ok (P, S)
   pub holds : HoldsBoth w header steps procedures P S
   pub few : steps ≤ 256
   pub few_procedures : procedures ≤ 16
@@ -31,7 +31,7 @@ pub record SheetsHeld (purpose : Purpose) (program_text split_text w : List ℕ)
 
 abbrev pub SheetsAnswered : Purpose → (program_text split_text w : List ℕ) → Reading → Type 0
 SheetsAnswered purpose program_text split_text w (Held steps procedures header) = SheetsHeld purpose program_text split_text w steps procedures header
-SheetsAnswered purpose program_text split_text w (Refused r) = sheets purpose program_text split_text ≡ refuse r
+SheetsAnswered purpose program_text split_text w (Refused r) = sheets purpose program_text split_text ≡ Err r
 
 -- ------------------------------------------------------------------ the split, for a program that is held
 

@@ -1,15 +1,16 @@
 -- Document 01's P, and a program with every word and two procedures, are run as the terms that they list, constants and all.
+use Rattle.std.proofs.Common.{Ok}
 use mathlib.Core.Path.{◌≡◌, refl}
 use mathlib.Core.List.{[], ◌∷◌}
 use Prim.Native.String.{String, ◌++◌}
-use Rattle.spec.specs.Reading.{ok, ◌>>=◌}
+use Rattle.spec.specs.Reading.{◌>>=◌}
 use Rattle.spec.specs.Program.{program}
 use Rattle.spec.specs.Pairs.KnownPairs.{barred, P, found}
 use Rattle.calculus.specs.Expression.{value as constant, int, var, let_in, if, while, spawn, write, unary, join, ref, read, lock, unlock, post, wait, hold, rdlock, rdunlock, wrlock, wrunlock, call, nullary, newtid, newlock, newsem, newrwlock}
 use Rattle.soundness.specs.Erasure.{erase, erase_program}
 
-pub P_is_run : (program (barred P) >>= λ p. ok (erase_program p))
-    ≡ ok (record {
+pub P_is_run : (program (barred P) >>= λ p. Ok (erase_program p))
+    ≡ Ok (record {
       procedures = [];
       root = let_in 0 (unary ref (constant (int 0)))
           (let_in 1 (nullary newtid)
@@ -28,8 +29,8 @@ every_word =
     ++ "let,8|lock,0|var,2|let,9|unlock,0|var,2|let,10|post,0|var,3|let,11|wait,0|var,3|"
     ++ "let,12|rdlock,0|var,4|let,13|rdunlock,0|var,4|let,14|wrlock,0|var,4|let,15|wrunlock,0|var,4|let,16|join,0|var,5|while,0|int,9|"
 
-pub every_word_is_run : (program (barred every_word) >>= λ p. ok (erase_program p))
-    ≡ ok (record {
+pub every_word_is_run : (program (barred every_word) >>= λ p. Ok (erase_program p))
+    ≡ Ok (record {
       procedures = record { parameter = 0; body = if (unary read (var 0)) (constant (int 7)) }
           ∷ record { parameter = 1; body = write (var 1) (unary (call 0) (var 1)) }
           ∷ [];

@@ -1,10 +1,11 @@
 -- Demand 2: a pair is accepted exactly when it is right and the work space is large enough.
+use Rattle.std.proofs.Common.{Result, Ok, Err}
 use mathlib.Core.Path.{◌≡◌, refl, ap}
 use mathlib.Core.List.{List}
 use mathlib.Core.Logic.{◌↔◌}
 use Prim.Native.Nat.{ℕ, ◌≤◌}
 use native.Mathlib.Omega.{arith}
-use Rattle.spec.specs.Reading.{Result, refuse, ok}
+use Rattle.spec.specs.declared.Refusal.{Refusal}
 use Rattle.spec.specs.Workspace.{workspace_size}
 use Rattle.spec.specs.Verdict.{conditions_hold, checked, answer, verdict}
 use Rattle.spec.specs.Accepted.{Right}
@@ -12,14 +13,14 @@ use Rattle.spec.specs.declared.Answer.TheVariants.{Accept}
 use Rattle.spec.proofs.Figure5.{conditions_derive, derivation_meets_conditions}
 use Rattle.spec.proofs.Reached.{Reached, reached, reached_checked}
 
-pub accept_goes_on : (o : Result (Unit {0})) → answer o ≡ Accept → o ≡ ok tt
+pub accept_goes_on : (o : Result (Unit {0}) Refusal) → answer o ≡ Accept → o ≡ Ok tt
 unfolding answer
-accept_goes_on (refuse r) h = let clash : ◌≡◌ {A = ℕ} 0 1 = cc in absurd (omega arith)
-accept_goes_on (ok t) h = refl
+accept_goes_on (Err r) h = let clash : ◌≡◌ {A = ℕ} 0 1 = cc in absurd (omega arith)
+accept_goes_on (Ok t) h = refl
 
-accepted_reached : (room : ℕ) (p s : List ℕ) → verdict room p s ≡ Accept → Reached room p s (ok tt)
+accepted_reached : (room : ℕ) (p s : List ℕ) → verdict room p s ≡ Accept → Reached room p s (Ok tt)
 unfolding verdict
-accepted_reached room p s h = reached room p s (ok tt) tt (accept_goes_on (checked room p s) h)
+accepted_reached room p s h = reached room p s (Ok tt) tt (accept_goes_on (checked room p s) h)
 
 pub accepted_has_room : (room : ℕ) (p s : List ℕ) → verdict room p s ≡ Accept → workspace_size ≤ room
 accepted_has_room room p s h = (accepted_reached room p s h).enough
@@ -39,7 +40,7 @@ accepted_is_right room p s h =
 
 pub right_is_accepted : (room : ℕ) (p s : List ℕ) → workspace_size ≤ room → Right p s → verdict room p s ≡ Accept
 unfolding verdict answer conditions_hold
-right_is_accepted room p s enough r = ap answer (reached_checked room p s (ok tt) (record {
+right_is_accepted room p s enough r = ap answer (reached_checked room p s (Ok tt) (record {
   P = r.P;
   S = r.S;
   enough = enough;

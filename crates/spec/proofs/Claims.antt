@@ -1,11 +1,11 @@
 -- No claim of a list is false exactly when all of them hold; else the first that is false is named, and no other.
+use Rattle.std.proofs.Common.{None, Some, Result, Ok, Err}
 use mathlib.Core.Path.{◌≡◌, refl, ap, sym, ◌∙◌, subst}
 use mathlib.Core.List.{List, [], ◌∷◌, ◌++◌, append_assoc}
 use mathlib.Core.Bool.{Bool, true, false}
-use mathlib.Core.Option.{none, some}
 use Prim.Native.Nat.{ℕ}
 use Rattle.spec.specs.Choice.{when◌then◌else◌}
-use Rattle.spec.specs.Reading.{Result, refuse, ok, ◌>>=◌}
+use Rattle.spec.specs.Reading.{◌>>=◌}
 use Rattle.spec.specs.Split.{Split}
 use Rattle.spec.specs.Conditions.{Condition, T, F, A}
 use Rattle.spec.specs.StepContexts.{StepContext, NumberedCondition, claims, claims_at, judge, first_false, only}
@@ -16,16 +16,16 @@ use Rattle.spec.proofs.Outcomes.{stop_is_not_on, stop_injective, bind_goes_on, g
 
 -- ------------------------------------------------------------------ one condition
 
-judged_holds : {t : Unit {0}} (k i : ℕ) (c : Condition) → judge k i c ≡ ok t → Holds c
+judged_holds : {t : Unit {0}} (k i : ℕ) (c : Condition) → judge k i c ≡ Ok t → Holds c
 unfolding judge Holds
 judged_holds k i (T true) h = refl
 judged_holds k i (T false) h = stop_is_not_on h
-judged_holds k i (F none) h = refl
-judged_holds k i (F (some l)) h = stop_is_not_on h
+judged_holds k i (F None) h = refl
+judged_holds k i (F (Some l)) h = stop_is_not_on h
 judged_holds k i (A true p) h = refl
 judged_holds k i (A false p) h = stop_is_not_on h
 
-holds_judged : (k i : ℕ) (c : Condition) → Holds c → judge k i c ≡ ok tt
+holds_judged : (k i : ℕ) (c : Condition) → Holds c → judge k i c ≡ Ok tt
 unfolding judge Holds
 holds_judged k i (T b) h = rw h
 holds_judged k i (F o) h = rw h
@@ -33,14 +33,14 @@ holds_judged k i (A b p) h = rw h
 
 -- ------------------------------------------------------------------ a list of claims
 
-pub none_false_all_hold : {t : Unit {0}} (cs : List NumberedCondition) → first_false cs ≡ ok t → AllHold cs
+pub none_false_all_hold : {t : Unit {0}} (cs : List NumberedCondition) → first_false cs ≡ Ok t → AllHold cs
 unfolding first_false AllHold
 none_false_all_hold [] h = tt
 none_false_all_hold (c ∷ cs) h =
     let b = bind_goes_on _ _ h in
     (judged_holds _ _ _ b.1, none_false_all_hold cs b.2)
 
-pub all_hold_none_false : (cs : List NumberedCondition) → AllHold cs → first_false cs ≡ ok tt
+pub all_hold_none_false : (cs : List NumberedCondition) → AllHold cs → first_false cs ≡ Ok tt
 unfolding first_false AllHold
 all_hold_none_false [] h = refl
 all_hold_none_false (c ∷ cs) h = goes_on_bind _ _ (holds_judged _ _ _ h.0) (all_hold_none_false cs h.1)
@@ -126,26 +126,26 @@ one_first {r = r} same f g =
 
 -- ------------------------------------------------------------------ the first false one
 
-judged_false : {r : Refusal} (k i : ℕ) (c : Condition) → judge k i c ≡ refuse r → (Holds c → ⊥) × Names k i c r
+judged_false : {r : Refusal} (k i : ℕ) (c : Condition) → judge k i c ≡ Err r → (Holds c → ⊥) × Names k i c r
 unfolding judge Holds
 judged_false k i (T true) h = stop_is_not_on (sym h)
 judged_false k i (T false) h = (λ t. true_is_not_false (sym t), subst (λ s. Names k i (T false) s) (stop_injective h) type)
-judged_false k i (F none) h = stop_is_not_on (sym h)
-judged_false k i (F (some l)) h = (λ n. none_is_not_some (sym n), subst (λ s. Names k i (F (some l)) s) (stop_injective h) flow)
+judged_false k i (F None) h = stop_is_not_on (sym h)
+judged_false k i (F (Some l)) h = (λ n. none_is_not_some (sym n), subst (λ s. Names k i (F (Some l)) s) (stop_injective h) flow)
 judged_false k i (A true p) h = stop_is_not_on (sym h)
 judged_false k i (A false p) h = (λ t. true_is_not_false (sym t), subst (λ s. Names k i (A false p) s) (stop_injective h) access)
 
-pub stopped_first_false : {r : Refusal} (cs : List NumberedCondition) → first_false cs ≡ refuse r → FirstFalse cs r
+pub stopped_first_false : {r : Refusal} (cs : List NumberedCondition) → first_false cs ≡ Err r → FirstFalse cs r
 unfolding first_false ◌>>=◌ AllHold
 stopped_first_false [] h = stop_is_not_on (sym h)
 stopped_first_false (c ∷ cs) h = go (judge c.line c.number c.condition) refl h (stopped_first_false cs)
   where
-    go : {r : Refusal} (o : Result (Unit {0})) → judge c.line c.number c.condition ≡ o → (o >>= λ holds. first_false cs) ≡ refuse r
-        → (first_false cs ≡ refuse r → FirstFalse cs r) → FirstFalse (c ∷ cs) r
-    go (refuse s) e h rest =
+    go : {r : Refusal} (o : Result (Unit {0}) Refusal) → judge c.line c.number c.condition ≡ o → (o >>= λ holds. first_false cs) ≡ Err r
+        → (first_false cs ≡ Err r → FirstFalse cs r) → FirstFalse (c ∷ cs) r
+    go (Err s) e h rest =
         let f = judged_false _ _ _ (e ∙ h) in
         record { before = []; here = c; after = cs; parted = refl; hold_before = tt; is_false = f.0; named = f.1 }
-    go (ok t) e h rest =
+    go (Ok t) e h rest =
         let f = rest h in
         record {
           before = c ∷ f.before;
@@ -158,16 +158,16 @@ stopped_first_false (c ∷ cs) h = go (judge c.line c.number c.condition) refl h
         }
 
 -- and back
-false_judged : {k i : ℕ} {c : Condition} {r : Refusal} → Names k i c r → (Holds c → ⊥) → judge k i c ≡ refuse r
+false_judged : {k i : ℕ} {c : Condition} {r : Refusal} → Names k i c r → (Holds c → ⊥) → judge k i c ≡ Err r
 unfolding judge Holds
 false_judged (type {b}) h = rw (not_true_false b h)
 false_judged flow h = refl
 false_judged (access {b}) h = rw (not_true_false b h)
 
-pub first_false_stopped : {r : Refusal} {all : List NumberedCondition} → FirstFalse all r → first_false all ≡ refuse r
+pub first_false_stopped : {r : Refusal} {all : List NumberedCondition} → FirstFalse all r → first_false all ≡ Err r
 unfolding first_false AllHold ◌>>=◌
 first_false_stopped {r} f = ap first_false f.parted ∙ past f.before f.hold_before
   where
-    past : (before : List NumberedCondition) → AllHold before → first_false (before ++ f.here ∷ f.after) ≡ refuse r
+    past : (before : List NumberedCondition) → AllHold before → first_false (before ++ f.here ∷ f.after) ≡ Err r
     past [] h = ap (λ o. o >>= λ holds. first_false f.after) (false_judged f.named f.is_false)
     past (c ∷ cs) h = goes_on_bind _ _ (holds_judged _ _ _ h.0) (past cs h.1)

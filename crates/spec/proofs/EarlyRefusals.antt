@@ -1,13 +1,13 @@
 -- Whatever is refused before the conditions are judged is no refusal on the conditions.
+use Rattle.std.proofs.Common.{Option, None, Some, Result, Ok, Err}
 use mathlib.Core.Path.{◌≡◌, refl, ap, sym, ◌∙◌}
 use mathlib.Core.List.{List, [], ◌∷◌}
 use mathlib.Core.Bool.{Bool, true, false}
-use mathlib.Core.Option.{Option, none, some}
 use Prim.Native.Nat.{ℕ, zero, suc, ◌+◌}
 use lib.Dec.{ltb}
 use Rattle.spec.specs.Choice.{when◌then◌else◌}
 use Rattle.spec.specs.Text.{Line, closed, unclosed, Field, fields}
-use Rattle.spec.specs.Reading.{Result, refuse, ok, ◌>>=◌, require, Fault, bad_form, bad_range, no_start, freelock, no_kept, LineResult, good, bad, SheetName, program_sheet, split_sheet, form, outside, miscounted, faulty, Place, passed, next_line, read_line, read_lines, begin, end}
+use Rattle.spec.specs.Reading.{◌>>=◌, require, Fault, bad_form, bad_range, no_start, freelock, no_kept, LineResult, good, bad, SheetName, program_sheet, split_sheet, form, outside, miscounted, faulty, Place, passed, next_line, read_line, read_lines, begin, end}
 use Rattle.spec.specs.Expression.{Expr, leaf, unary, binary, size, Item, step, proc, first_listed, expression, no_line_left, Procedure, structure, among, scope_step, scope, scopes}
 use Rattle.spec.specs.Program.{Program, program}
 use Rattle.spec.specs.Split.{Split, split}
@@ -27,38 +27,38 @@ abbrev pub number_of : Refusal → ℕ
 number_of r = (returned (Refuse r)).number
 
 -- an outcome that, if it is stopped, is stopped by something else than a condition
-abbrev pub Early : {A : Type 0} → Result A → Type 0
-Early (refuse r) = on_conditions (number_of r) ≡ false
-Early (ok a) = Unit {0}
+abbrev pub Early : {A : Type 0} → Result A Refusal → Type 0
+Early (Err r) = on_conditions (number_of r) ≡ false
+Early (Ok a) = Unit {0}
 
-pub early_bind : {A B : Type 0} (m : Result A) (f : A → Result B) → Early m → ((a : A) → Early (f a)) → Early (m >>= f)
+pub early_bind : {A B : Type 0} (m : Result A Refusal) (f : A → Result B Refusal) → Early m → ((a : A) → Early (f a)) → Early (m >>= f)
 unfolding ◌>>=◌
-early_bind (refuse r) f p q = p
-early_bind (ok a) f p q = q a
+early_bind (Err r) f p q = p
+early_bind (Ok a) f p q = q a
 
 pub early_demand : (b : Bool) (r : Refusal) → on_conditions (number_of r) ≡ false → Early (require b r)
 unfolding require
 early_demand true r h = tt
 early_demand false r h = h
 
-early_choice : {A : Type 0} (b : Bool) (x y : Result A) → Early x → Early y → Early (when b then x else y)
+early_choice : {A : Type 0} (b : Bool) (x y : Result A Refusal) → Early x → Early y → Early (when b then x else y)
 early_choice true x y p q = p
 early_choice false x y p q = q
 
 -- an outcome that goes on, or is stopped by a condition
-abbrev pub Late : {A : Type 0} → Result A → Type 0
-Late (refuse r) = on_conditions (number_of r) ≡ true
-Late (ok a) = Unit {0}
+abbrev pub Late : {A : Type 0} → Result A Refusal → Type 0
+Late (Err r) = on_conditions (number_of r) ≡ true
+Late (Ok a) = Unit {0}
 
 -- a late outcome comes from what follows an early one, which goes on
-pub past : {A B C : Type 0} (o : Result B) (m : Result A) (f : A → Result B) → Early m → Late o → (m >>= f) ≡ o
-    → ((a : A) → m ≡ ok a → f a ≡ o → C) → C
+pub past : {A B C : Type 0} (o : Result B Refusal) (m : Result A Refusal) (f : A → Result B Refusal) → Early m → Late o → (m >>= f) ≡ o
+    → ((a : A) → m ≡ Ok a → f a ≡ o → C) → C
 unfolding ◌>>=◌
-past (refuse r) (refuse s) f early late h go =
+past (Err r) (Err s) f early late h go =
     true_is_not_false (sym late ∙ ap (λ q. on_conditions (number_of q)) (sym (stop_injective h)) ∙ early)
-past (ok b) (refuse s) f early late h go = stop_is_not_on h
-past (refuse r) (ok a) f early late h go = go a refl h
-past (ok b) (ok a) f early late h go = go a refl h
+past (Ok b) (Err s) f early late h go = stop_is_not_on h
+past (Err r) (Ok a) f early late h go = go a refl h
+past (Ok b) (Ok a) f early late h go = go a refl h
 
 -- ------------------------------------------------------------------ lines
 
@@ -143,9 +143,9 @@ structure_early last (suc k) i (proc x l ∷ items) =
 module _ (count : ℕ) where
   step_early : (r : Role) (k v : ℕ) (inside bound : List ℕ) → Early (scope_step count r k v inside bound)
   unfolding scope_step returned numbers4 on_conditions
-  step_early Binds k v inside bound = early_choice (among v bound) (refuse (Rebound k)) (ok (v ∷ bound)) refl tt
-  step_early Uses k v inside bound = early_choice (among v inside) (ok bound) (refuse (Unbound k)) tt refl
-  step_early Calls k f inside bound = early_choice (ltb f count) (ok bound) (refuse (NoProcedure k)) tt refl
+  step_early Binds k v inside bound = early_choice (among v bound) (Err (Rebound k)) (Ok (v ∷ bound)) refl tt
+  step_early Uses k v inside bound = early_choice (among v inside) (Ok bound) (Err (Unbound k)) tt refl
+  step_early Calls k f inside bound = early_choice (ltb f count) (Ok bound) (Err (NoProcedure k)) tt refl
   step_early Neither k v inside bound = tt
 
   scope_early : (e : Expr) (inside bound : List ℕ) → Early (scope count e inside bound)
@@ -196,8 +196,8 @@ locks_early S = all_take_enough_early S 2 S.types
 
 over_early : (k : ℕ) (o : Option ℕ) → Early (refuse_over k o)
 unfolding refuse_over returned numbers4 on_conditions
-over_early k none = tt
-over_early k (some l) = refl
+over_early k None = tt
+over_early k (Some l) = refl
 
 pub start_early : (P : Program) (S : Split) → Early (start_at_most_one P S)
 unfolding start_at_most_one

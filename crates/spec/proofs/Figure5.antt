@@ -1,11 +1,11 @@
 -- No condition is false exactly when the split's types and maps are derived by Figure 5, for each body and for the root.
 -- A step's own conditions and those of its parts are taken apart and put together by the laws of Claims; each rule then
 -- is its row of the table, read one way or the other.
+use Rattle.std.proofs.Common.{Ok}
 use mathlib.Core.Path.{◌≡◌}
 use mathlib.Core.List.{List, [], ◌∷◌}
 use Prim.Native.Nat.{ℕ, ◌+◌}
 use borrow.Author.Tests.{leb-true, ltb-true}
-use Rattle.spec.specs.Reading.{ok}
 use Rattle.spec.specs.Words.{role, binding, pre_of_part, pre_of_second}
 use Rattle.spec.specs.Expression.{Position, Expr, leaf, unary, binary, Procedure}
 use Rattle.spec.specs.Program.{Program}
@@ -238,7 +238,7 @@ module _ (S : Split) where
 
   -- ------------------------------------------------------------------ the theorem, both ways
 
-  pub conditions_derive : {t : Unit {0}} (P : Program) → first_false (claims_of S P) ≡ ok t
+  pub conditions_derive : {t : Unit {0}} (P : Program) → first_false (claims_of S P) ≡ Ok t
       → BodiesDerive S 0 P.procedures × Derives S [] (start_map S) P.root
   unfolding claims_of
   conditions_derive P h =
@@ -246,7 +246,7 @@ module _ (S : Split) where
       (holding_bodies 0 P.procedures bodies, holding_derives P.root [] (start_map S) root)
 
   pub derivation_meets_conditions : (P : Program) → BodiesDerive S 0 P.procedures → Derives S [] (start_map S) P.root
-      → first_false (claims_of S P) ≡ ok tt
+      → first_false (claims_of S P) ≡ Ok tt
   unfolding claims_of
   derivation_meets_conditions P bodies root =
       all_hold_none_false _ (all_hold_append (claims_of_procedures S 0 P.procedures) _ (bodies_hold bodies) (derived_holds root))

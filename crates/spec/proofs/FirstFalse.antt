@@ -1,10 +1,10 @@
 -- A refusal 31 to 33 names the first condition, by line and then by number, that is false; and each such pair gets one.
+use Rattle.std.proofs.Common.{Result, Ok, Err}
 use mathlib.Core.Path.{◌≡◌, refl, ap}
 use mathlib.Core.List.{List}
 use mathlib.Core.Bool.{true}
 use Prim.Native.Nat.{ℕ, ◌≤◌}
 use native.Mathlib.Omega.{arith}
-use Rattle.spec.specs.Reading.{Result, refuse, ok}
 use Rattle.spec.specs.Conditions.{Condition}
 use Rattle.spec.specs.StepContexts.{claims_of}
 use Rattle.spec.specs.Workspace.{workspace_size}
@@ -18,16 +18,16 @@ use Rattle.spec.proofs.StepLines.{items_rise}
 use Rattle.spec.proofs.Order.{claims_in_order}
 use Rattle.spec.proofs.Reached.{reached, reached_checked}
 
-refused_stopped : {r : Refusal} (o : Result (Unit {0})) → answer o ≡ Refuse r → o ≡ refuse r
+refused_stopped : {r : Refusal} (o : Result (Unit {0}) Refusal) → answer o ≡ Refuse r → o ≡ Err r
 unfolding answer
-refused_stopped {r} (refuse s) h = let same : s ≡ r = cc in ap refuse same
-refused_stopped (ok t) h = let clash : ◌≡◌ {A = ℕ} 0 1 = cc in absurd (omega arith)
+refused_stopped {r} (Err s) h = let same : s ≡ r = cc in ap Err same
+refused_stopped (Ok t) h = let clash : ◌≡◌ {A = ℕ} 0 1 = cc in absurd (omega arith)
 
 pub refusal_names_first_false : (room : ℕ) (p s : List ℕ) (r : Refusal) → verdict room p s ≡ Refuse r → on_conditions (returned (Refuse r)).number ≡ true
     → Refuted p s r
 unfolding verdict conditions_hold
 refusal_names_first_false room p s r h late =
-    let c = reached room p s (refuse r) late (refused_stopped (checked room p s) h) in
+    let c = reached room p s (Err r) late (refused_stopped (checked room p s) h) in
     record {
       P = c.P;
       S = c.S;
@@ -38,7 +38,7 @@ refusal_names_first_false room p s r h late =
 
 pub first_false_is_refused : (room : ℕ) (p s : List ℕ) (r : Refusal) → workspace_size ≤ room → Refuted p s r → verdict room p s ≡ Refuse r
 unfolding verdict answer conditions_hold
-first_false_is_refused room p s r enough f = ap answer (reached_checked room p s (refuse r) (record {
+first_false_is_refused room p s r enough f = ap answer (reached_checked room p s (Err r) (record {
   P = f.P;
   S = f.S;
   enough = enough;

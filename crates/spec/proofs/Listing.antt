@@ -1,11 +1,11 @@
 -- The procedures and the root are the ones that the lines list, each expression in prefix order.
+use Rattle.std.proofs.Common.{Ok}
 use mathlib.Core.Path.{◌≡◌, refl, ap, sym, ◌∙◌, subst}
 use mathlib.Core.List.{List, [], ◌∷◌, ◌++◌, map, append_assoc, append-nil}
 use Prim.Native.Nat.{ℕ, zero, suc, ◌+◌, ◌≤◌}
 use native.Mathlib.Omega.{arith}
 use lib.ListN.{length, drop, length-append}
 use lib.Seq.{drop-append_seam}
-use Rattle.spec.specs.Reading.{ok}
 use Rattle.spec.specs.Expression.{Step, Expr, leaf, unary, binary, size, with_parts, listed, Item, step, proc, steps_among, leading, first_listed, expression, no_line_left, Procedure, structure}
 use Rattle.spec.specs.WellFormed.{prefix, IndexesFrom, items_of, listing, NumberedFrom}
 use Rattle.spec.specs.declared.Word.{Word}
@@ -106,7 +106,7 @@ leading_front (proc x k ∷ items) (s ∷ ss) rest h = let clash : ◌≡◌ {A 
 
 -- ------------------------------------------------------------------ one expression among the lines
 
-pub expression_listed : (last i : ℕ) (e : Expr) (rest : List Item) → IndexesFrom i e → expression last i (items_of e ++ rest) ≡ ok (e, rest)
+pub expression_listed : (last i : ℕ) (e : Expr) (rest : List Item) → IndexesFrom i e → expression last i (items_of e ++ rest) ≡ Ok (e, rest)
 unfolding expression first_listed items_of
 expression_listed last i e rest f =
     let found : listed i (leading (map step (prefix e) ++ rest)) ≡ e ∷ listed (i + size e) (leading rest) =
@@ -116,7 +116,7 @@ expression_listed last i e rest f =
     rw (found, behind)
 
 first_lists : {e : Expr} {rest : List Item} (last i : ℕ) (items : List Item) (es : List Expr) → Lists i (leading items) es
-    → first_listed last items es ≡ ok (e, rest) → (items ≡ items_of e ++ rest) × IndexesFrom i e
+    → first_listed last items es ≡ Ok (e, rest) → (items ≡ items_of e ++ rest) × IndexesFrom i e
 unfolding first_listed items_of
 first_lists last i items [] l h = stop_is_not_on h
 first_lists last i items (x ∷ es) (finished {rest = behind} q f l) h =
@@ -124,14 +124,14 @@ first_lists last i items (x ∷ es) (finished {rest = behind} q f l) h =
     leading_front items (prefix x) behind q ∙ ap (λ n. map step (prefix x) ++ drop n items) (prefix_length x) in
     subst (λ (r : Expr × List Item). (items ≡ map step (prefix r.0) ++ r.1) × IndexesFrom i r.0) (on_injective h) (front, f)
 
-pub listed_expression : {e : Expr} {rest : List Item} (last i : ℕ) (items : List Item) → expression last i items ≡ ok (e, rest)
+pub listed_expression : {e : Expr} {rest : List Item} (last i : ℕ) (items : List Item) → expression last i items ≡ Ok (e, rest)
     → (items ≡ items_of e ++ rest) × IndexesFrom i e
 unfolding expression
 listed_expression last i items h = first_lists last i items (listed i (leading items)) (lists i (leading items)) h
 
 -- ------------------------------------------------------------------ procedures and the root
 
-none_left : {t : Unit {0}} (items : List Item) → no_line_left items ≡ ok t → items ≡ []
+none_left : {t : Unit {0}} (items : List Item) → no_line_left items ≡ Ok t → items ≡ []
 unfolding no_line_left
 none_left [] h = refl
 none_left (x ∷ items) h = stop_is_not_on h
@@ -157,7 +157,7 @@ procedure_lists k i x l items rest e ps root all indexes behind = record {
   counted = ap suc behind.counted;
 }
 
-pub structure_lists : {ps : List Procedure} {root : Expr} (last k i : ℕ) (items : List Item) → structure last k i items ≡ ok (ps, root)
+pub structure_lists : {ps : List Procedure} {root : Expr} (last k i : ℕ) (items : List Item) → structure last k i items ≡ Ok (ps, root)
     → Listed k i items ps root
 unfolding structure
 structure_lists last zero i items h =
@@ -175,7 +175,7 @@ structure_lists last (suc k) i (proc x l ∷ items) h =
     (procedure_lists k i x l items rest e ps root all indexes (structure_lists last k (i + size e) rest h₂))
 
 pub listing_structured : (last i : ℕ) (ps : List Procedure) (root : Expr) → NumberedFrom i ps root
-    → structure last (length ps) i (listing ps root) ≡ ok (ps, root)
+    → structure last (length ps) i (listing ps root) ≡ Ok (ps, root)
 unfolding structure listing NumberedFrom no_line_left
 listing_structured last i [] root f =
     goes_on_bind _ _ (ap (expression last i) (sym (append-nil (items_of root))) ∙ expression_listed last i root [] f) (goes_on_bind _ _ refl refl)

@@ -1,4 +1,5 @@
 -- 44 is passed exactly when the out of each lock line is nowhere below its in.
+use Rattle.std.proofs.Common.{Ok}
 use mathlib.Core.Path.{◌≡◌, refl}
 use mathlib.Core.List.{List, [], ◌∷◌}
 use mathlib.Core.Bool.{Bool, true, false}
@@ -6,7 +7,6 @@ use Prim.Native.Nat.{ℕ, zero, suc, ◌+◌}
 use native.Mathlib.Omega.{arith}
 use lib.ListN.{get_or}
 use Rattle.spec.specs.Choice.{when◌then◌else◌}
-use Rattle.spec.specs.Reading.{ok}
 use Rattle.spec.specs.Split.{Split, type_at, map_at}
 use Rattle.spec.specs.Maps.{◌≥ᵐ◌, holds_everywhere}
 use Rattle.spec.specs.Kinds.{lock, same_kind, is, first_map, second_map}
@@ -38,21 +38,21 @@ module _ (S : Split) where
       by_kind true e = none_nowhere (map_at S (second_map x) ≥ᵐ map_at S (first_map x)) (covers_none (h (first_map x) (second_map x) (is_of lock x e)))
       by_kind false e = refl
 
-  all_enough : {t : Unit {0}} (k : ℕ) (xs : List TypeLine) → all_take_enough S k xs ≡ ok t → (n : ℕ) → Enough (get_or xs n declared_type.Int)
+  all_enough : {t : Unit {0}} (k : ℕ) (xs : List TypeLine) → all_take_enough S k xs ≡ Ok t → (n : ℕ) → Enough (get_or xs n declared_type.Int)
   unfolding all_take_enough
   all_enough k [] h n = λ i o e. let clash : ◌≡◌ {A = ℕ} 0 1 = cc in absurd (omega arith)
   all_enough k (x ∷ xs) h zero = line_enough x (demand_goes_on _ _ (bind_goes_on _ _ h).1)
   all_enough k (x ∷ xs) h (suc n) = all_enough (k + 1) xs (bind_goes_on _ _ h).2 n
 
-  enough_all : (k : ℕ) (xs : List TypeLine) → ((n : ℕ) → Enough (get_or xs n declared_type.Int)) → all_take_enough S k xs ≡ ok tt
+  enough_all : (k : ℕ) (xs : List TypeLine) → ((n : ℕ) → Enough (get_or xs n declared_type.Int)) → all_take_enough S k xs ≡ Ok tt
   unfolding all_take_enough
   enough_all k [] h = refl
   enough_all k (x ∷ xs) h = goes_on_bind _ _ (goes_on_demand _ (LockTakesLess k) (enough_line x (h 0))) (enough_all (k + 1) xs (λ n. h (suc n)))
 
-  pub locks_take_enough_lem : {t : Unit {0}} → locks_take_enough S ≡ ok t → LocksTakeEnough S
+  pub locks_take_enough_lem : {t : Unit {0}} → locks_take_enough S ≡ Ok t → LocksTakeEnough S
   unfolding locks_take_enough type_at
   locks_take_enough_lem h t = all_enough 2 S.types h t.0
 
-  pub enough_taken : LocksTakeEnough S → locks_take_enough S ≡ ok tt
+  pub enough_taken : LocksTakeEnough S → locks_take_enough S ≡ Ok tt
   unfolding locks_take_enough type_at
   enough_taken h = enough_all 2 S.types (λ n. h (record { 0 = n }))

@@ -1,8 +1,8 @@
 -- What the comparisons of maps find: nothing exactly when the maps compare as they should, else the lowest failing location.
+use Rattle.std.proofs.Common.{Option, None, Some}
 use mathlib.Core.Path.{◌≡◌, refl, sym, ◌∙◌}
 use mathlib.Core.List.{[], ◌∷◌}
 use mathlib.Core.Bool.{Bool, true, false}
-use mathlib.Core.Option.{Option, none, some}
 use Prim.Native.Nat.{ℕ, zero, suc, ◌+◌, ◌*◌, ◌<◌, ◌≤◌, max}
 use native.Mathlib.Nat.{mul-zero}
 use native.Mathlib.Omega.{arith}
@@ -18,20 +18,20 @@ use Rattle.spec.proofs.Clashes.{true_is_not_false, none_is_not_some, not_true_fa
 
 -- ------------------------------------------------------------------ nothing fails
 
-pub nowhere_none : (o : Option ℕ) → holds_everywhere o ≡ true → o ≡ none
+pub nowhere_none : (o : Option ℕ) → holds_everywhere o ≡ true → o ≡ None
 unfolding holds_everywhere
-nowhere_none none h = refl
-nowhere_none (some l) h = true_is_not_false (sym h)
+nowhere_none None h = refl
+nowhere_none (Some l) h = true_is_not_false (sym h)
 
-pub none_nowhere : (o : Option ℕ) → o ≡ none → holds_everywhere o ≡ true
+pub none_nowhere : (o : Option ℕ) → o ≡ None → holds_everywhere o ≡ true
 unfolding holds_everywhere
 none_nowhere o h = rw h
 
-if_none : (t : Bool) (x : Option ℕ) (i : ℕ) → (when t then x else some i) ≡ none → (t ≡ true) × (x ≡ none)
+if_none : (t : Bool) (x : Option ℕ) (i : ℕ) → (when t then x else Some i) ≡ None → (t ≡ true) × (x ≡ None)
 if_none true x i h = (refl, h)
 if_none false x i h = none_is_not_some (sym h)
 
-lowest_none_equal : (i : ℕ) (m n : Map) → lowest eqb i m n ≡ none → m ≡ n
+lowest_none_equal : (i : ℕ) (m n : Map) → lowest eqb i m n ≡ None → m ≡ n
 unfolding lowest
 lowest_none_equal i [] [] h = refl
 lowest_none_equal i [] (b ∷ n) h = none_is_not_some (sym h)
@@ -42,20 +42,20 @@ lowest_none_equal i (a ∷ m) (b ∷ n) h =
     let rest = lowest_none_equal (i + 1) m n both.1 in
     cc
 
-lowest_itself_none : (i : ℕ) (m : Map) → lowest eqb i m m ≡ none
+lowest_itself_none : (i : ℕ) (m : Map) → lowest eqb i m m ≡ None
 unfolding lowest
 lowest_itself_none i [] = refl
 lowest_itself_none i (a ∷ m) = rw (eq-eqb a a refl) (lowest_itself_none (i + 1) m)
 
-pub none_equal : {m n : Map} → (m =ᵐ n) ≡ none → m ≡ n
+pub none_equal : {m n : Map} → (m =ᵐ n) ≡ None → m ≡ n
 unfolding ◌=ᵐ◌
 none_equal {m} {n} h = lowest_none_equal 0 m n h
 
-pub equal_none : {m n : Map} → m ≡ n → (m =ᵐ n) ≡ none
+pub equal_none : {m n : Map} → m ≡ n → (m =ᵐ n) ≡ None
 unfolding ◌=ᵐ◌
 equal_none {m} {n} e = rw (← e) (lowest_itself_none 0 m)
 
-lowest_none_covers : (i : ℕ) (m n : Map) → lowest at_least i m n ≡ none → m ⊒ n
+lowest_none_covers : (i : ℕ) (m n : Map) → lowest at_least i m n ≡ None → m ⊒ n
 unfolding lowest at_least
 lowest_none_covers i [] [] h = none⊒
 lowest_none_covers i [] (b ∷ n) h = none_is_not_some (sym h)
@@ -64,16 +64,16 @@ lowest_none_covers i (a ∷ m) (b ∷ n) h =
     let both = if_none (leb b a) (lowest at_least (i + 1) m n) i h in
     more⊒ (leb-true b a both.0) (lowest_none_covers (i + 1) m n both.1)
 
-covers_lowest_none : (i : ℕ) {m n : Map} → m ⊒ n → lowest at_least i m n ≡ none
+covers_lowest_none : (i : ℕ) {m n : Map} → m ⊒ n → lowest at_least i m n ≡ None
 unfolding lowest at_least
 covers_lowest_none i none⊒ = refl
 covers_lowest_none i (more⊒ {a} {b} h c) = rw (le-leb b a h) (covers_lowest_none (i + 1) c)
 
-pub none_covers : {m n : Map} → (m ≥ᵐ n) ≡ none → m ⊒ n
+pub none_covers : {m n : Map} → (m ≥ᵐ n) ≡ None → m ⊒ n
 unfolding ◌≥ᵐ◌
 none_covers {m} {n} h = lowest_none_covers 0 m n h
 
-pub covers_none : {m n : Map} → m ⊒ n → (m ≥ᵐ n) ≡ none
+pub covers_none : {m n : Map} → m ⊒ n → (m ≥ᵐ n) ≡ None
 unfolding ◌≥ᵐ◌
 covers_none c = covers_lowest_none 0 c
 
@@ -87,14 +87,14 @@ times_at k [] i = sym (mul-zero k)
 times_at k (a ∷ m) zero = refl
 times_at k (a ∷ m) (suc i) = times_at k m i
 
-pub none_at_most_lem : (d i : ℕ) (m : Map) → over_whole d i m ≡ none → AtMost d m
+pub none_at_most_lem : (d i : ℕ) (m : Map) → over_whole d i m ≡ None → AtMost d m
 unfolding over_whole
 none_at_most_lem d i [] h = none_at_most
 none_at_most_lem d i (a ∷ m) h =
     let both = if_none (leb a d) (over_whole d (i + 1) m) i h in
     more_at_most (leb-true a d both.0) (none_at_most_lem d (i + 1) m both.1)
 
-pub at_most_none : (d i : ℕ) {m : Map} → AtMost d m → over_whole d i m ≡ none
+pub at_most_none : (d i : ℕ) {m : Map} → AtMost d m → over_whole d i m ≡ None
 unfolding over_whole
 at_most_none d i none_at_most = refl
 at_most_none d i (more_at_most {a} h u) = rw (le-leb a d h) (at_most_none d (i + 1) u)
@@ -132,7 +132,7 @@ fails_later test a b m n l h f = record {
 }
 
 -- what `lowest` finds, counted from i
-lowest_some : (test : ℕ → ℕ → Bool) (i l : ℕ) (m n : Map) → lowest test i m n ≡ some l → (k : ℕ) × (l ≡ i + k) × LowestFailing test m n k
+lowest_some : (test : ℕ → ℕ → Bool) (i l : ℕ) (m n : Map) → lowest test i m n ≡ Some l → (k : ℕ) × (l ≡ i + k) × LowestFailing test m n k
 unfolding lowest
 lowest_some test i l [] [] h = none_is_not_some h
 lowest_some test i l [] (b ∷ n) h =
@@ -143,8 +143,8 @@ lowest_some test i l (a ∷ m) [] h =
     (0, omega arith, fails_first test (a ∷ m) [] (omega arith) (λ p. absurd (omega (arith, p.second))))
 lowest_some test i l (a ∷ m) (b ∷ n) h = go (test a b) refl h (lowest_some test (i + 1) l m n)
   where
-    go : (t : Bool) → test a b ≡ t → (when t then lowest test (i + 1) m n else some i) ≡ some l
-        → (lowest test (i + 1) m n ≡ some l → (k : ℕ) × (l ≡ i + 1 + k) × LowestFailing test m n k)
+    go : (t : Bool) → test a b ≡ t → (when t then lowest test (i + 1) m n else Some i) ≡ Some l
+        → (lowest test (i + 1) m n ≡ Some l → (k : ℕ) × (l ≡ i + 1 + k) × LowestFailing test m n k)
         → (k : ℕ) × (l ≡ i + k) × LowestFailing test (a ∷ m) (b ∷ n) k
     go true e found rest =
         let r = rest found in
@@ -153,17 +153,17 @@ lowest_some test i l (a ∷ m) (b ∷ n) h = go (test a b) refl h (lowest_some t
         let i≡l : i ≡ l = cc in
         (0, omega arith, fails_first test (a ∷ m) (b ∷ n) (omega arith) (λ p. true_is_not_false (sym p.passes ∙ e)))
 
-lowest_fails : (test : ℕ → ℕ → Bool) (l : ℕ) (m n : Map) → lowest test 0 m n ≡ some l → LowestFailing test m n l
+lowest_fails : (test : ℕ → ℕ → Bool) (l : ℕ) (m n : Map) → lowest test 0 m n ≡ Some l → LowestFailing test m n l
 lowest_fails test l m n h =
     let r = lowest_some test 0 l m n h in
     let e : r.0 ≡ l = omega (arith, r.1) in
     rw e at r.2
 
-pub unequal_lowest : {m n : Map} {l : ℕ} → (m =ᵐ n) ≡ some l → LowestFailing eqb m n l
+pub unequal_lowest : {m n : Map} {l : ℕ} → (m =ᵐ n) ≡ Some l → LowestFailing eqb m n l
 unfolding ◌=ᵐ◌
 unequal_lowest {m} {n} {l} h = lowest_fails eqb l m n h
 
-pub uncovered_lowest : {m n : Map} {l : ℕ} → (m ≥ᵐ n) ≡ some l → LowestFailing at_least m n l
+pub uncovered_lowest : {m n : Map} {l : ℕ} → (m ≥ᵐ n) ≡ Some l → LowestFailing at_least m n l
 unfolding ◌≥ᵐ◌
 uncovered_lowest {m} {n} {l} h = lowest_fails at_least l m n h
 
@@ -178,7 +178,7 @@ unfolding over_whole lowest
 over_whole_lowest d i [] = refl
 over_whole_lowest d i (a ∷ m) = rw (over_whole_lowest d (i + 1) m)
 
-pub over_lowest : (d l : ℕ) (m : Map) → over_whole d 0 m ≡ some l → LowestOver d m l
+pub over_lowest : (d l : ℕ) (m : Map) → over_whole d 0 m ≡ Some l → LowestOver d m l
 over_lowest d l m h =
     let f = lowest_fails (λ a b. leb a d) l m m (sym (over_whole_lowest d 0 m) ∙ h) in
     let within : l < length m = omega (arith, f.within) in

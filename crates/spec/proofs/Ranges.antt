@@ -1,9 +1,9 @@
 -- A well-formed split sheet has every number in its range: `InRange`, line by line.
+use Rattle.std.proofs.Common.{Option, None, Some}
 use mathlib.Core.Path.{◌≡◌, refl, sym, ap, ◌∙◌}
 use mathlib.Core.Path.{subst as along}
 use mathlib.Core.List.{List, [], ◌∷◌, map}
 use mathlib.Core.Bool.{Bool, true, false}
-use mathlib.Core.Option.{Option, none, some}
 use Prim.Native.Nat.{ℕ, zero, suc, ◌+◌, ◌≤◌, ◌<◌}
 use native.Mathlib.Omega.{arith}
 use lib.ListN.{length, get_or, replicate, length-replicate}
@@ -217,8 +217,8 @@ signatures_fit H (suc n) (line {a = a} {as' = gs} h more) =
 
 -- a start that is given is a map
 StartFits : Header → Option MapNumber → Type 0
-StartFits H none = Unit {0}
-StartFits H (some m) = m.0 < H.maps
+StartFits H None = Unit {0}
+StartFits H (Some m) = m.0 < H.maps
 
 RowFits : Header → Row → Type 0
 RowFits H r = (r.type.0 < H.types) × (r.post.0 < H.maps) × StartFits H r.start

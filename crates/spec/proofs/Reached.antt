@@ -1,10 +1,10 @@
 -- The conditions decide exactly when all that is judged before them is passed.
+use Rattle.std.proofs.Common.{Option, None, Some, Result, Ok}
 use mathlib.Core.Path.{◌≡◌, refl}
 use mathlib.Core.List.{List}
-use mathlib.Core.Option.{Option, none, some}
 use Prim.Native.Nat.{ℕ, ◌≤◌}
 use borrow.Author.Tests.{leb-true, le-leb}
-use Rattle.spec.specs.Reading.{Result, ok}
+use Rattle.spec.specs.declared.Refusal.{Refusal}
 use Rattle.spec.specs.Program.{Program}
 use Rattle.spec.specs.Split.{Split}
 use Rattle.spec.specs.Conditions.{start_map}
@@ -20,34 +20,34 @@ use Rattle.spec.proofs.Locks.{locks_take_enough_lem, enough_taken}
 
 -- ------------------------------------------------------------------ the start
 
-over_none : {t : Unit {0}} (k : ℕ) (o : Option ℕ) → refuse_over k o ≡ ok t → o ≡ none
+over_none : {t : Unit {0}} (k : ℕ) (o : Option ℕ) → refuse_over k o ≡ Ok t → o ≡ None
 unfolding refuse_over
-over_none k none h = refl
-over_none k (some l) h = stop_is_not_on h
+over_none k None h = refl
+over_none k (Some l) h = stop_is_not_on h
 
-none_over : (k : ℕ) (o : Option ℕ) → o ≡ none → refuse_over k o ≡ ok tt
+none_over : (k : ℕ) (o : Option ℕ) → o ≡ None → refuse_over k o ≡ Ok tt
 unfolding refuse_over
 none_over k o h = rw h
 
-pub start_at_most_one_lem : {t : Unit {0}} (P : Program) (S : Split) → start_at_most_one P S ≡ ok t → AtMost S.header.denominator (start_map S)
+pub start_at_most_one_lem : {t : Unit {0}} (P : Program) (S : Split) → start_at_most_one P S ≡ Ok t → AtMost S.header.denominator (start_map S)
 unfolding start_at_most_one
 start_at_most_one_lem P S h = none_at_most_lem _ 0 _ (over_none _ _ h)
 
-pub at_most_one_start : (P : Program) (S : Split) → AtMost S.header.denominator (start_map S) → start_at_most_one P S ≡ ok tt
+pub at_most_one_start : (P : Program) (S : Split) → AtMost S.header.denominator (start_map S) → start_at_most_one P S ≡ Ok tt
 unfolding start_at_most_one
 at_most_one_start P S h = none_over _ _ (at_most_none _ 0 h)
 
 -- ------------------------------------------------------------------ the conditions
 
 -- nothing is refused before the conditions are judged, and o is what they come to
-pub record Reached (room : ℕ) (p s : List ℕ) (o : Result (Unit {0})) : Type 0 where
+pub record Reached (room : ℕ) (p s : List ℕ) (o : Result (Unit {0}) Refusal) : Type 0 where
   pub P : Program
   pub S : Split
   pub enough : workspace_size ≤ room
   pub judgeable : Judgeable Check p s P S
   pub outcome : conditions_hold P S ≡ o
 
-pub reached : (room : ℕ) (p s : List ℕ) (o : Result (Unit {0})) → Late o → checked room p s ≡ o → Reached room p s o
+pub reached : (room : ℕ) (p s : List ℕ) (o : Result (Unit {0}) Refusal) → Late o → checked room p s ≡ o → Reached room p s o
 unfolding checked returned numbers4 on_conditions
 reached room p s o late h =
     past o _ _ (early_demand _ _ refl) late h λ _ enough r₁.
@@ -66,7 +66,7 @@ reached room p s o late h =
       outcome = r₄;
     }
 
-pub reached_checked : (room : ℕ) (p s : List ℕ) (o : Result (Unit {0})) → Reached room p s o → checked room p s ≡ o
+pub reached_checked : (room : ℕ) (p s : List ℕ) (o : Result (Unit {0}) Refusal) → Reached room p s o → checked room p s ≡ o
 unfolding checked
 reached_checked room p s o r =
     let j = r.judgeable in

@@ -1,6 +1,7 @@
 -- 14, 15 and 49 are met by no line exactly when no variable is bound twice, each is used only inside its let's e2, and calls are to
 -- procedures that are there.
 -- The walk in line order carries the variables bound so far; what it asks of them comes to `Distinct` in the end.
+use Rattle.std.proofs.Common.{Result, Ok, Err}
 use mathlib.Core.Path.{◌≡◌, refl, sym, ◌∙◌, subst}
 use mathlib.Core.List.{List, [], ◌∷◌, ◌++◌, append_assoc, append-nil}
 use mathlib.Core.Bool.{Bool, true, false, ◌||◌}
@@ -9,7 +10,6 @@ use Prim.Native.Nat.{ℕ}
 use lib.Dec.{eqb}
 use borrow.Author.Tests.{ltb-true, lt-ltb}
 use Rattle.spec.specs.Choice.{when◌then◌else◌}
-use Rattle.spec.specs.Reading.{Result, refuse, ok}
 use Rattle.spec.specs.Words.{role, binding}
 use Rattle.spec.specs.Expression.{Expr, leaf, unary, binary, Procedure, among, scope_step, scope, scopes}
 use Rattle.spec.specs.WellFormed.{binders, all_binders, Distinct, StepInside, UsedInside, AllUsedInside}
@@ -67,11 +67,11 @@ none_among_nothing (v ∷ vs) = (refl, none_among_nothing vs)
 
 -- ------------------------------------------------------------------ the walk
 
-used_goes_on : {A : Type 0} {a : A} (b : Bool) (o : Result A) (r : Refusal) → (when b then o else refuse r) ≡ ok a → (b ≡ true) × (o ≡ ok a)
+used_goes_on : {A : Type 0} {a : A} (b : Bool) (o : Result A Refusal) (r : Refusal) → (when b then o else Err r) ≡ Ok a → (b ≡ true) × (o ≡ Ok a)
 used_goes_on true o r h = (refl, h)
 used_goes_on false o r h = stop_is_not_on h
 
-bound_goes_on : {A : Type 0} {a : A} (b : Bool) (o : Result A) (r : Refusal) → (when b then refuse r else o) ≡ ok a → (b ≡ false) × (o ≡ ok a)
+bound_goes_on : {A : Type 0} {a : A} (b : Bool) (o : Result A Refusal) (r : Refusal) → (when b then Err r else o) ≡ Ok a → (b ≡ false) × (o ≡ Ok a)
 bound_goes_on true o r h = stop_is_not_on h
 bound_goes_on false o r h = (refl, h)
 
@@ -85,7 +85,7 @@ binding_append Neither v xs ys = refl
 -- of a sheet with `count` procedures
 module _ (count : ℕ) where
   -- when the walk over a step goes on, and when that over an expression does: what is bound behind it, vs, is new after all that it binds
-  step_walk_lem : (r : Role) (k v : ℕ) (inside bound b : List ℕ) → scope_step count r k v inside bound ≡ ok b
+  step_walk_lem : (r : Role) (k v : ℕ) (inside bound b : List ℕ) → scope_step count r k v inside bound ≡ Ok b
       → StepInside count inside r v × ((vs : List ℕ) → EachNew vs b → EachNew (binding r v vs) bound)
   unfolding scope_step StepInside binding EachNew
   step_walk_lem Binds k v inside bound b h =
@@ -99,7 +99,7 @@ module _ (count : ℕ) where
       (ltb-true f count there, λ vs news. subst (EachNew vs) (sym (on_injective same)) news)
   step_walk_lem Neither k v inside bound b h = (tt, λ vs news. subst (EachNew vs) (sym (on_injective h)) news)
 
-  walk : (e : Expr) (inside bound b : List ℕ) → scope count e inside bound ≡ ok b
+  walk : (e : Expr) (inside bound b : List ℕ) → scope count e inside bound ≡ Ok b
       → UsedInside count inside e × ((vs : List ℕ) → EachNew vs b → EachNew (binders e ++ vs) bound)
   unfolding scope binders UsedInside
   walk (leaf w k v) inside bound b h =
@@ -123,7 +123,7 @@ module _ (count : ℕ) where
 
   -- and back
   step_walked : (r : Role) (k v : ℕ) (inside bound vs : List ℕ) → StepInside count inside r v → EachNew (binding r v vs) bound
-      → (b : List ℕ) × (scope_step count r k v inside bound ≡ ok b) × EachNew vs b
+      → (b : List ℕ) × (scope_step count r k v inside bound ≡ Ok b) × EachNew vs b
   unfolding scope_step StepInside binding EachNew
   step_walked Binds k v inside bound vs used new = (v ∷ bound, rw new.0, new.1)
   step_walked Uses k v inside bound vs used new = (bound, rw used, new)
@@ -131,7 +131,7 @@ module _ (count : ℕ) where
   step_walked Neither k v inside bound vs used new = (bound, refl, new)
 
   walked : (e : Expr) (inside bound vs : List ℕ) → UsedInside count inside e → EachNew (binders e ++ vs) bound
-      → (b : List ℕ) × (scope count e inside bound ≡ ok b) × EachNew vs b
+      → (b : List ℕ) × (scope count e inside bound ≡ Ok b) × EachNew vs b
   unfolding scope binders UsedInside
   walked (leaf w k v) inside bound vs used new =
       step_walked _ k.line v inside bound vs used (rw (binding_append (role (Leaf w)) v [] vs) at new)
@@ -148,7 +148,7 @@ module _ (count : ℕ) where
 
   -- ---------------------------------------------------------------- procedures and the root
 
-  walk_all : (ps : List Procedure) (root : Expr) (bound b : List ℕ) → scopes count ps root bound ≡ ok b
+  walk_all : (ps : List Procedure) (root : Expr) (bound b : List ℕ) → scopes count ps root bound ≡ Ok b
       → AllUsedInside count ps root × ((vs : List ℕ) → EachNew vs b → EachNew (all_binders ps root ++ vs) bound)
   unfolding scopes all_binders AllUsedInside StepInside binding
   walk_all [] root bound b h = walk root [] bound b h
@@ -163,7 +163,7 @@ module _ (count : ℕ) where
       )
 
   walked_all : (ps : List Procedure) (root : Expr) (bound vs : List ℕ) → AllUsedInside count ps root → EachNew (all_binders ps root ++ vs) bound
-      → (b : List ℕ) × (scopes count ps root bound ≡ ok b) × EachNew vs b
+      → (b : List ℕ) × (scopes count ps root bound ≡ Ok b) × EachNew vs b
   unfolding scopes all_binders AllUsedInside StepInside binding
   walked_all [] root bound vs used new = walked root [] bound vs used new
   walked_all (p ∷ ps) root bound vs used new =
@@ -173,7 +173,7 @@ module _ (count : ℕ) where
       let (b, h₃, news) = walked_all ps root d vs used.1 new₂ in
       (b, goes_on_bind _ _ h₁ (goes_on_bind _ _ h₂ h₃), news)
 
-  pub scoped_once_inside : {b : List ℕ} (ps : List Procedure) (root : Expr) → scopes count ps root [] ≡ ok b
+  pub scoped_once_inside : {b : List ℕ} (ps : List Procedure) (root : Expr) → scopes count ps root [] ≡ Ok b
       → Distinct (all_binders ps root) × AllUsedInside count ps root
   unfolding EachNew
   scoped_once_inside {b} ps root h =
@@ -181,7 +181,7 @@ module _ (count : ℕ) where
       (((new_distinct (all_binders ps root) []).0 (subst (λ vs. EachNew vs []) (append-nil (all_binders ps root)) (new [] tt))).0, used)
 
   pub once_inside_scoped : (ps : List Procedure) (root : Expr) → Distinct (all_binders ps root) → AllUsedInside count ps root
-      → (b : List ℕ) × (scopes count ps root [] ≡ ok b)
+      → (b : List ℕ) × (scopes count ps root [] ≡ Ok b)
   once_inside_scoped ps root once used =
       let new = (new_distinct (all_binders ps root) []).1 (once, none_among_nothing (all_binders ps root)) in
       let (b, scoped, _) = walked_all ps root [] [] used (subst (λ vs. EachNew vs []) (sym (append-nil (all_binders ps root))) new) in

@@ -1,9 +1,9 @@
 -- Lines that show something: what they show, and that their numbers are the numerals of their fields, as many as there are ranges and
 -- each in its own.
+use Rattle.std.proofs.Common.{Option, None, Some}
 use mathlib.Core.Path.{◌≡◌, refl, sym, ap, ◌∙◌}
 use mathlib.Core.List.{List, [], ◌∷◌}
 use mathlib.Core.Bool.{Bool, true, false}
-use mathlib.Core.Option.{Option, none, some}
 use Prim.Native.Nat.{ℕ, zero, suc, ◌≤◌, ◌<◌}
 use native.Mathlib.Omega.{arith}
 use lib.Dec.{eqb}
@@ -30,10 +30,10 @@ unfolding seen
 seen_right (good a) h = (a, refl, right_inj h)
 seen_right (bad w) h = wrong_is_not_right h
 
-pub formed_right : {A B : Type 0} {b : B} (o : Option A) (read : A → LineResult B) → or_bad_form o read ≡ good b → (a : A) × (o ≡ some a) × (read a ≡ good b)
+pub formed_right : {A B : Type 0} {b : B} (o : Option A) (read : A → LineResult B) → or_bad_form o read ≡ good b → (a : A) × (o ≡ Some a) × (read a ≡ good b)
 unfolding or_bad_form
-formed_right none read h = wrong_is_not_right h
-formed_right (some a) read h = (a, refl, h)
+formed_right None read h = wrong_is_not_right h
+formed_right (Some a) read h = (a, refl, h)
 
 pub insist_right : {A : Type 0} {a : A} (b : Bool) (w : Fault) (x : LineResult A) → ensure b w x ≡ good a → (b ≡ true) × (x ≡ good a)
 unfolding ensure
@@ -57,12 +57,12 @@ ranged rs o = or_bad_form o λ ns. when eqb (length ns) (length rs) then (when a
 
 -- the numbers that a line shows are the numerals of its fields, as many as ranges, each in its range
 numbers_shown : (rs : List Range) (fs : List Field) (ns : List ℕ) → numbers rs fs ≡ good ns
-    → (numerals fs ≡ some ns) × (length ns ≡ length rs) × (all_in_range rs ns ≡ true)
+    → (numerals fs ≡ Some ns) × (length ns ≡ length rs) × (all_in_range rs ns ≡ true)
 unfolding numbers
 numbers_shown rs fs ns h =
     let (ms, spelled, shown) = formed_right (numerals fs) _ h in
     let (q, counted, inside) = by_count ms (eqb (length ms) (length rs)) refl shown in
-    (spelled ∙ ap some q, sym (ap length q) ∙ counted, sym (ap (all_in_range rs) q) ∙ inside)
+    (spelled ∙ ap Some q, sym (ap length q) ∙ counted, sym (ap (all_in_range rs) q) ∙ inside)
   where
     by_count : (ms : List ℕ) (b : Bool) → eqb (length ms) (length rs) ≡ b
         → (when b then (when all_in_range rs ms then good ms else bad bad_range) else bad bad_form) ≡ good ns
@@ -70,27 +70,27 @@ numbers_shown rs fs ns h =
     by_count ms true e h = let (t, q) = within_right (all_in_range rs ms) h in (q, eqb-true _ _ e, t)
     by_count ms false e h = wrong_is_not_right h
 
-pub numbers_spelled : (rs : List Range) (fs : List Field) (ns : List ℕ) → numbers rs fs ≡ good ns → numerals fs ≡ some ns
+pub numbers_spelled : (rs : List Range) (fs : List Field) (ns : List ℕ) → numbers rs fs ≡ good ns → numerals fs ≡ Some ns
 numbers_spelled rs fs ns h = (numbers_shown rs fs ns h).0
 
 pub numbers_right : (rs : List Range) (fs : List Field) (ns : List ℕ) → numbers rs fs ≡ good ns → (length ns ≡ length rs) × (all_in_range rs ns ≡ true)
 numbers_right rs fs ns h = let (_, counted, inside) = numbers_shown rs fs ns h in (counted, inside)
 
 -- there are as many as fields
-pub numerals_counted : (fs : List Field) (ns : List ℕ) → numerals fs ≡ some ns → length ns ≡ length fs
+pub numerals_counted : (fs : List Field) (ns : List ℕ) → numerals fs ≡ Some ns → length ns ≡ length fs
 unfolding numerals with_numeral
 numerals_counted [] ns h = sym (ap counted h)
   where
     counted : Option (List ℕ) → ℕ
-    counted none = 0
-    counted (some ms) = length ms
+    counted None = 0
+    counted (Some ms) = length ms
 numerals_counted (f ∷ fs) ns h = by_numeral (numeral f) (numerals fs) (numerals_counted fs) h
   where
-    by_numeral : (n : Option ℕ) (o : Option (List ℕ)) → ((ms : List ℕ) → o ≡ some ms → length ms ≡ length fs) → with_numeral n o ≡ some ns
+    by_numeral : (n : Option ℕ) (o : Option (List ℕ)) → ((ms : List ℕ) → o ≡ Some ms → length ms ≡ length fs) → with_numeral n o ≡ Some ns
         → length ns ≡ suc (length fs)
-    by_numeral none o rest h = none_is_not_some h
-    by_numeral (some n) none rest h = none_is_not_some h
-    by_numeral (some n) (some ms) rest h =
+    by_numeral None o rest h = none_is_not_some h
+    by_numeral (Some n) None rest h = none_is_not_some h
+    by_numeral (Some n) (Some ms) rest h =
         let same : n ∷ ms ≡ ns = cc in
         sym (ap length same) ∙ ap suc (rest ms refl)
 

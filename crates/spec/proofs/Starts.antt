@@ -1,8 +1,8 @@
 -- What stands where s may not be empty: the starts of spawned bodies in a `C` sheet, and what a call keeps back in any, are written.
+use Rattle.std.proofs.Common.{Some}
 use mathlib.Core.Path.{◌≡◌, sym, ap, ◌∙◌}
 use mathlib.Core.List.{List, [], ◌∷◌, map}
 use mathlib.Core.Bool.{true, false}
-use mathlib.Core.Option.{some}
 use Prim.Native.Nat.{ℕ, zero, suc, ◌<◌}
 use native.Mathlib.Omega.{arith}
 use lib.ListN.{length, get_or}
@@ -37,7 +37,7 @@ never_empty C3 w e = rw e
 
 -- a row whose start is given
 abbrev pub Started : Row → Type 0
-Started r = (m : MapNumber) × (r.start ≡ some m)
+Started r = (m : MapNumber) × (r.start ≡ Some m)
 
 module _ (purpose : Purpose) (H : Header) where
   row_started : (s : Step) (fs : List Field) (r : Row) → may_be_empty H.heading s.word ≡ false → row_line purpose H s fs ≡ good r → Started r

@@ -1,11 +1,12 @@
 -- The sheets that meet none of 10 to 15, 45 and 49, none of 20 to 23, 40 and 50, are the well-formed ones.
+use Rattle.std.proofs.Common.{Ok}
 use mathlib.Core.Path.{◌≡◌, refl, ap, sym, ◌∙◌, subst}
 use mathlib.Core.List.{List, map}
 use Prim.Native.Nat.{ℕ, ◌+◌, ◌≤◌}
 use native.Mathlib.Omega.{arith}
 use lib.ListN.{length}
 use Rattle.spec.specs.Text.{lines}
-use Rattle.spec.specs.Reading.{ok, require, program_sheet, split_sheet, good, Place, begin, end}
+use Rattle.spec.specs.Reading.{require, program_sheet, split_sheet, good, Place, begin, end}
 use Rattle.spec.specs.Expression.{Expr, Item, steps_among, Procedure}
 use Rattle.spec.specs.Program.{Counts, Program, program, program_limit, count_line, item_lines}
 use Rattle.spec.specs.Split.{Split, split, split_limit, header_line, row_line}
@@ -26,7 +27,7 @@ counts_listed N {items} {ps} {root} all l =
     let steps : N.steps ≡ length (steps_among items) = rw l.all (omega (arith, all, ap length l.all, listing_length ps root, l.counted)) in
     λ i. record { heading = N.heading; steps = steps i; procedures = sym l.counted i }
 
-pub program_well_formed : {P : Program} (text : List ℕ) → length text ≤ program_limit → program text ≡ ok P → WellFormedProgram text P
+pub program_well_formed : {P : Program} (text : List ℕ) → length text ≤ program_limit → program text ≡ Ok P → WellFormedProgram text P
 unfolding program first_item_line
 program_well_formed text fits h =
     bind_through _ _ h λ top h₁ r₁.
@@ -56,7 +57,7 @@ program_well_formed text fits h =
       used_inside = rw l.counted inside;
     })
 
-pub well_formed_program : {P : Program} (text : List ℕ) → WellFormedProgram text P → program text ≡ ok P
+pub well_formed_program : {P : Program} (text : List ℕ) → WellFormedProgram text P → program text ≡ Ok P
 unfolding program begin end require first_item_line
 well_formed_program {P} text w =
     let (last, items) = read_all program_sheet w.listed 1 in
@@ -66,12 +67,12 @@ well_formed_program {P} text w =
     (goes_on_bind _ _ items
     (goes_on_bind _ _ refl
     (goes_on_bind _ _ (listing_structured last 0 P.procedures P.root w.numbering)
-    (goes_on_bind _ _ scoped (λ i. ok (record { steps = sym w.stepped i; procedures = P.procedures; root = P.root })))))))
+    (goes_on_bind _ _ scoped (λ i. Ok (record { steps = sym w.stepped i; procedures = P.procedures; root = P.root })))))))
 
 -- ------------------------------------------------------------------ the split sheet
 
 pub split_well_formed : {S : Split} (purpose : Purpose) (P : Program) (text : List ℕ) → length text ≤ split_limit
-    → split purpose P text ≡ ok S → WellFormedSplit purpose P text S
+    → split purpose P text ≡ Ok S → WellFormedSplit purpose P text S
 unfolding split
 split_well_formed purpose P text fits h =
     bind_through _ _ h λ top h₁ r₁.
@@ -99,7 +100,7 @@ split_well_formed purpose P text fits h =
     })
 
 pub well_formed_split : {S : Split} (purpose : Purpose) (P : Program) (text : List ℕ) → WellFormedSplit purpose P text S
-    → split purpose P text ≡ ok S
+    → split purpose P text ≡ Ok S
 unfolding split begin end require
 well_formed_split {S} purpose P text w =
     let (l₁, types) = read_all split_sheet w.typed 1 in

@@ -1,7 +1,7 @@
 -- In a split whose numbers are in range every map has a number for each location, and so have the post and the start that an
 -- expression's row shows, and the maps of a procedure's line.
+use Rattle.std.proofs.Common.{Option, None, Some}
 use mathlib.Core.Path.{◌≡◌, refl}
-use mathlib.Core.Option.{Option, none, some}
 use Prim.Native.Nat.{ℕ, ◌<◌}
 use native.Mathlib.Omega.{arith}
 use native.Mathlib.Decide.{dec_lt}
@@ -36,10 +36,10 @@ module _ {P : Program} {S : Split} (R : InRange P S) where
       map_wide_lem (row S e).post (of_row (λ r. r.post.0 < length S.maps) (some_map R) e (R.row_post (index_of e) no_row))
 
   -- a start that is given is the number of a map
-  pub start_fits : (e : Expr) (m : MapNumber) → (row S e).start ≡ some m → m.0 < length S.maps
+  pub start_fits : (e : Expr) (m : MapNumber) → (row S e).start ≡ Some m → m.0 < length S.maps
   unfolding row
   start_fits e m =
-      of_row (λ r. r.start ≡ some m → m.0 < length S.maps) (λ h. none_is_not_some h) e (λ l. R.row_start (index_of e) no_row m l)
+      of_row (λ r. r.start ≡ Some m → m.0 < length S.maps) (λ h. none_is_not_some h) e (λ l. R.row_start (index_of e) no_row m l)
 
   -- one that is not given has each location too
   pub start_wide : (e : Expr) → length (body_start S e) ≡ S.header.locations
@@ -47,8 +47,8 @@ module _ {P : Program} {S : Split} (R : InRange P S) where
   start_wide e = by_cases (row S e).start refl
     where
       by_cases : (o : Option MapNumber) → (row S e).start ≡ o → length (start_or S o) ≡ S.header.locations
-      by_cases none given = length-replicate S.header.locations 0
-      by_cases (some m) given = map_wide_lem m (start_fits e m given)
+      by_cases None given = length-replicate S.header.locations 0
+      by_cases (Some m) given = map_wide_lem m (start_fits e m given)
 
   -- and so has what a call keeps back
   pub kept_wide : (e : Expr) → length (kept_back S e) ≡ S.header.locations

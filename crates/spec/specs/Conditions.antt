@@ -1,6 +1,5 @@
 -- The conditions, from Figure 5.
-use Rattle.std.specs.Prelude.{List, [], ◌∷◌, map, Bool, ◌&&◌, ℕ, eqb, leb, ltb, get_or, replicate}
-use Rattle.std.proofs.Math.Option.{Option, none, some}
+use Rattle.std.specs.Prelude.{List, [], ◌∷◌, map, Bool, ◌&&◌, ℕ, eqb, leb, ltb, get_or, replicate, Option, None, Some}
 use Rattle.spec.specs.Choice.{when◌then◌else◌}
 use Rattle.spec.specs.Expression.{Expr, leaf, unary, binary, index_of, Procedure}
 use Rattle.spec.specs.Split.{Map, Row, no_row, no_signature, Split}
@@ -91,8 +90,8 @@ module _ (S : Split) where
 
   -- "an empty start now means nothing of any location"
   unfoldable pub start_or : Option MapNumber → Map
-  start_or none = replicate S.header.locations 0
-  start_or (some m) = map_at S m
+  start_or None = replicate S.header.locations 0
+  start_or (Some m) = map_at S m
 
   -- the map that a spawned body starts with
   unfoldable pub body_start : Expr → Map

@@ -1,7 +1,8 @@
 -- The expressions that steps list in prefix order, procedures and the root, and where their variables are bound.
-use Rattle.std.specs.Prelude.{List, [], ◌∷◌, Bool, false, ◌||◌, ℕ, zero, suc, ◌+◌, eqb, ltb, drop}
+use Rattle.std.specs.Prelude.{List, [], ◌∷◌, Bool, false, ◌||◌, ℕ, zero, suc, ◌+◌, eqb, ltb, drop, Result, Ok, Err}
+use Rattle.spec.specs.declared.Refusal.{Refusal}
 use Rattle.spec.specs.Choice.{when◌then◌else◌}
-use Rattle.spec.specs.Reading.{Result, refuse, ok, ◌>>=◌}
+use Rattle.spec.specs.Reading.{◌>>=◌}
 use Rattle.spec.specs.Words.{role, binding}
 use Rattle.spec.specs.declared.Role.{Role}
 use Rattle.spec.specs.declared.Role.TheVariants.{Binds, Uses, Calls, Neither}
@@ -93,18 +94,18 @@ breaks_off last (proc x line ∷ is) = line
 
 -- the first of the expressions listed, and the lines behind it; "an expression unfinished or not begun at the last line is 13 there",
 -- and a `proc` line where a step is due is 13 at that line
-unfoldable pub first_listed : (last : ℕ) → List Item → List Expr → Result (Expr × List Item)
-first_listed last items [] = refuse (ProgramLines (breaks_off last items))
-first_listed last items (e ∷ es) = ok (e, drop (size e) items)
+unfoldable pub first_listed : (last : ℕ) → List Item → List Expr → Result (Expr × List Item) Refusal
+first_listed last items [] = Err (ProgramLines (breaks_off last items))
+first_listed last items (e ∷ es) = Ok (e, drop (size e) items)
 
 -- the expression that is due
-unfoldable pub expression : (last i : ℕ) → List Item → Result (Expr × List Item)
+unfoldable pub expression : (last i : ℕ) → List Item → Result (Expr × List Item) Refusal
 expression last i items = first_listed last items (listed i (leading items))
 
 -- 13 for an expression "finished earlier (the first line past it)"
-unfoldable pub no_line_left : List Item → Result (Unit {0})
-no_line_left [] = ok tt
-no_line_left (x ∷ items) = refuse (ProgramLines (line_of_item x))
+unfoldable pub no_line_left : List Item → Result (Unit {0}) Refusal
+no_line_left [] = Ok tt
+no_line_left (x ∷ items) = Err (ProgramLines (line_of_item x))
 
 -- a procedure: its line, the variable that stands for the argument, its body
 pub record Procedure : Type 0 where
@@ -114,17 +115,17 @@ pub record Procedure : Type 0 where
 
 -- "k lines `proc,x`, each followed by its body, then the root expression"; "A step where a `proc` line is due, or the reverse, is 13 at
 -- that line". Steps are counted from index i on, over all bodies and the root.
-unfoldable pub structure : (last k i : ℕ) → List Item → Result (List Procedure × Expr)
+unfoldable pub structure : (last k i : ℕ) → List Item → Result (List Procedure × Expr) Refusal
 structure last zero i items = do
   (root, rest) ← expression last i items
   done ← no_line_left rest
-  ok ([], root)
-structure last (suc k) i [] = refuse (ProgramLines last)
-structure last (suc k) i (step s ∷ items) = refuse (ProgramLines s.line)
+  Ok ([], root)
+structure last (suc k) i [] = Err (ProgramLines last)
+structure last (suc k) i (step s ∷ items) = Err (ProgramLines s.line)
 structure last (suc k) i (proc x line ∷ items) = do
   (body, rest) ← expression last i items
   (others, root) ← structure last k (i + size body) rest
-  ok (record { line = line; parameter = x; body = body } ∷ others, root)
+  Ok (record { line = line; parameter = x; body = body } ∷ others, root)
 
 -- ------------------------------------------------------------------ scopes
 
@@ -136,15 +137,15 @@ among v (x ∷ xs) = eqb v x || among v xs
 module _ (count : ℕ) where
   -- 14 and 15 of a step, by its role; "49 for a call to a procedure that isn't there, in the place of 14". What comes out is the
   -- variables bound by then
-  unfoldable pub scope_step : Role → (line v : ℕ) → (inside bound : List ℕ) → Result (List ℕ)
-  scope_step Binds k v inside bound = when among v bound then refuse (Rebound k) else ok (v ∷ bound)
-  scope_step Uses k v inside bound = when among v inside then ok bound else refuse (Unbound k)
-  scope_step Calls k f inside bound = when ltb f count then ok bound else refuse (NoProcedure k)
-  scope_step Neither k v inside bound = ok bound
+  unfoldable pub scope_step : Role → (line v : ℕ) → (inside bound : List ℕ) → Result (List ℕ) Refusal
+  scope_step Binds k v inside bound = when among v bound then Err (Rebound k) else Ok (v ∷ bound)
+  scope_step Uses k v inside bound = when among v inside then Ok bound else Err (Unbound k)
+  scope_step Calls k f inside bound = when ltb f count then Ok bound else Err (NoProcedure k)
+  scope_step Neither k v inside bound = Ok bound
 
   -- 14, 15 and 49 in line order. `inside`: the variables whose let's e2, or whose procedure's body, this is in. `bound`: those that a
   -- let or a `proc` line binds in front of it; what comes out is those that are bound by the end of this expression.
-  unfoldable pub scope : Expr → (inside bound : List ℕ) → Result (List ℕ)
+  unfoldable pub scope : Expr → (inside bound : List ℕ) → Result (List ℕ) Refusal
   scope (leaf w k v) inside bound = scope_step (role (Leaf w)) k.line v inside bound
   scope (unary w k v e) inside bound = do
     b ← scope_step (role (Unary w)) k.line v inside bound
@@ -155,7 +156,7 @@ module _ (count : ℕ) where
     scope e₂ (binding (role (Binary w)) v inside) b₁
 
   -- "`proc` lines, which may bind no variable bound elsewhere (15 at the later line)"; "A body uses only x and its own lets"
-  unfoldable pub scopes : List Procedure → (root : Expr) → (bound : List ℕ) → Result (List ℕ)
+  unfoldable pub scopes : List Procedure → (root : Expr) → (bound : List ℕ) → Result (List ℕ) Refusal
   scopes [] root bound = scope root [] bound
   scopes (p ∷ ps) root bound = do
     b ← scope_step Binds p.line p.parameter [] bound

@@ -1,6 +1,5 @@
 -- What it is for a refusal to name the first false condition, and for conditions to stand in order.
-use Rattle.std.specs.Prelude.{◌≡◌, List, [], ◌∷◌, ◌++◌, Bool, true, ℕ, ◌<◌}
-use Rattle.std.proofs.Math.Option.{none, some}
+use Rattle.std.specs.Prelude.{◌≡◌, List, [], ◌∷◌, ◌++◌, Bool, true, ℕ, ◌<◌, None, Some}
 use Rattle.spec.specs.Program.{Program}
 use Rattle.spec.specs.Split.{Split}
 use Rattle.spec.specs.Conditions.{Condition, T, F, A}
@@ -14,7 +13,7 @@ use Rattle.spec.specs.declared.Purpose.TheVariants.{Check}
 -- a condition holds: its test comes out true, or no location fails it
 unfoldable pub Holds : Condition → Type 0
 Holds (T b) = b ≡ true
-Holds (F o) = o ≡ none
+Holds (F o) = o ≡ None
 Holds (A b p) = b ≡ true
 
 -- Q holds of each entry of a list
@@ -29,7 +28,7 @@ AllHold = Every (λ c. Holds c.condition)
 -- one for (F) [..], p for (A)"
 pub data Names (k i : ℕ) : Condition → Refusal → Type 0 where
   type : {b : Bool} → Names k i (T b) (TypeFalse k i)
-  flow : {l : ℕ} → Names k i (F (some l)) (FlowFalse k i (record { 0 = l }))
+  flow : {l : ℕ} → Names k i (F (Some l)) (FlowFalse k i (record { 0 = l }))
   access : {b : Bool} {p : Location} → Names k i (A b p) (AccessFalse k i p)
 
 -- r names a claim of the list that does not hold, and all before it hold

@@ -1,21 +1,20 @@
 -- Maps are compared and added number by number.
-use Rattle.std.specs.Prelude.{[], ◌∷◌, Bool, true, false, ℕ, ◌+◌, ◌*◌, eqb, leb, get_or}
-use Rattle.std.proofs.Math.Option.{Option, none, some}
+use Rattle.std.specs.Prelude.{[], ◌∷◌, Bool, true, false, ℕ, ◌+◌, ◌*◌, eqb, leb, get_or, Option, None, Some}
 use Rattle.spec.specs.Choice.{when◌then◌else◌}
 use Rattle.spec.specs.Split.{Map}
 use Rattle.spec.specs.declared.Location.{Location}
 
 -- the lowest location, counted from i, at which a test of two maps fails; two maps of a sheet are of one length, L
 unfoldable pub lowest : (ℕ → ℕ → Bool) → (i : ℕ) → Map → Map → Option ℕ
-lowest test i [] [] = none
-lowest test i [] (b ∷ n) = some i
-lowest test i (a ∷ m) [] = some i
-lowest test i (a ∷ m) (b ∷ n) = when test a b then lowest test (i + 1) m n else some i
+lowest test i [] [] = None
+lowest test i [] (b ∷ n) = Some i
+lowest test i (a ∷ m) [] = Some i
+lowest test i (a ∷ m) (b ∷ n) = when test a b then lowest test (i + 1) m n else Some i
 
 unfoldable pub at_least : ℕ → ℕ → Bool
 at_least a b = leb b a
 
--- where two maps fail to be equal, where the first fails to be at least the second: `none` says that they are
+-- where two maps fail to be equal, where the first fails to be at least the second: `None` says that they are
 infix 4 ◌=ᵐ◌ ◌≥ᵐ◌
 unfoldable pub ◌=ᵐ◌ : Map → Map → Option ℕ
 m =ᵐ n = lowest eqb 0 m n
@@ -25,8 +24,8 @@ m ≥ᵐ n = lowest at_least 0 m n
 
 -- whether nothing is found
 unfoldable pub holds_everywhere : Option ℕ → Bool
-holds_everywhere none = true
-holds_everywhere (some l) = false
+holds_everywhere None = true
+holds_everywhere (Some l) = false
 
 unfoldable pub same_numbers : Map → Map → Bool
 same_numbers m n = holds_everywhere (m =ᵐ n)
@@ -50,5 +49,5 @@ share m p = get_or m p.0 0
 
 -- where a map has more than the whole, d parts
 unfoldable pub over_whole : (d i : ℕ) → Map → Option ℕ
-over_whole d i [] = none
-over_whole d i (a ∷ m) = when leb a d then over_whole d (i + 1) m else some i
+over_whole d i [] = None
+over_whole d i (a ∷ m) = when leb a d then over_whole d (i + 1) m else Some i

@@ -1,8 +1,9 @@
 -- The program sheet.
-use Rattle.std.specs.Prelude.{List, [], ◌∷◌, ℕ, zero, suc, ◌+◌}
+use Rattle.std.specs.Prelude.{List, [], ◌∷◌, ℕ, zero, suc, ◌+◌, Result, Ok}
+use Rattle.spec.specs.declared.Refusal.{Refusal}
 use Rattle.spec.specs.Choice.{when◌then◌else◌}
 use Rattle.spec.specs.Text.{bytes, same, lines, Field, look_up}
-use Rattle.spec.specs.Reading.{program_sheet, Result, ◌>>=◌, ok, LineResult, bad, bad_form, freelock, seen, or_bad_form, refuse_after, ◌to◌, Range, numbers, nth, read_line, read_lines, begin, end}
+use Rattle.spec.specs.Reading.{program_sheet, ◌>>=◌, LineResult, bad, bad_form, freelock, seen, or_bad_form, refuse_after, ◌to◌, Range, numbers, nth, read_line, read_lines, begin, end}
 use Rattle.spec.specs.Words.{words_under, value_range}
 use Rattle.spec.specs.Expression.{Step, Expr, Item, step, proc, steps_among, Procedure, structure, scopes}
 use Rattle.spec.specs.declared.ProgramHeading.{ProgramHeading}
@@ -73,7 +74,7 @@ pub record Program : Type 0 where
   pub root : Expr
 
 -- 11, 12, 45 and 13 line by line, "After the header come n + k lines"; then 13 for the procedures and the root; then 14, 15 and 49
-unfoldable pub program : List ℕ → Result Program
+unfoldable pub program : List ℕ → Result Program Refusal
 program text = do
   top ← begin program_sheet (lines text)
   (counts, first) ← read_line program_sheet count_line top
@@ -81,4 +82,4 @@ program text = do
   done ← end program_sheet last
   (ps, e) ← structure last.last counts.procedures 0 items
   bound ← scopes counts.procedures ps e []
-  ok (record { steps = steps_among items; procedures = ps; root = e })
+  Ok (record { steps = steps_among items; procedures = ps; root = e })

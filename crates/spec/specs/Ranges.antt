@@ -3,8 +3,7 @@
 -- (proofs/Ranges.antt), and so does a split that filling has filled in, which is no sheet yet. It stands here because what the work
 -- space holds (crates/workspace) and what can be written (crates/text_theory) are both said with it, and of the crates below them there is
 -- only this one.
-use Rattle.std.specs.Prelude.{◌≡◌, List, [], ◌∷◌, ℕ, ◌≤◌, ◌<◌, length, get_or}
-use Rattle.std.proofs.Math.Option.{some}
+use Rattle.std.specs.Prelude.{◌≡◌, List, [], ◌∷◌, ℕ, ◌≤◌, ◌<◌, length, get_or, Some}
 use Rattle.spec.specs.Program.{Program}
 use Rattle.spec.specs.Split.{Row, Split}
 use Rattle.spec.specs.declared.Signature.{Signature}
@@ -43,4 +42,4 @@ pub record InRange (P : Program) (S : Split) : Type 0 where
   -- the numbers on a row
   pub row_type : (i : ℕ) (d : Row) → i < length S.rows → (get_or S.rows i d).type.0 < length S.types
   pub row_post : (i : ℕ) (d : Row) → i < length S.rows → (get_or S.rows i d).post.0 < length S.maps
-  pub row_start : (i : ℕ) (d : Row) (m : MapNumber) → i < length S.rows → (get_or S.rows i d).start ≡ some m → m.0 < length S.maps
+  pub row_start : (i : ℕ) (d : Row) (m : MapNumber) → i < length S.rows → (get_or S.rows i d).start ≡ Some m → m.0 < length S.maps

@@ -1,6 +1,5 @@
 -- Reading a sheet line by line, with the refusals that a line can meet: its form, a range, lines missing or spare.
-use Rattle.std.specs.Prelude.{List, [], ◌∷◌, Bool, true, false, ◌&&◌, ℕ, ◌+◌, eqb, leb, ltb, length, get_or}
-use Rattle.std.proofs.Math.Option.{Option, none, some}
+use Rattle.std.specs.Prelude.{List, [], ◌∷◌, Bool, true, false, ◌&&◌, ℕ, ◌+◌, eqb, leb, ltb, length, get_or, Option, None, Some, Result, Ok, Err}
 use Rattle.spec.specs.Choice.{when◌then◌else◌}
 use Rattle.spec.specs.Text.{Line, closed, unclosed, Field, fields, numeral}
 use Rattle.spec.specs.declared.Refusal.{Refusal}
@@ -8,20 +7,16 @@ use Rattle.spec.specs.declared.Refusal.TheVariants.{ProgramForm, ProgramRange, P
 
 -- ------------------------------------------------------------------ outcomes
 
--- stopped by a refusal, or going on with what was found
-pub data Result (A : Type 0) : Type 0 where
-  refuse : Refusal → Result A
-  ok : A → Result A
-
+-- an outcome is a `Result` with a refusal: stopped by it, or going on with what was found
 infixl 1 ◌>>=◌
-unfoldable pub ◌>>=◌ : {A B : Type 0} → Result A → (A → Result B) → Result B
-refuse r >>= f = refuse r
-ok a >>= f = f a
+unfoldable pub ◌>>=◌ : {A B : Type 0} → Result A Refusal → (A → Result B Refusal) → Result B Refusal
+Err r >>= f = Err r
+Ok a >>= f = f a
 
 -- go on if the test holds
-unfoldable pub require : Bool → Refusal → Result (Unit {0})
-require true r = ok tt
-require false r = refuse r
+unfoldable pub require : Bool → Refusal → Result (Unit {0}) Refusal
+require true r = Ok tt
+require false r = Err r
 
 -- ------------------------------------------------------------------ numbers on a line
 
@@ -40,8 +35,8 @@ seen f (bad w) = bad w
 
 -- what a line shows by a word or by numbers that are there; else it is of the wrong form
 unfoldable pub or_bad_form : {A B : Type 0} → Option A → (A → LineResult B) → LineResult B
-or_bad_form none read = bad bad_form
-or_bad_form (some a) read = read a
+or_bad_form None read = bad bad_form
+or_bad_form (Some a) read = read a
 
 -- what is judged of a line after its form and its ranges
 unfoldable pub ensure : {A : Type 0} → Bool → Fault → LineResult A → LineResult A
@@ -72,13 +67,13 @@ all_in_range (r ∷ rs) [] = true
 all_in_range (r ∷ rs) (n ∷ ns) = in_range r n && all_in_range rs ns
 
 unfoldable pub with_numeral : Option ℕ → Option (List ℕ) → Option (List ℕ)
-with_numeral none ns = none
-with_numeral (some n) none = none
-with_numeral (some n) (some ns) = some (n ∷ ns)
+with_numeral None ns = None
+with_numeral (Some n) None = None
+with_numeral (Some n) (Some ns) = Some (n ∷ ns)
 
 -- the numbers of fields that are numerals, all of them
 unfoldable pub numerals : List Field → Option (List ℕ)
-numerals [] = some []
+numerals [] = Some []
 numerals (f ∷ fs) = with_numeral (numeral f) (numerals fs)
 
 -- as many numerals as ranges, each in its range
@@ -123,32 +118,32 @@ pub record Place : Type 0 where
   pub last : ℕ
   pub rest : List Line
 
-unfoldable pub passed : {A : Type 0} → SheetName → (line : ℕ) → List Line → LineResult A → Result (A × Place)
-passed sheet k rest (good a) = ok (a, record { last = k; rest = rest })
-passed sheet k rest (bad w) = refuse (faulty sheet w k)
+unfoldable pub passed : {A : Type 0} → SheetName → (line : ℕ) → List Line → LineResult A → Result (A × Place) Refusal
+passed sheet k rest (good a) = Ok (a, record { last = k; rest = rest })
+passed sheet k rest (bad w) = Err (faulty sheet w k)
 
 -- a counted line: missing, without its closing byte, or what its fields show
-unfoldable pub next_line : {A : Type 0} → SheetName → (List Field → LineResult A) → (last : ℕ) → List Line → Result (A × Place)
-next_line sheet read k [] = refuse (miscounted sheet k)
-next_line sheet read k (unclosed l ∷ rest) = refuse (form sheet (k + 1))
+unfoldable pub next_line : {A : Type 0} → SheetName → (List Field → LineResult A) → (last : ℕ) → List Line → Result (A × Place) Refusal
+next_line sheet read k [] = Err (miscounted sheet k)
+next_line sheet read k (unclosed l ∷ rest) = Err (form sheet (k + 1))
 next_line sheet read k (closed l ∷ rest) = passed sheet (k + 1) rest (read (fields l))
 
-unfoldable pub read_line : {A : Type 0} → SheetName → (List Field → LineResult A) → Place → Result (A × Place)
+unfoldable pub read_line : {A : Type 0} → SheetName → (List Field → LineResult A) → Place → Result (A × Place) Refusal
 read_line sheet read place = next_line sheet read place.last place.rest
 
 -- counted lines in turn, each read in its own way
-unfoldable pub read_lines : {A : Type 0} → SheetName → List (List Field → LineResult A) → Place → Result (List A × Place)
-read_lines sheet [] place = ok ([], place)
+unfoldable pub read_lines : {A : Type 0} → SheetName → List (List Field → LineResult A) → Place → Result (List A × Place) Refusal
+read_lines sheet [] place = Ok ([], place)
 read_lines sheet (read ∷ reads) place = do
   (a, after) ← read_line sheet read place
   (as', end) ← read_lines sheet reads after
-  ok (a ∷ as', end)
+  Ok (a ∷ as', end)
 
 -- an empty text is of the wrong form at line 1
-unfoldable pub begin : SheetName → List Line → Result Place
-begin sheet [] = refuse (form sheet 1)
-begin sheet (l ∷ rest) = ok (record { last = 0; rest = l ∷ rest })
+unfoldable pub begin : SheetName → List Line → Result Place Refusal
+begin sheet [] = Err (form sheet 1)
+begin sheet (l ∷ rest) = Ok (record { last = 0; rest = l ∷ rest })
 
 -- a line behind the last is spare, with any bytes, closed or not
-unfoldable pub end : SheetName → Place → Result (Unit {0})
+unfoldable pub end : SheetName → Place → Result (Unit {0}) Refusal
 end sheet place = require (eqb (length place.rest) 0) (miscounted sheet (place.last + 1))

@@ -1,9 +1,9 @@
 -- The split sheet.
-use Rattle.std.specs.Prelude.{List, [], ◌∷◌, map, Bool, not, ℕ, zero, suc, ◌+◌, length, get_or, replicate}
-use Rattle.std.proofs.Math.Option.{Option, none, some}
+use Rattle.std.specs.Prelude.{List, [], ◌∷◌, map, Bool, not, ℕ, zero, suc, ◌+◌, length, get_or, replicate, Option, None, Some, Result, Ok}
+use Rattle.spec.specs.declared.Refusal.{Refusal}
 use Rattle.spec.specs.Choice.{when◌then◌else◌}
 use Rattle.spec.specs.Text.{bytes, same, lines, Field, look_up}
-use Rattle.spec.specs.Reading.{split_sheet, Result, ◌>>=◌, ok, bad, Fault, bad_form, no_start, no_kept, LineResult, seen, or_bad_form, ensure, Range, ◌to◌, below, numerals, numbers, nth, read_line, read_lines, begin, end}
+use Rattle.spec.specs.Reading.{split_sheet, ◌>>=◌, bad, Fault, bad_form, no_start, no_kept, LineResult, seen, or_bad_form, ensure, Range, ◌to◌, below, numerals, numbers, nth, read_line, read_lines, begin, end}
 use Rattle.spec.specs.Words.{takes_start, keeps_back}
 use Rattle.spec.specs.Expression.{Step}
 use Rattle.spec.specs.Program.{Program}
@@ -45,8 +45,8 @@ maps_of ns = nth 3 ns
 
 -- without numerals the 0 is never seen: the line is 21, whatever its ranges
 unfoldable pub maps_in : Option (List ℕ) → ℕ
-maps_in none = 0
-maps_in (some ns) = maps_of ns
+maps_in None = 0
+maps_in (Some ns) = maps_of ns
 
 -- the location, the type and the map whose number is at index i of a line
 abbrev pub nth_location : (i : ℕ) → List ℕ → Location
@@ -134,7 +134,7 @@ pub record Row : Type 0 where
 
 -- the row of a step that is not there: never seen, since a sheet has a row for each step
 abbrev pub no_row : Row
-no_row = record { type = record { 0 = 0 }; post = record { 0 = 0 }; start = none }
+no_row = record { type = record { 0 = 0 }; post = record { 0 = 0 }; start = None }
 
 unfoldable pub row_of : Option MapNumber → List ℕ → Row
 row_of start ns = record { type = nth_type 0 ns; post = nth_map 1 ns; start = start }
@@ -171,9 +171,9 @@ row_line purpose H s (t ∷ []) = bad bad_form
 row_line purpose H s (t ∷ m ∷ []) = bad bad_form
 row_line purpose H s (t ∷ m ∷ [] ∷ []) =
     ensure (may_be_empty H.heading s.word) (empty_fault s.word)
-    (seen (row_of none) (numbers (below H.types ∷ post_range purpose H m ∷ []) (t ∷ post_field purpose m ∷ [])))
+    (seen (row_of None) (numbers (below H.types ∷ post_range purpose H m ∷ []) (t ∷ post_field purpose m ∷ [])))
 row_line purpose H s (t ∷ m ∷ (b ∷ f) ∷ []) =
-    seen (λ ns. row_of (some (nth_map 2 ns)) ns)
+    seen (λ ns. row_of (Some (nth_map 2 ns)) ns)
     (numbers (below H.types ∷ post_range purpose H m ∷ start_range s.word H ∷ []) (t ∷ post_field purpose m ∷ (b ∷ f) ∷ []))
 row_line purpose H s (t ∷ m ∷ f ∷ g ∷ fs) = bad bad_form
 
@@ -186,7 +186,7 @@ pub record Split : Type 0 where
   pub rows : List Row
 
 -- 21, 22, 40, 50 and 23 line by line, for the procedures and the steps of a program
-unfoldable pub split : Purpose → Program → List ℕ → Result Split
+unfoldable pub split : Purpose → Program → List ℕ → Result Split Refusal
 split purpose P text = do
   top ← begin split_sheet (lines text)
   (H, p₁) ← read_line split_sheet (header_line purpose) top
@@ -195,7 +195,7 @@ split purpose P text = do
   (signatures, p₄) ← read_lines split_sheet (replicate (length P.procedures) (signature_line H)) p₃
   (rows, p₅) ← read_lines split_sheet (map (row_line purpose H) P.steps) p₄
   done ← end split_sheet p₅
-  ok (record { header = H; types = types; maps = maps; signatures = signatures; rows = rows })
+  Ok (record { header = H; types = types; maps = maps; signatures = signatures; rows = rows })
 
 -- the type line and the map with a number. `Int` and the empty map past the last are never seen: 22 refuses such a number
 module _ (S : Split) where

@@ -1,8 +1,8 @@
 -- Every step of a program in line order, with what surrounds it, and the first condition that is false.
-use Rattle.std.specs.Prelude.{List, [], ◌∷◌, ◌++◌, Bool, true, false, ℕ, ◌+◌}
-use Rattle.std.proofs.Math.Option.{none, some}
+use Rattle.std.specs.Prelude.{List, [], ◌∷◌, ◌++◌, Bool, true, false, ℕ, ◌+◌, None, Some, Result, Ok, Err}
+use Rattle.spec.specs.declared.Refusal.{Refusal}
 use Rattle.spec.specs.Choice.{when◌then◌else◌}
-use Rattle.spec.specs.Reading.{Result, refuse, ok, ◌>>=◌}
+use Rattle.spec.specs.Reading.{◌>>=◌}
 use Rattle.spec.specs.Words.{role, binding, pre_of_part, pre_of_second}
 use Rattle.spec.specs.Expression.{Expr, leaf, unary, binary, line_of, Procedure}
 use Rattle.spec.specs.Program.{Program}
@@ -69,16 +69,16 @@ module _ (S : Split) where
   claims_of P = claims_of_procedures 0 P.procedures ++ claims (step_contexts S [] (start_map S) P.root)
 
 -- "Location is 0 for (T), the lowest failing one for (F) [..], p for (A)"
-unfoldable pub judge : (line number : ℕ) → Condition → Result (Unit {0})
-judge k i (T true) = ok tt
-judge k i (T false) = refuse (TypeFalse k i)
-judge k i (F none) = ok tt
-judge k i (F (some l)) = refuse (FlowFalse k i (record { 0 = l }))
-judge k i (A true p) = ok tt
-judge k i (A false p) = refuse (AccessFalse k i p)
+unfoldable pub judge : (line number : ℕ) → Condition → Result (Unit {0}) Refusal
+judge k i (T true) = Ok tt
+judge k i (T false) = Err (TypeFalse k i)
+judge k i (F None) = Ok tt
+judge k i (F (Some l)) = Err (FlowFalse k i (record { 0 = l }))
+judge k i (A true p) = Ok tt
+judge k i (A false p) = Err (AccessFalse k i p)
 
-unfoldable pub first_false : List NumberedCondition → Result (Unit {0})
-first_false [] = ok tt
+unfoldable pub first_false : List NumberedCondition → Result (Unit {0}) Refusal
+first_false [] = Ok tt
 first_false (c ∷ cs) = judge c.line c.number c.condition >>= λ holds. first_false cs
 
 -- ------------------------------------------------------------------ claims of two sorts

@@ -1,6 +1,5 @@
 -- Texts: lines, fields and numerals. A text is the list of its bytes.
-use Rattle.std.specs.Prelude.{List, [], ◌∷◌, Bool, true, false, ◌&&◌, not, ℕ, ◌+◌, ◌-◌, ◌*◌, eqb, leb, length}
-use Rattle.std.proofs.Math.Option.{Option, none, some}
+use Rattle.std.specs.Prelude.{List, [], ◌∷◌, Bool, true, false, ◌&&◌, not, ℕ, ◌+◌, ◌-◌, ◌*◌, eqb, leb, length, Option, None, Some}
 use Prim.Native.Char.{code}
 use Prim.Native.String.{String, [] as []ˢ, ◌∷◌ as ◌∷ˢ◌}
 use Rattle.spec.specs.Choice.{when◌then◌else◌}
@@ -50,8 +49,8 @@ fields (b ∷ t) = when eqb b 44 then [] ∷ fields t else on_field b (fields t)
 
 -- what a table has for a field
 unfoldable pub look_up : {A : Type 0} → List (List ℕ × A) → Field → Option A
-look_up [] f = none
-look_up (w ∷ ws) f = when same w.0 f then some w.1 else look_up ws f
+look_up [] f = None
+look_up (w ∷ ws) f = when same w.0 f then Some w.1 else look_up ws f
 
 -- ------------------------------------------------------------------ numerals
 
@@ -76,5 +75,5 @@ value a (b ∷ t) = value (a * 10 + (b - 48)) t
 unfoldable pub numeral : Field → Option ℕ
 numeral f =
     when leb 1 (length f) && leb (length f) digit_limit && digits f && not (leading_zero f)
-    then some (value 0 f)
-    else none
+    then Some (value 0 f)
+    else None

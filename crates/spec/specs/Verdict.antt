@@ -1,8 +1,8 @@
 -- The answer to a pair of sheets, in the order of document 01's reasons to stop.
-use Rattle.std.specs.Prelude.{List, [], ◌∷◌, Bool, true, ◌&&◌, ℕ, ◌+◌, leb, length}
-use Rattle.std.proofs.Math.Option.{Option, none, some}
+use Rattle.std.specs.Prelude.{List, [], ◌∷◌, Bool, true, ◌&&◌, ℕ, ◌+◌, leb, length, Option, None, Some, Result, Ok, Err}
+use Rattle.spec.specs.declared.Refusal.{Refusal}
 use Rattle.spec.specs.Choice.{when◌then◌else◌}
-use Rattle.spec.specs.Reading.{Result, refuse, ok, ◌>>=◌, require}
+use Rattle.spec.specs.Reading.{◌>>=◌, require}
 use Rattle.spec.specs.Expression.{line_of}
 use Rattle.spec.specs.Program.{Program, program, program_limit}
 use Rattle.spec.specs.Split.{Split, split, split_limit, map_at}
@@ -25,43 +25,43 @@ module _ (S : Split) where
   takes_enough x = when is lock x then holds_everywhere (map_at S (second_map x) ≥ᵐ map_at S (first_map x)) else true
 
   -- of the types from line k on
-  unfoldable pub all_take_enough : (k : ℕ) → List TypeLine → Result (Unit {0})
-  all_take_enough k [] = ok tt
+  unfoldable pub all_take_enough : (k : ℕ) → List TypeLine → Result (Unit {0}) Refusal
+  all_take_enough k [] = Ok tt
   all_take_enough k (x ∷ xs) = do
     enough ← require (takes_enough x) (LockTakesLess k)
     all_take_enough (k + 1) xs
 
   -- types begin at line 2
-  unfoldable pub locks_take_enough : Result (Unit {0})
+  unfoldable pub locks_take_enough : Result (Unit {0}) Refusal
   locks_take_enough = all_take_enough 2 S.types
 
 -- 30, at the root's line: the start is over the whole somewhere
-unfoldable pub refuse_over : (line : ℕ) → Option ℕ → Result (Unit {0})
-refuse_over k none = ok tt
-refuse_over k (some l) = refuse (OverOne k (record { 0 = l }))
+unfoldable pub refuse_over : (line : ℕ) → Option ℕ → Result (Unit {0}) Refusal
+refuse_over k None = Ok tt
+refuse_over k (Some l) = Err (OverOne k (record { 0 = l }))
 
-unfoldable pub start_at_most_one : Program → Split → Result (Unit {0})
+unfoldable pub start_at_most_one : Program → Split → Result (Unit {0}) Refusal
 start_at_most_one P S = refuse_over (line_of P.root) (over_whole S.header.denominator 0 (start_map S))
 
 -- 31 to 33
-unfoldable pub conditions_hold : Program → Split → Result (Unit {0})
+unfoldable pub conditions_hold : Program → Split → Result (Unit {0}) Refusal
 conditions_hold P S = first_false (claims_of S P)
 
 -- 31 alone, as filling asks it: the first (T) condition that is false, whatever flow conditions are false before it
-unfoldable pub type_conditions_hold : Program → Split → Result (Unit {0})
+unfoldable pub type_conditions_hold : Program → Split → Result (Unit {0}) Refusal
 type_conditions_hold P S = first_false (only is_type (claims_of S P))
 
 -- both sheets, 10; 11 to 15, 45 and 49; 20; 21 to 23, 40 and 50
-unfoldable pub sheets : Purpose → (program_text split_text : List ℕ) → Result (Program × Split)
+unfoldable pub sheets : Purpose → (program_text split_text : List ℕ) → Result (Program × Split) Refusal
 sheets purpose program_text split_text = do
   fits ← require (leb (length program_text) program_limit) LongProgram
   P ← program program_text
   fits' ← require (leb (length split_text) split_limit) LongSplit
   S ← split purpose P split_text
-  ok (P, S)
+  Ok (P, S)
 
 -- 1; both sheets; 44; 30; 31 to 33
-unfoldable pub checked : (room : ℕ) → (program_text split_text : List ℕ) → Result (Unit {0})
+unfoldable pub checked : (room : ℕ) → (program_text split_text : List ℕ) → Result (Unit {0}) Refusal
 checked room program_text split_text = do
   enough ← require (leb workspace_size room) ShortWorkspace
   (P, S) ← sheets Check program_text split_text
@@ -69,9 +69,9 @@ checked room program_text split_text = do
   whole ← start_at_most_one P S
   conditions_hold P S
 
-unfoldable pub answer : Result (Unit {0}) → Answer
-answer (refuse r) = Refuse r
-answer (ok a) = Accept
+unfoldable pub answer : Result (Unit {0}) Refusal → Answer
+answer (Err r) = Refuse r
+answer (Ok a) = Accept
 
 -- the answer to a pair of texts, with a work space of `room` numbers
 unfoldable pub verdict : (room : ℕ) → (program_text split_text : List ℕ) → Answer

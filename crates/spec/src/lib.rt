@@ -2,7 +2,7 @@
 #![tactic(auto)]
 
 // The words of a program sheet, by their number of parts.
-#[derive(Clone, Copy)]
+#[derive(Clone, Copy, PartialEq, Eq)]
 pub enum LeafWord {
     Var,
     Int,
@@ -12,7 +12,7 @@ pub enum LeafWord {
     Newrwlock,
 }
 
-#[derive(Clone, Copy)]
+#[derive(Clone, Copy, PartialEq, Eq)]
 pub enum UnaryWord {
     While,
     Join,
@@ -29,7 +29,7 @@ pub enum UnaryWord {
     Call,
 }
 
-#[derive(Clone, Copy)]
+#[derive(Clone, Copy, PartialEq, Eq)]
 pub enum BinaryWord {
     Let,
     If,
@@ -37,7 +37,7 @@ pub enum BinaryWord {
     Write,
 }
 
-#[derive(Clone, Copy)]
+#[derive(Clone, Copy, PartialEq, Eq)]
 pub enum Word {
     Leaf(LeafWord),
     Unary(UnaryWord),
@@ -45,7 +45,7 @@ pub enum Word {
 }
 
 // What a step does with its number v: a variable is bound or used, a procedure is called, any other number is neither.
-#[derive(Drop)]
+#[derive(Clone, Copy, PartialEq, Eq)]
 pub enum Role {
     Binds,
     Uses,
@@ -54,24 +54,24 @@ pub enum Role {
 }
 
 // The headings of a program sheet: `P,n` and `P2,n,k`.
-#[derive(Clone, Copy)]
+#[derive(Clone, Copy, PartialEq, Eq)]
 pub enum ProgramHeading {
     P,
     P2,
 }
 
 // The numbers of types, maps and locations, each counted from 0: three sorts that never mix.
-#[derive(Clone, Copy)]
+#[derive(Clone, Copy, PartialEq, Eq)]
 pub struct TypeNumber(pub u32);
 
-#[derive(Clone, Copy)]
+#[derive(Clone, Copy, PartialEq, Eq)]
 pub struct MapNumber(pub u32);
 
-#[derive(Clone, Copy)]
+#[derive(Clone, Copy, PartialEq, Eq)]
 pub struct Location(pub u32);
 
 // The headings of a split sheet: `C,D,L,T,M`, `C2,D,L,T,M,r` and `C3,D,L,T,M,r`.
-#[derive(Clone, Copy)]
+#[derive(Clone, Copy, PartialEq, Eq)]
 pub enum Heading {
     C,
     C2,
@@ -79,7 +79,7 @@ pub enum Heading {
 }
 
 // What a split sheet is read for: to check a program with it, or to fill in its after-maps.
-#[derive(Clone, Copy)]
+#[derive(Clone, Copy, PartialEq, Eq)]
 pub enum Purpose {
     Check,
     Fill,
@@ -87,7 +87,7 @@ pub enum Purpose {
 
 // What line 1 of a split sheet says: its heading, the denominator, how many locations, types and maps there are, and the start, the
 // map before the root.
-#[derive(Clone, Copy)]
+#[derive(Clone, Copy, PartialEq, Eq)]
 pub struct Header {
     pub heading: Heading,
     pub denominator: u32,
@@ -98,7 +98,7 @@ pub struct Header {
 }
 
 // What the line of a procedure says, `before,argument,after,result`: the map and the type that it asks for, and those that it leaves.
-#[derive(Clone, Copy)]
+#[derive(Clone, Copy, PartialEq, Eq)]
 pub struct Signature {
     pub before: MapNumber,
     pub argument: TypeNumber,
@@ -108,7 +108,7 @@ pub struct Signature {
 
 // What a type line of a split sheet says. A content type, a map: by number. A lock has its in and its out, a
 // read-write lock what a reader and a writer take.
-#[derive(Clone, Copy)]
+#[derive(Clone, Copy, PartialEq, Eq)]
 pub enum TypeLine {
     Int,
     Ref(Location, TypeNumber),
@@ -119,7 +119,7 @@ pub enum TypeLine {
 }
 
 // A reason to stop, with the line, the condition and the location that a person wants to know.
-#[derive(Clone, Copy)]
+#[derive(Clone, Copy, PartialEq, Eq)]
 pub enum Refusal {
     ShortWorkspace,
     LongProgram,
@@ -160,22 +160,15 @@ pub enum Refusal {
     NoKept(u32),
 }
 
-// What one of the stages of an answer says: nothing is to be refused, or the first thing that is.
-#[derive(Clone, Copy)]
-pub enum Ruling {
-    Holds,
-    Refused(Refusal),
-}
-
 // The answer to a pair of sheets.
-#[derive(Clone, Copy)]
+#[derive(Clone, Copy, PartialEq, Eq)]
 pub enum Answer {
     Accept,
     Refuse(Refusal),
 }
 
 // The four numbers that a call returns for an answer.
-#[derive(Drop)]
+#[derive(Clone, Copy, PartialEq, Eq)]
 pub struct Returned {
     pub number: u32,
     pub line: u32,

@@ -1,10 +1,11 @@
 -- A loop that stores what counted lines say: what it has stored after some of them, and what it leaves at its end.
+use Rattle.std.proofs.Common.{Ok, Err}
 use mathlib.Core.Path.{◌≡◌, refl, ap}
 use mathlib.Core.List.{List, [], ◌∷◌, ◌++◌, map}
 use Prim.Native.Nat.{ℕ, zero, suc, ◌+◌, ◌≤◌, ◌<◌}
 use lib.ListN.{replicate}
 use Rattle.spec.specs.Text.{Field}
-use Rattle.spec.specs.Reading.{split_sheet, refuse, ok, LineResult, Place, read_line, read_lines}
+use Rattle.spec.specs.Reading.{split_sheet, LineResult, Place, read_line, read_lines}
 use Rattle.spec.specs.Expression.{Step}
 use Rattle.spec.specs.Split.{type_line, type_lines, map_line, signature_line, row_line}
 use Rattle.spec.specs.declared.Header.{Header}
@@ -70,13 +71,13 @@ module _
     {A : Type 0} {read : ℕ → List Field → LineResult A} {Stored : List ℕ → List A → Type 0} {a b n : ℕ} {text w₀ : List ℕ} {from : Place} {w : List ℕ} {c : Cursor} {i : ℕ}
     (s : Stage read Stored a b n text w₀ from w c i)
   where
-    pub stage_on : i < n → {w' : List ℕ} {entry : A} {d : Cursor} → read_line split_sheet (read i) (place_at text c) ≡ ok (entry, place_at text d) → Placed text d
+    pub stage_on : i < n → {w' : List ℕ} {entry : A} {d : Cursor} → read_line split_sheet (read i) (place_at text c) ≡ Ok (entry, place_at text d) → Placed text d
         → Stored w' (s.entries ++ (entry ∷ [])) → ChangedWithin a b w w' → Stage read Stored a b n text w₀ from w' d (i + 1)
     stage_on h {entry = entry} e p t x = record { entries = s.entries ++ (entry ∷ []); loop_step = loop_step_on s.loop_step h e p; stored = t; changed = changed_then a b s.changed x }
 
     module _ {reads : List (List Field → LineResult A)} (q : reads ≡ numbered read 0 n) where
       -- a line is refused, whatever was stored of it
-      pub stage_stops : i < n → {r : Refusal} → read_line split_sheet (read i) (place_at text c) ≡ refuse r → {w' : List ℕ} → ChangedWithin a b w w'
+      pub stage_stops : i < n → {r : Refusal} → read_line split_sheet (read i) (place_at text c) ≡ Err r → {w' : List ℕ} → ChangedWithin a b w w'
           → LinesStored a b n Stored text (read_lines split_sheet reads from) w₀ w' (lines_read.Refused r)
       stage_stops h e x = record { answered = rw q (loop_step_stops s.loop_step h e); changed = changed_then a b s.changed x }
 

@@ -1,4 +1,5 @@
 -- One turn more of the loops that store what a line says.
+use Rattle.std.proofs.Common.{Ok, Err}
 use mathlib.Core.Path.{◌≡◌, sym, ap, subst, ◌∙◌}
 use mathlib.Core.Logic.{inl}
 use mathlib.Core.List.{List, [], ◌∷◌, ◌++◌}
@@ -7,7 +8,7 @@ use native.Mathlib.Omega.{arith}
 use lib.ListN.{length, get_or, set, take, drop, length-drop}
 use lib.Seq.{length-take-le}
 use Rattle.spec.specs.Text.{Field}
-use Rattle.spec.specs.Reading.{split_sheet, refuse, ok, LineResult, Place, read_line, read_lines}
+use Rattle.spec.specs.Reading.{split_sheet, LineResult, Place, read_line, read_lines}
 use Rattle.spec.specs.Split.{Map}
 use Rattle.spec.specs.declared.Signature.{Signature}
 use Rattle.spec.specs.declared.Header.{Header}
@@ -33,7 +34,7 @@ module _
     (few : n ≤ rows) (room : b + rows + rows + rows ≤ length w₀)
     (s : Stage read (Columns f g h b rows) b (b + rows + rows + rows) n text w₀ from w c i)
   where
-    pub columns_on : i < n → {w' : List ℕ} {entry : A} {d : Cursor} → read_line split_sheet (read i) (place_at text c) ≡ ok (entry, place_at text d) → Placed text d
+    pub columns_on : i < n → {w' : List ℕ} {entry : A} {d : Cursor} → read_line split_sheet (read i) (place_at text c) ≡ Ok (entry, place_at text d) → Placed text d
         → w' ≡ set (set (set w (b + i) (f entry)) (b + rows + i) (g entry)) (b + rows + rows + i) (h entry)
         → Stage read (Columns f g h b rows) b (b + rows + rows + rows) n text w₀ from w' d (i + 1)
     columns_on l {entry = entry} e p q =
@@ -46,7 +47,7 @@ module _
 -- a signature, whose four numbers go into four columns
 pub signatures_on : {k : ℕ} {read : ℕ → List Field → LineResult Signature} {text w₀ : List ℕ} {from : Place} {w : List ℕ} {c : Cursor} {f : ℕ}
     → k ≤ 16 → length w₀ ≡ work_size → Stage read HoldsSignatures sig_befores_at (sig_results_at + 16) k text w₀ from w c f → f < k
-    → {w' : List ℕ} {entry : Signature} {d : Cursor} → read_line split_sheet (read f) (place_at text c) ≡ ok (entry, place_at text d) → Placed text d
+    → {w' : List ℕ} {entry : Signature} {d : Cursor} → read_line split_sheet (read f) (place_at text c) ≡ Ok (entry, place_at text d) → Placed text d
     → w' ≡ signed w f entry → Stage read HoldsSignatures sig_befores_at (sig_results_at + 16) k text w₀ from w' d (f + 1)
 signatures_on {w = w} {f = f} few whole s l {entry = entry} e p q =
     let long : length w ≡ work_size = s.changed.long ∙ whole in
@@ -102,11 +103,11 @@ module _
       map_long = put_changed.long ∙ s.changed.long
 
       pub map_stops : {reads : List (List Field → LineResult Map)} → reads ≡ numbered (λ m. cell_line locations) 0 n → {r : Refusal}
-          → read_line split_sheet (cell_line (length part)) (place_at text c) ≡ refuse r
+          → read_line split_sheet (cell_line (length part)) (place_at text c) ≡ Err r
           → LinesStored maps_at work_size n (HoldsMaps locations) text (read_lines split_sheet reads from) w₀ (put ys) (lines_read.Refused r)
       map_stops q e = stage_stops s q less (rw (← part_long) e) put_changed
 
-      pub map_on : {d : Cursor} → read_line split_sheet (cell_line (length part)) (place_at text c) ≡ ok (ys, place_at text d) → Placed text d
+      pub map_on : {d : Cursor} → read_line split_sheet (cell_line (length part)) (place_at text c) ≡ Ok (ys, place_at text d) → Placed text d
           → Stage (λ m. cell_line locations) (HoldsMaps locations) maps_at work_size n text w₀ from (put ys) d (i + 1)
       map_on e p =
           stage_on s less (rw (← part_long) e) p

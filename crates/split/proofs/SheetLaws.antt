@@ -1,11 +1,12 @@
 -- The whole sheet: its parts one after the other, and what the work space holds once all of them are read.
+use Rattle.std.proofs.Common.{Result}
 use mathlib.Core.Path.{◌≡◌, refl, sym, ap, subst, ◌∙◌}
 use mathlib.Core.Logic.{inl, inr}
 use mathlib.Core.List.{List, map}
 use Prim.Native.Nat.{ℕ, ◌+◌, ◌≤◌}
 use native.Mathlib.Omega.{arith}
 use lib.ListN.{length, replicate, length-map}
-use Rattle.spec.specs.Reading.{split_sheet, Result, ◌>>=◌, Place, read_lines, end}
+use Rattle.spec.specs.Reading.{split_sheet, ◌>>=◌, Place, read_lines, end}
 use Rattle.spec.specs.Expression.{Step}
 use Rattle.spec.specs.Split.{Map, Row, Split, type_lines, map_line, signature_line, row_line}
 use Rattle.spec.specs.declared.Signature.{Signature}
@@ -33,10 +34,10 @@ module _ (purpose : Purpose) {text : List ℕ} {c : Cursor} {h : Header} {n k : 
     abbrev H : Header
     H = h
 
-    abbrev whole : Result Split
+    abbrev whole : Result Split Refusal
     whole = body purpose H k (steps_from w 0 n) (place_at text c)
 
-    abbrev types_out : Result (List TypeLine × Place)
+    abbrev types_out : Result (List TypeLine × Place) Refusal
     types_out = read_lines split_sheet (type_lines H 0 h.types) (place_at text c)
 
     changed_one : ChangedWithin row_types_at work_size w w₁
@@ -60,7 +61,7 @@ module _ (purpose : Purpose) {text : List ℕ} {c : Cursor} {h : Header} {n k : 
         whole = read_types.changed.long ∙ pre.storing.whole;
       }
 
-      abbrev maps_out : Result (List Map × Place)
+      abbrev maps_out : Result (List Map × Place) Refusal
       maps_out = read_lines split_sheet (replicate h.maps (map_line H)) (place_at text c₂)
 
       module _ {w₂ : List ℕ} {maps : LinesRead} (read_maps : MapsRead text c₂ h w₁ w₂ maps) where
@@ -95,7 +96,7 @@ module _ (purpose : Purpose) {text : List ℕ} {c : Cursor} {h : Header} {n k : 
             few = pre.few_procedures;
           }
 
-          abbrev signatures_out : Result (List Signature × Place)
+          abbrev signatures_out : Result (List Signature × Place) Refusal
           signatures_out = read_lines split_sheet (replicate k (signature_line H)) (place_at text c₃)
 
           module _ {u : List ℕ} {signatures : LinesRead} (read_signatures : SignaturesRead text c₃ h k v u signatures) where
@@ -124,7 +125,7 @@ module _ (purpose : Purpose) {text : List ℕ} {c : Cursor} {h : Header} {n k : 
                 few = pre.few_steps;
               }
 
-              abbrev rows_out : Result (List Row × Place)
+              abbrev rows_out : Result (List Row × Place) Refusal
               rows_out = read_lines split_sheet (map (row_line purpose H) (steps_from u 0 n)) (place_at text c₄)
 
               module _ {w₃ : List ℕ} {rows : LinesRead} (read_rows : RowsRead purpose text c₄ h n u w₃ rows) where

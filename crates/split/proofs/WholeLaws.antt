@@ -1,4 +1,5 @@
 -- A split sheet from its first line on: an empty text, a header that is refused, and the lines behind a header.
+use Rattle.std.proofs.Common.{Result, Ok, Err}
 use mathlib.Core.Path.{◌≡◌, sym, ap, subst, ◌∙◌}
 use mathlib.Core.List.{List}
 use mathlib.Core.Bool.{true, false}
@@ -6,7 +7,7 @@ use Prim.Native.Nat.{ℕ, ◌<◌}
 use native.Mathlib.Omega.{arith}
 use lib.ListN.{length}
 use Rattle.spec.specs.Text.{lines}
-use Rattle.spec.specs.Reading.{split_sheet, Result, refuse, ok, ◌>>=◌, form, read_line, begin}
+use Rattle.spec.specs.Reading.{split_sheet, ◌>>=◌, form, read_line, begin}
 use Rattle.spec.specs.Expression.{Step}
 use Rattle.spec.specs.Program.{Program}
 use Rattle.spec.specs.Split.{Split, header_line, split}
@@ -36,7 +37,7 @@ module _ {text : List ℕ} {n k : ℕ} {w : List ℕ} (pre : Readable text n k w
   top_rest : rest text top ≡ text
   top_rest = ap (rest text) is ∙ start_rest text
 
-  empty_begin : text_ended (rest text top) ≡ true → begin split_sheet (lines text) ≡ refuse (SplitForm 1)
+  empty_begin : text_ended (rest text top) ≡ true → begin split_sheet (lines text) ≡ Err (SplitForm 1)
   unfolding form
   empty_begin e = begin_at_none split_sheet text (sym top_rest ∙ left_none (rest text top) e)
 
@@ -51,7 +52,7 @@ module _ {text : List ℕ} {n k : ℕ} {w : List ℕ} (pre : Readable text n k w
       some = some_left;
     }
 
-    top_place : begin split_sheet (lines text) ≡ ok (place_at text top)
+    top_place : begin split_sheet (lines text) ≡ Ok (place_at text top)
     top_place = begin_at_some split_sheet text (subst (λ (t : List ℕ). 0 < length t) top_rest (left_some (rest text top) some_left)) ∙ rw is
 
     module _ (answer : HeaderLine) (header : HeaderAnswer text (read_line split_sheet (header_line purpose) (place_at text top)) answer) where
@@ -74,7 +75,7 @@ module _ {text : List ℕ} {n k : ℕ} {w : List ℕ} (pre : Readable text n k w
         }
 
         module _ {w' : List ℕ} {lines' : LinesRead} (read : BodyRead purpose h n k (place_at text c) w w' lines') where
-          abbrev out : Result Split
+          abbrev out : Result Split Refusal
           out = body purpose h k (steps_from w 0 n) (place_at text c)
 
           of_program : (P : Program) → HoldsSteps w P.steps → length P.steps ≡ n → length P.procedures ≡ k → split purpose P text ≡ out

@@ -1,6 +1,7 @@
 -- What the answer to a whole split sheet means.
-use Rattle.std.specs.Prelude.{◌≡◌, List, map, ℕ, ◌≤◌, length, replicate}
-use Rattle.spec.specs.Reading.{split_sheet, Result, refuse, ok, ◌>>=◌, Place, read_lines, end}
+use Rattle.std.specs.Prelude.{◌≡◌, List, map, ℕ, ◌≤◌, length, replicate, Result, Ok, Err}
+use Rattle.spec.specs.declared.Refusal.{Refusal}
+use Rattle.spec.specs.Reading.{split_sheet, ◌>>=◌, Place, read_lines, end}
 use Rattle.spec.specs.Expression.{Step}
 use Rattle.spec.specs.Program.{Program}
 use Rattle.spec.specs.Split.{Split, type_lines, map_line, signature_line, row_line, split}
@@ -33,31 +34,31 @@ pub record StoringBody (text : List ℕ) (c : Cursor) (h : Header) (steps proced
   pub few_procedures : procedures ≤ 16
 
 -- the lines behind the header, for k procedures and these steps
-unfoldable pub body : Purpose → Header → (k : ℕ) → List Step → Place → Result Split
+unfoldable pub body : Purpose → Header → (k : ℕ) → List Step → Place → Result Split Refusal
 body purpose H k steps p₁ = do
   (types, p₂) ← read_lines split_sheet (type_lines H 0 H.types) p₁
   (maps, p₃) ← read_lines split_sheet (replicate H.maps (map_line H)) p₂
   (signatures, p₄) ← read_lines split_sheet (replicate k (signature_line H)) p₃
   (rows, p₅) ← read_lines split_sheet (map (row_line purpose H) steps) p₄
   done ← end split_sheet p₅
-  ok (record { header = H; types = types; maps = maps; signatures = signatures; rows = rows })
+  Ok (record { header = H; types = types; maps = maps; signatures = signatures; rows = rows })
 
-abbrev pub EndAnswer : Result (Unit {0}) → LinesRead → Type 0
-EndAnswer out (lines_read.Refused r) = out ≡ refuse r
-EndAnswer out (lines_read.Read c) = out ≡ ok tt
+abbrev pub EndAnswer : Result (Unit {0}) Refusal → LinesRead → Type 0
+EndAnswer out (lines_read.Refused r) = out ≡ Err r
+EndAnswer out (lines_read.Read c) = out ≡ Ok tt
 
-abbrev pub BodyAnswer : Header → Result Split → (w' : List ℕ) → LinesRead → Type 0
-BodyAnswer H out w' (lines_read.Refused r) = out ≡ refuse r
-BodyAnswer H out w' (lines_read.Read c) = (S : Split) × (out ≡ ok S) × (S.header ≡ H) × HoldsSplit w' S
+abbrev pub BodyAnswer : Header → Result Split Refusal → (w' : List ℕ) → LinesRead → Type 0
+BodyAnswer H out w' (lines_read.Refused r) = out ≡ Err r
+BodyAnswer H out w' (lines_read.Read c) = (S : Split) × (out ≡ Ok S) × (S.header ≡ H) × HoldsSplit w' S
 
 pub record BodyRead (purpose : Purpose) (H : Header) (n k : ℕ) (from : Place) (w w' : List ℕ) (answer : LinesRead) : Type 0 where
   pub answered : BodyAnswer H (body purpose H k (steps_from w 0 n) from) w' answer
   pub changed : ChangedWithin row_types_at work_size w w'
 
 -- a refusal is that of document 01; else the header is that of the split, which the work space holds
-abbrev pub SheetAnswer : Result Split → (w' : List ℕ) → Sheet → Type 0
-SheetAnswer out w' (sheet.Refused r) = out ≡ refuse r
-SheetAnswer out w' (sheet.Read h) = (S : Split) × (out ≡ ok S) × (S.header ≡ h) × HoldsSplit w' S × Small h
+abbrev pub SheetAnswer : Result Split Refusal → (w' : List ℕ) → Sheet → Type 0
+SheetAnswer out w' (sheet.Refused r) = out ≡ Err r
+SheetAnswer out w' (sheet.Read h) = (S : Split) × (out ≡ Ok S) × (S.header ≡ h) × HoldsSplit w' S × Small h
 
 -- reading a split sheet, to check or to fill, for the n steps of a program that the work space holds and its k procedures: only places
 -- from the rows on change

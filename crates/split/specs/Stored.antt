@@ -1,6 +1,7 @@
 -- What lines leave in the work space, and what the answers of the readers of many lines mean.
-use Rattle.std.specs.Prelude.{◌≡◌, List, [], map, ℕ, ◌+◌, ◌*◌, ◌<◌, ◌≤◌, length, get_or, set, replicate}
-use Rattle.spec.specs.Reading.{split_sheet, Result, refuse, ok, Place, read_lines}
+use Rattle.std.specs.Prelude.{◌≡◌, List, [], map, ℕ, ◌+◌, ◌*◌, ◌<◌, ◌≤◌, length, get_or, set, replicate, Result, Ok, Err}
+use Rattle.spec.specs.declared.Refusal.{Refusal}
+use Rattle.spec.specs.Reading.{split_sheet, Place, read_lines}
 use Rattle.spec.specs.Split.{Map, Row, type_lines, map_line, signature_line, row_line}
 use Rattle.spec.specs.declared.Signature.{Signature}
 use Rattle.spec.specs.declared.Purpose.{Purpose}
@@ -68,12 +69,12 @@ pub record StoringSignatures (text : List ℕ) (c : Cursor) (h : Header) (proced
   pub few : procedures ≤ 16
 
 -- n lines read one after the other: what they say is in the work space
-abbrev pub LinesAnswer : {A : Type 0} → (n : ℕ) → (Stored : List A → Type 0) → List ℕ → Result (List A × Place) → LinesRead → Type 0
-LinesAnswer n Stored text out (lines_read.Refused r) = out ≡ refuse r
+abbrev pub LinesAnswer : {A : Type 0} → (n : ℕ) → (Stored : List A → Type 0) → List ℕ → Result (List A × Place) Refusal → LinesRead → Type 0
+LinesAnswer n Stored text out (lines_read.Refused r) = out ≡ Err r
 LinesAnswer n Stored text out (lines_read.Read c) =
-    (entries : List _) × (out ≡ ok (entries, place_at text c)) × (length entries ≡ n) × Stored entries × Placed text c
+    (entries : List _) × (out ≡ Ok (entries, place_at text c)) × (length entries ≡ n) × Stored entries × Placed text c
 
-pub record LinesStored {A : Type 0} (a b n : ℕ) (Stored : List ℕ → List A → Type 0) (text : List ℕ) (out : Result (List A × Place)) (w w' : List ℕ) (answer : LinesRead) : Type 0 where
+pub record LinesStored {A : Type 0} (a b n : ℕ) (Stored : List ℕ → List A → Type 0) (text : List ℕ) (out : Result (List A × Place) Refusal) (w w' : List ℕ) (answer : LinesRead) : Type 0 where
   pub answered : LinesAnswer n (Stored w') text out answer
   pub changed : ChangedWithin a b w w'
 

@@ -1,8 +1,8 @@
 -- What the first field at a cursor says, as the answers of the readers of fields.
+use Rattle.std.proofs.Common.{None}
 use mathlib.Core.Path.{◌≡◌, refl, sym, ap, subst, ◌∙◌}
 use mathlib.Core.Logic.{inl, inr, ⊎_elim}
 use mathlib.Core.List.{List, [], ◌∷◌}
-use mathlib.Core.Option.{none}
 use Prim.Native.Nat.{ℕ, ◌-◌, ◌≤◌}
 use native.Mathlib.Omega.{arith}
 use lib.ListN.{length, take, drop, length-drop}
@@ -73,7 +73,7 @@ module _ (text : List ℕ) (c : Cursor) (s : Span) (is : s ≡ span_at text c) w
 
   -- something else
   pub start_neither : Placed text c → (s.from ≡ s.to → ⊥) → numeral_of (numeral (take (s.to - s.from) (drop s.from text))) ≡ numeral_is.Malformed
-      → (numeral (first_field (rest text c)) ≡ none) × (first_field (rest text c) ≡ [] → ⊥)
+      → (numeral (first_field (rest text c)) ≡ None) × (first_field (rest text c) ≡ [] → ⊥)
   start_neither p q h =
       let l = span_le text c s is p in
       (ap numeral (sym (span_field text c s is)) ∙ numeral_none _ h, λ z. some_taken text s.from s.to l.0 l.1 q (span_field text c s is ∙ z))

@@ -1,10 +1,11 @@
 -- A line at a cursor: missing, spare, what it shows; and the cursor behind its first field.
+use Rattle.std.proofs.Common.{Ok, Err}
 use mathlib.Core.Path.{◌≡◌, sym, ap, subst, ◌∙◌}
 use mathlib.Core.List.{List}
 use mathlib.Core.Bool.{true, false}
 use Prim.Native.Nat.{ℕ, ◌+◌}
 use Rattle.spec.specs.Text.{lines, Line, Field}
-use Rattle.spec.specs.Reading.{split_sheet, refuse, ok, LineResult, good, bad, bad_form, bad_range, form, outside, miscounted, faulty, passed, read_line, end}
+use Rattle.spec.specs.Reading.{split_sheet, LineResult, good, bad, bad_form, bad_range, form, outside, miscounted, faulty, passed, read_line, end}
 use Rattle.spec.specs.declared.Refusal.TheVariants.{SplitForm, SplitRange, SplitLines}
 use Rattle.lexer.specs.Views.{end_of, first_field, text_ended, with_field, line_at}
 use Rattle.lexer.specs.Cursors.{Placed, rest, behind_field, place_at}
@@ -18,30 +19,30 @@ use Rattle.lexer.proofs.Walks.{left_none, left_some}
 -- ------------------------------------------------------------------ none, and none left
 
 module _ (text : List ℕ) (c : Cursor) where
-  pub line_missing : {A : Type 0} (read : List Field → LineResult A) → text_ended (rest text c) ≡ true → read_line split_sheet read (place_at text c) ≡ refuse (SplitLines c.line)
+  pub line_missing : {A : Type 0} (read : List Field → LineResult A) → text_ended (rest text c) ≡ true → read_line split_sheet read (place_at text c) ≡ Err (SplitLines c.line)
   unfolding miscounted
   line_missing read e = next_at_none split_sheet text read c (left_none (rest text c) e)
 
-  pub end_reached : text_ended (rest text c) ≡ true → end split_sheet (place_at text c) ≡ ok tt
+  pub end_reached : text_ended (rest text c) ≡ true → end split_sheet (place_at text c) ≡ Ok tt
   end_reached e = end_at_none split_sheet text c (left_none (rest text c) e)
 
-  pub line_spare : text_ended (rest text c) ≡ false → end split_sheet (place_at text c) ≡ refuse (SplitLines (c.line + 1))
+  pub line_spare : text_ended (rest text c) ≡ false → end split_sheet (place_at text c) ≡ Err (SplitLines (c.line + 1))
   unfolding miscounted
   line_spare e = end_at_some split_sheet text c (left_some (rest text c) e)
 
 -- ------------------------------------------------------------------ what a line shows
 
 module _ {A : Type 0} (k : ℕ) (l : List Line) where
-  pub shows_form : {s : LineResult A} → s ≡ bad bad_form → passed split_sheet k l s ≡ refuse (SplitForm k)
+  pub shows_form : {s : LineResult A} → s ≡ bad bad_form → passed split_sheet k l s ≡ Err (SplitForm k)
   unfolding faulty passed form
   shows_form e = rw e
 
-  pub shows_range : {s : LineResult A} → s ≡ bad bad_range → passed split_sheet k l s ≡ refuse (SplitRange k)
+  pub shows_range : {s : LineResult A} → s ≡ bad bad_range → passed split_sheet k l s ≡ Err (SplitRange k)
   unfolding faulty passed outside
   shows_range e = rw e
 
 pub shows_entry : {A : Type 0} (text : List ℕ) (c d : Cursor) {s : LineResult A} (a : A) → s ≡ good a → d.line ≡ c.line + 1
-    → passed split_sheet (c.line + 1) (lines (rest text d)) s ≡ ok (a, place_at text d)
+    → passed split_sheet (c.line + 1) (lines (rest text d)) s ≡ Ok (a, place_at text d)
 shows_entry text c d a e h = ap (passed split_sheet (c.line + 1) (lines (rest text d))) e ∙ passed_at split_sheet text a c d h
 
 -- ------------------------------------------------------------------ behind the first field

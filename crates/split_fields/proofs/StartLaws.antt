@@ -1,11 +1,12 @@
 -- Where a row has an s, where it is asked for, and how a line without one is refused.
+use Rattle.std.proofs.Common.{Err}
 use mathlib.Core.Path.{◌≡◌, sym}
 use mathlib.Core.List.{List}
 use mathlib.Core.Bool.{Bool, true, false, not}
 use Prim.Native.Nat.{ℕ}
 use Rattle.spec.specs.Choice.{when◌then◌else◌}
 use Rattle.spec.specs.Text.{Line}
-use Rattle.spec.specs.Reading.{split_sheet, refuse, LineResult, bad, no_start, no_kept, faulty, passed}
+use Rattle.spec.specs.Reading.{split_sheet, LineResult, bad, no_start, no_kept, faulty, passed}
 use Rattle.spec.specs.Split.{may_be_empty, empty_fault}
 use Rattle.spec.specs.Words.{takes_start, keeps_back}
 use Rattle.spec.specs.declared.Heading.{Heading}
@@ -41,10 +42,10 @@ unfolding empty_refusal
 start_refused w line e = sym (rw e)
 
 -- an empty s that may not be, as the line shows it
-pub shows_empty : {A : Type 0} (k : ℕ) (l : List Line) (w : Word) {s : LineResult A} → s ≡ bad (empty_fault w) → passed split_sheet k l s ≡ refuse (empty_refusal w k)
+pub shows_empty : {A : Type 0} (k : ℕ) (l : List Line) (w : Word) {s : LineResult A} → s ≡ bad (empty_fault w) → passed split_sheet k l s ≡ Err (empty_refusal w k)
 unfolding faulty passed empty_fault empty_refusal
 shows_empty {A = A} k l w e = go (keeps_back w) e
   where
-    go : (x : Bool) {s : LineResult A} → s ≡ bad (when x then no_kept else no_start) → passed split_sheet k l s ≡ refuse (when x then NoKept k else NoStart k)
+    go : (x : Bool) {s : LineResult A} → s ≡ bad (when x then no_kept else no_start) → passed split_sheet k l s ≡ Err (when x then NoKept k else NoStart k)
     go true e = rw e
     go false e = rw e

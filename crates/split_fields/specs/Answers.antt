@@ -1,6 +1,5 @@
 -- What the answers of the readers of fields mean, as document 01 has the field there.
-use Rattle.std.specs.Prelude.{◌≡◌, ◌⊎◌, List, [], ◌∷◌, ℕ, ◌≤◌, ◌-◌, length, take, drop}
-use Rattle.std.proofs.Math.Option.{none, some}
+use Rattle.std.specs.Prelude.{◌≡◌, ◌⊎◌, List, [], ◌∷◌, ℕ, ◌≤◌, ◌-◌, length, take, drop, None, Some}
 use Rattle.spec.specs.Text.{Field, numeral}
 use Rattle.spec.specs.Split.{post_field}
 use Rattle.spec.specs.declared.Purpose.{Purpose}
@@ -32,21 +31,21 @@ HeadAnswer text c head.Alone = end_of (rest text c) ≡ Comma → ⊥
 -- a numeral with a comma behind it
 abbrev pub LeadingAnswer : List ℕ → Cursor → Leading → Type 0
 LeadingAnswer text c (leading.Value n d) = Spells (first_field (rest text c)) n × (end_of (rest text c) ≡ Comma) × (behind_field text c ≡ d)
-LeadingAnswer text c leading.Malformed = (numeral (first_field (rest text c)) ≡ none) ⊎ (end_of (rest text c) ≡ Comma → ⊥)
+LeadingAnswer text c leading.Malformed = (numeral (first_field (rest text c)) ≡ None) ⊎ (end_of (rest text c) ≡ Comma → ⊥)
 
 -- the number that is handed on for an m: when filling, that of map 0 for nothing, and for a numeral one that is in no range
 abbrev pub PostSpells : Purpose → Field → ℕ → Type 0
 PostSpells Check m n = Spells m n
 PostSpells Fill [] n = n ≡ 0
-PostSpells Fill (b ∷ m) n = (k : ℕ) × (numeral (b ∷ m) ≡ some k) × (n ≡ 4294967295)
+PostSpells Fill (b ∷ m) n = (k : ℕ) × (numeral (b ∷ m) ≡ Some k) × (n ≡ 4294967295)
 
 -- an m with a comma behind it
 abbrev pub PostAnswer : Purpose → List ℕ → Cursor → Leading → Type 0
 PostAnswer purpose text c (leading.Value n d) = PostSpells purpose (first_field (rest text c)) n × (end_of (rest text c) ≡ Comma) × (behind_field text c ≡ d)
-PostAnswer purpose text c leading.Malformed = (numeral (post_field purpose (first_field (rest text c))) ≡ none) ⊎ (end_of (rest text c) ≡ Comma → ⊥)
+PostAnswer purpose text c leading.Malformed = (numeral (post_field purpose (first_field (rest text c))) ≡ None) ⊎ (end_of (rest text c) ≡ Comma → ⊥)
 
 -- the last field of a row
 abbrev pub StartAnswer : List ℕ → Cursor → Start → Type 0
 StartAnswer text c (start.Empty d) = (first_field (rest text c) ≡ []) × (end_of (rest text c) ≡ Newline) × (behind_field text c ≡ d)
 StartAnswer text c (start.Given n d) = Spells (first_field (rest text c)) n × (end_of (rest text c) ≡ Newline) × (behind_field text c ≡ d)
-StartAnswer text c start.Malformed = ((numeral (first_field (rest text c)) ≡ none) × (first_field (rest text c) ≡ [] → ⊥)) ⊎ (end_of (rest text c) ≡ Newline → ⊥)
+StartAnswer text c start.Malformed = ((numeral (first_field (rest text c)) ≡ None) × (first_field (rest text c) ≡ [] → ⊥)) ⊎ (end_of (rest text c) ≡ Newline → ⊥)

@@ -1,6 +1,5 @@
 -- The s of a row, as its readers see it.
-use Rattle.std.proofs.Math.Option.{Option, none, some}
-use Rattle.std.specs.Prelude.{ℕ}
+use Rattle.std.specs.Prelude.{ℕ, Option, None, Some}
 use Rattle.spec.specs.Choice.{when◌then◌else◌}
 use Rattle.spec.specs.Words.{takes_start, keeps_back}
 use Rattle.spec.specs.declared.Refusal.{Refusal}
@@ -12,8 +11,8 @@ use Rattle.split_fields.specs.declared.starts.RowStart.TheVariants as declared_s
 
 -- what a row says of its s, as document 01 has it
 unfoldable pub start_decoded : RowStart → Option MapNumber
-start_decoded (declared_start.Given m) = some m
-start_decoded declared_start.Empty = none
+start_decoded (declared_start.Given m) = Some m
+start_decoded declared_start.Empty = None
 
 -- how many of the maps can be the s of a step with this word
 abbrev pub start_limit : Word → (maps : ℕ) → ℕ

@@ -1,8 +1,8 @@
 -- The header line, by its heading and the numerals behind it.
+use Rattle.std.proofs.Common.{Option, None, Some, Ok, Err}
 use mathlib.Core.Path.{◌≡◌, refl, sym, ap, subst, ◌∙◌}
 use mathlib.Core.List.{List, [], ◌∷◌, ◌++◌, map}
 use mathlib.Core.Bool.{Bool, true, false, and-false}
-use mathlib.Core.Option.{Option, none, some}
 use Prim.Native.Nat.{ℕ, ◌+◌, ◌≤◌, ◌<◌}
 use native.Mathlib.Omega.{arith}
 use lib.Dec.{eqb, leb}
@@ -11,7 +11,7 @@ use lib.Seq.{length-take-le}
 use borrow.Author.Tests.{leb-true, leb-false, lt-leb}
 use Rattle.spec.specs.Choice.{when◌then◌else◌}
 use Rattle.spec.specs.Text.{bytes, same, Field, look_up, lines}
-use Rattle.spec.specs.Reading.{split_sheet, refuse, ok, LineResult, good, bad, bad_form, bad_range, seen, in_range, all_in_range, numerals, numbers, form, passed, next_line, read_line, or_bad_form}
+use Rattle.spec.specs.Reading.{split_sheet, LineResult, good, bad, bad_form, bad_range, seen, in_range, all_in_range, numerals, numbers, form, passed, next_line, read_line, or_bad_form}
 use Rattle.spec.specs.Split.{headings, header_ranges, maps_of, maps_in, start_of, header_of, header_line}
 use Rattle.spec.specs.declared.Header.{Header}
 use Rattle.spec.specs.declared.Heading.{Heading}
@@ -72,15 +72,15 @@ unfolding headings look_up heading_found
 other_heading f Check e e' e'' = sym (rw (e, e', e''))
 other_heading f Fill e e' e'' = sym (rw (e', e''))
 
-pub heading_known : (o : Option Heading) (h : Heading) → heading_found o ≡ found_heading.Known h → o ≡ some h
+pub heading_known : (o : Option Heading) (h : Heading) → heading_found o ≡ found_heading.Known h → o ≡ Some h
 unfolding heading_found
-heading_known none h e = cc
-heading_known (some k) h e = cc
+heading_known None h e = cc
+heading_known (Some k) h e = cc
 
-pub heading_unknown : (o : Option Heading) → heading_found o ≡ found_heading.Unknown → o ≡ none
+pub heading_unknown : (o : Option Heading) → heading_found o ≡ found_heading.Unknown → o ≡ None
 unfolding heading_found
-heading_unknown none e = refl
-heading_unknown (some k) e = cc
+heading_unknown None e = refl
+heading_unknown (Some k) e = cc
 
 -- ------------------------------------------------------------------ the numerals behind it
 
@@ -194,10 +194,10 @@ header_by_stored h ms l = ap (seen (header_of h)) (judged_stored (numbers_of h m
 
 header_alone : (o : Option Heading) → or_bad_form o (λ h. seen (header_of h) (numbers (header_ranges h (maps_in (numerals []))) [])) ≡ bad bad_form
 unfolding or_bad_form header_ranges seen numbers numerals
-header_alone none = refl
-header_alone (some C) = refl
-header_alone (some C2) = refl
-header_alone (some C3) = refl
+header_alone None = refl
+header_alone (Some C) = refl
+header_alone (Some C2) = refl
+header_alone (Some C3) = refl
 
 as_many : (h : Heading) (m : ℕ) → length (header_ranges h m) ≡ numerals_of h
 unfolding numerals_of header_ranges
@@ -216,21 +216,21 @@ heading_shows h fs = go (numerals fs)
     counts false ns = unfold seen in refl
 
     go : (o : Option (List ℕ)) → seen (header_of h) (ranged (header_ranges h (maps_in o)) o) ≡ many (numerals_of h) (λ ns. seen (header_of h) (judged h ns)) (bad bad_form) o
-    go none = unfold seen in refl
-    go (some ns) =
+    go None = unfold seen in refl
+    go (Some ns) =
         ap (λ (n : ℕ). seen (header_of h) (when eqb (length ns) n then judged h ns else bad bad_form)) (as_many h (maps_of ns))
         ∙ counts (eqb (length ns) (numerals_of h)) ns
 
 module _ (purpose : Purpose) (text : List ℕ) (c : Cursor) (some_left : 0 < length (rest text c)) where
   -- no comma behind the first field
-  pub no_comma : (end_of (rest text c) ≡ Comma → ⊥) → read_line split_sheet (header_line purpose) (place_at text c) ≡ refuse (SplitForm (c.line + 1))
+  pub no_comma : (end_of (rest text c) ≡ Comma → ⊥) → read_line split_sheet (header_line purpose) (place_at text c) ≡ Err (SplitForm (c.line + 1))
   unfolding form header_line
   no_comma n =
       next_at split_sheet text (header_line purpose) c
       ∙ first_alone split_sheet (header_line purpose) c.line (rest text c) some_left n (header_alone (look_up (headings purpose) (first_field (rest text c))))
 
   -- no heading
-  pub no_header : look_up (headings purpose) (first_field (rest text c)) ≡ none → read_line split_sheet (header_line purpose) (place_at text c) ≡ refuse (SplitForm (c.line + 1))
+  pub no_header : look_up (headings purpose) (first_field (rest text c)) ≡ None → read_line split_sheet (header_line purpose) (place_at text c) ≡ Err (SplitForm (c.line + 1))
   unfolding form header_line or_bad_form
   no_header e =
       next_at split_sheet text (header_line purpose) c
@@ -238,20 +238,20 @@ module _ (purpose : Purpose) (text : List ℕ) (c : Cursor) (some_left : 0 < len
 
   module _
       (p : Placed text c) (comma : end_of (rest text c) ≡ Comma) (d : Cursor) (is : behind_field text c ≡ d)
-      (h : Heading) (known : look_up (headings purpose) (first_field (rest text c)) ≡ some h)
+      (h : Heading) (known : look_up (headings purpose) (first_field (rest text c)) ≡ Some h)
     where
       shows : (fs : List Field) → header_line purpose (first_field (rest text c) ∷ fs) ≡ many (numerals_of h) (λ ns. seen (header_of h) (judged h ns)) (bad bad_form) (numerals fs)
       unfolding header_line or_bad_form
       shows fs = rw known (heading_shows h fs)
 
-      pub header_form : numbers_at text d (numerals_of h) ≡ none → read_line split_sheet (header_line purpose) (place_at text c) ≡ refuse (SplitForm (c.line + 1))
+      pub header_form : numbers_at text d (numerals_of h) ≡ None → read_line split_sheet (header_line purpose) (place_at text c) ≡ Err (SplitForm (c.line + 1))
       unfolding form
       header_form n =
           next_at split_sheet text (header_line purpose) c
           ∙ many_form split_sheet (header_line purpose) c.line (numerals_of h) (λ ns. seen (header_of h) (judged h ns)) (bad bad_form) text c (first_field (rest text c)) d (comma_line text c d p comma is) shows refl some_left n
 
       module _
-          (ns : List ℕ) (e : Cursor) (found : numbers_at text d (numerals_of h) ≡ some (ns, rest text e))
+          (ns : List ℕ) (e : Cursor) (found : numbers_at text d (numerals_of h) ≡ Some (ns, rest text e))
           (H : Header) (told : header_of h ns ≡ H)
         where
           reads : (next_line split_sheet (header_line purpose) c.line (lines (rest text c)) ≡ passed split_sheet (c.line + 1) (lines (rest text e)) (seen (header_of h) (judged h ns)))
@@ -267,13 +267,13 @@ module _ (purpose : Purpose) (text : List ℕ) (c : Cursor) (some_left : 0 < len
           unfolding judged
           judged_as q = ap (λ (x : Bool). when x then good ns else bad bad_range) (fits ∙ q)
 
-          pub header_range : header_fits H ≡ false → read_line split_sheet (header_line purpose) (place_at text c) ≡ refuse (SplitRange (c.line + 1))
+          pub header_range : header_fits H ≡ false → read_line split_sheet (header_line purpose) (place_at text c) ≡ Err (SplitRange (c.line + 1))
           unfolding seen
           header_range q =
               next_at split_sheet text (header_line purpose) c ∙ reads.0
               ∙ shows_range (c.line + 1) (lines (rest text e)) (ap (seen (header_of h)) (judged_as q))
 
-          pub header_on : header_fits H ≡ true → e.line ≡ d.line + 1 → read_line split_sheet (header_line purpose) (place_at text c) ≡ ok (H, place_at text e)
+          pub header_on : header_fits H ≡ true → e.line ≡ d.line + 1 → read_line split_sheet (header_line purpose) (place_at text c) ≡ Ok (H, place_at text e)
           unfolding seen
           header_on q l =
               next_at split_sheet text (header_line purpose) c ∙ reads.0

@@ -1,7 +1,7 @@
 -- Line 1 of a split sheet, as its reader sees it, and what the reader's answers mean.
-use Rattle.std.specs.Prelude.{◌≡◌, List, [], ◌∷◌, Bool, false, ℕ, ◌+◌, length}
-use Rattle.std.proofs.Math.Option.{Option, none, some}
-use Rattle.spec.specs.Reading.{Result, refuse, ok, Place, all_in_range}
+use Rattle.std.specs.Prelude.{◌≡◌, List, [], ◌∷◌, Bool, false, ℕ, ◌+◌, length, Option, None, Some, Result, Ok, Err}
+use Rattle.spec.specs.declared.Refusal.{Refusal}
+use Rattle.spec.specs.Reading.{Place, all_in_range}
 use Rattle.spec.specs.Split.{header_ranges, header_of}
 use Rattle.spec.specs.declared.Header.{Header}
 use Rattle.spec.specs.declared.Heading.{Heading}
@@ -20,13 +20,13 @@ use Rattle.split_header.specs.declared.HeaderLine.{HeaderLine}
 use Rattle.split_header.specs.declared.HeaderLine.TheVariants as header_line
 
 unfoldable pub heading_found : Option Heading → FoundHeading
-heading_found none = found_heading.Unknown
-heading_found (some h) = found_heading.Known h
+heading_found None = found_heading.Unknown
+heading_found (Some h) = found_heading.Known h
 
 -- a cursor where line 1 stands
 pub record AtHeader (text : List ℕ) (c : Cursor) : Type 0 where
   pub reading : SplitCursor text c
-  pub some : text_ended (rest text c) ≡ false
+  pub Some : text_ended (rest text c) ≡ false
 
 -- how many numerals stand behind a heading
 unfoldable pub numerals_of : Heading → ℕ
@@ -38,10 +38,10 @@ header_fits H = all_in_range (header_ranges C2 H.maps) (H.denominator ∷ H.loca
 
 -- the numerals behind a heading, as they are stored: the header that they make, in range or not
 abbrev pub NumbersAnswer : List ℕ → Cursor → Heading → FoundHeader → Type 0
-NumbersAnswer text c h found_header.Malformed = numbers_at text c (numerals_of h) ≡ none
+NumbersAnswer text c h found_header.Malformed = numbers_at text c (numerals_of h) ≡ None
 NumbersAnswer text c h (found_header.Read H d) =
-    (ns : List ℕ) × (numbers_at text c (numerals_of h) ≡ some (ns, rest text d)) × (header_of h ns ≡ H) × Placed text d × (d.line ≡ c.line + 1)
+    (ns : List ℕ) × (numbers_at text c (numerals_of h) ≡ Some (ns, rest text d)) × (header_of h ns ≡ H) × Placed text d × (d.line ≡ c.line + 1)
 
-abbrev pub HeaderAnswer : List ℕ → Result (Header × Place) → HeaderLine → Type 0
-HeaderAnswer text out (header_line.Refused r) = out ≡ refuse r
-HeaderAnswer text out (header_line.Read h c) = (out ≡ ok (h, place_at text c)) × Placed text c × Small h
+abbrev pub HeaderAnswer : List ℕ → Result (Header × Place) Refusal → HeaderLine → Type 0
+HeaderAnswer text out (header_line.Refused r) = out ≡ Err r
+HeaderAnswer text out (header_line.Read h c) = (out ≡ Ok (h, place_at text c)) × Placed text c × Small h

@@ -1,8 +1,8 @@
 -- Map lines: as many numerals as there are locations, each in its range.
+use Rattle.std.proofs.Common.{None, Ok, Err}
 use mathlib.Core.Path.{◌≡◌, refl, sym, ap, ◌∙◌}
 use mathlib.Core.List.{List}
 use mathlib.Core.Bool.{Bool, true, false, ◌&&◌}
-use mathlib.Core.Option.{none}
 use Prim.Native.Nat.{ℕ, zero, suc, ◌+◌, ◌-◌, ◌≤◌, ◌<◌}
 use native.Mathlib.Numerals.{add-one}
 use native.Mathlib.Omega.{arith}
@@ -10,7 +10,7 @@ use lib.ListN.{length, get_or, drop, drop_of_length-le, length-replicate}
 use lib.Seq.{drop-cons}
 use Rattle.spec.specs.Choice.{when◌then◌else◌}
 use Rattle.spec.specs.Text.{Field, lines}
-use Rattle.spec.specs.Reading.{split_sheet, refuse, ok, good, bad, bad_range, ◌to◌, in_range, all_in_range, numbers, form, read_line}
+use Rattle.spec.specs.Reading.{split_sheet, good, bad, bad_range, ◌to◌, in_range, all_in_range, numbers, form, read_line}
 use Rattle.spec.specs.declared.Refusal.TheVariants.{SplitForm, SplitRange}
 use Rattle.spec.proofs.Seen.{up_to_in, up_to_out}
 use Rattle.lexer.specs.Cursors.{rest, place_at}
@@ -67,7 +67,7 @@ module _ (text : List ℕ) (c : Cursor) (n : ℕ) where
   unfolding cells
   counts = length-replicate n (0 to 1000000000)
 
-  pub map_form : 0 < length (rest text c) → numbers_at text c n ≡ none → read_line split_sheet (cell_line n) (place_at text c) ≡ refuse (SplitForm (c.line + 1))
+  pub map_form : 0 < length (rest text c) → numbers_at text c n ≡ None → read_line split_sheet (cell_line n) (place_at text c) ≡ Err (SplitForm (c.line + 1))
   unfolding form
   map_form l e =
       next_at split_sheet text (cell_line n) c
@@ -80,8 +80,8 @@ module _ (text : List ℕ) (c : Cursor) (n : ℕ) where
         next_at split_sheet text (cell_line n) c
         ∙ numerals_read split_sheet (cell_line n) c.line (cells n) (λ s. s) text c shows (cells_narrow n) ns (rest text d) (ap (numbers_at text c) counts ∙ h.numbers)
 
-    pub map_range : all_in_range (cells n) ns ≡ false → read_line split_sheet (cell_line n) (place_at text c) ≡ refuse (SplitRange (c.line + 1))
+    pub map_range : all_in_range (cells n) ns ≡ false → read_line split_sheet (cell_line n) (place_at text c) ≡ Err (SplitRange (c.line + 1))
     map_range e = reads ∙ shows_range (c.line + 1) (lines (rest text d)) (rw e)
 
-    pub map_on : all_in_range (cells n) ns ≡ true → read_line split_sheet (cell_line n) (place_at text c) ≡ ok (ns, place_at text d)
+    pub map_on : all_in_range (cells n) ns ≡ true → read_line split_sheet (cell_line n) (place_at text c) ≡ Ok (ns, place_at text d)
     map_on e = reads ∙ shows_entry text c d ns (rw e) h.line

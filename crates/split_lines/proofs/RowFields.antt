@@ -1,9 +1,9 @@
 -- What the fields of a row show: a field that is no numeral spoils the line, and numerals are judged by the numbers that are handed on
 -- for them.
+use Rattle.std.proofs.Common.{Option, None, Some}
 use mathlib.Core.Path.{◌≡◌, refl, sym, ap, ◌∙◌}
 use mathlib.Core.List.{List, [], ◌∷◌, map}
 use mathlib.Core.Bool.{Bool, true, false, and-false}
-use mathlib.Core.Option.{Option, none, some}
 use Prim.Native.Nat.{ℕ, ◌≤◌}
 use native.Mathlib.Omega.{arith}
 use lib.ListN.{length}
@@ -34,29 +34,29 @@ three H w = below H.types ∷ below H.maps ∷ start_range w H ∷ []
 -- ------------------------------------------------------------------ fields that are no numerals
 
 -- a field that is no numeral
-no_numerals : (rs : List Range) (fs : List Field) → numerals fs ≡ none → numbers rs fs ≡ bad bad_form
+no_numerals : (rs : List Range) (fs : List Field) → numerals fs ≡ None → numbers rs fs ≡ bad bad_form
 unfolding numbers or_bad_form
 no_numerals rs fs e = rw e
 
-not_first : (f : Field) (fs : List Field) → numeral f ≡ none → numerals (f ∷ fs) ≡ none
+not_first : (f : Field) (fs : List Field) → numeral f ≡ None → numerals (f ∷ fs) ≡ None
 unfolding numerals with_numeral
 not_first f fs e = rw e
 
-not_behind : (f : Field) (fs : List Field) → numerals fs ≡ none → numerals (f ∷ fs) ≡ none
+not_behind : (f : Field) (fs : List Field) → numerals fs ≡ None → numerals (f ∷ fs) ≡ None
 unfolding numerals with_numeral
 not_behind f fs e = ap (with_numeral (numeral f)) e ∙ go (numeral f)
   where
-    go : (o : Option ℕ) → with_numeral o none ≡ none
-    go none = refl
-    go (some n) = refl
+    go : (o : Option ℕ) → with_numeral o None ≡ None
+    go None = refl
+    go (Some n) = refl
 
 module _ (purpose : Purpose) (H : Header) (w : Word) where
   -- a line whose numerals are not, with a start or without
-  two_bad : (f m : Field) → numerals (f ∷ post_field purpose m ∷ []) ≡ none → word_line purpose H w (f ∷ m ∷ [] ∷ []) ≡ bad bad_form
+  two_bad : (f m : Field) → numerals (f ∷ post_field purpose m ∷ []) ≡ None → word_line purpose H w (f ∷ m ∷ [] ∷ []) ≡ bad bad_form
   unfolding word_line row_line seen ensure
   two_bad f m e = rw (no_numerals (below H.types ∷ post_range purpose H m ∷ []) (f ∷ post_field purpose m ∷ []) e)
 
-  three_bad : (f m : Field) (b : ℕ) (s : Field) → numerals (f ∷ post_field purpose m ∷ (b ∷ s) ∷ []) ≡ none → word_line purpose H w (f ∷ m ∷ (b ∷ s) ∷ []) ≡ bad bad_form
+  three_bad : (f m : Field) (b : ℕ) (s : Field) → numerals (f ∷ post_field purpose m ∷ (b ∷ s) ∷ []) ≡ None → word_line purpose H w (f ∷ m ∷ (b ∷ s) ∷ []) ≡ bad bad_form
   unfolding word_line row_line seen
   three_bad f m b s e = rw (no_numerals (below H.types ∷ post_range purpose H m ∷ start_range w H ∷ []) (f ∷ post_field purpose m ∷ (b ∷ s) ∷ []) e)
 
@@ -74,7 +74,7 @@ module _ (purpose : Purpose) (H : Header) (w : Word) where
     fourth_bad m s t fs = refl
 
     -- no numeral in front
-    pub first_bad : numeral f ≡ none → (fs : List Field) → word_line purpose H w (f ∷ fs) ≡ bad bad_form
+    pub first_bad : numeral f ≡ None → (fs : List Field) → word_line purpose H w (f ∷ fs) ≡ bad bad_form
     first_bad e [] = first_alone f
     first_bad e (m ∷ []) = second_alone m
     first_bad e (m ∷ [] ∷ []) = two_bad f m (not_first f (post_field purpose m ∷ []) e)
@@ -82,14 +82,14 @@ module _ (purpose : Purpose) (H : Header) (w : Word) where
     first_bad e (m ∷ s ∷ t ∷ fs) = fourth_bad m s t fs
 
     module _ (m : Field) where
-      pub second_bad : numeral (post_field purpose m) ≡ none → (fs : List Field) → word_line purpose H w (f ∷ m ∷ fs) ≡ bad bad_form
+      pub second_bad : numeral (post_field purpose m) ≡ None → (fs : List Field) → word_line purpose H w (f ∷ m ∷ fs) ≡ bad bad_form
       second_bad e [] = second_alone m
       second_bad e ([] ∷ []) = two_bad f m (not_behind f (post_field purpose m ∷ []) (not_first (post_field purpose m) [] e))
       second_bad e ((b ∷ s) ∷ []) = three_bad f m b s (not_behind f (post_field purpose m ∷ (b ∷ s) ∷ []) (not_first (post_field purpose m) ((b ∷ s) ∷ []) e))
       second_bad e (s ∷ t ∷ fs) = fourth_bad m s t fs
 
       -- neither empty nor a numeral
-      pub third_bad : (s : Field) → numeral s ≡ none → (s ≡ [] → ⊥) → (fs : List Field) → word_line purpose H w (f ∷ m ∷ s ∷ fs) ≡ bad bad_form
+      pub third_bad : (s : Field) → numeral s ≡ None → (s ≡ [] → ⊥) → (fs : List Field) → word_line purpose H w (f ∷ m ∷ s ∷ fs) ≡ bad bad_form
       third_bad [] e n fs = absurd (n refl)
       third_bad (b ∷ s) e n [] =
           three_bad f m b s (not_behind f (post_field purpose m ∷ (b ∷ s) ∷ []) (not_behind (post_field purpose m) ((b ∷ s) ∷ []) (not_first (b ∷ s) [] e)))
@@ -113,17 +113,17 @@ unfoldable judged : List Range → List ℕ → LineResult (List ℕ)
 judged rs ns = when all_in_range rs ns then good ns else bad bad_range
 
 -- as many numerals as ranges
-all_spelled : (rs : List Range) (fs : List Field) (ns : List ℕ) → AllNarrow rs → numerals fs ≡ some ns → length ns ≡ length rs
+all_spelled : (rs : List Range) (fs : List Field) (ns : List ℕ) → AllNarrow rs → numerals fs ≡ Some ns → length ns ≡ length rs
     → numbers rs fs ≡ judged rs (map stored ns)
 unfolding numbers or_bad_form judged
 all_spelled rs fs ns narrow e l = rw (e, eq-eqb (length ns) (length rs) l) (stored_judged rs narrow ns l)
 
-both_spelled : (f g : Field) (k l : ℕ) (fs : List Field) (ns : List ℕ) → numeral f ≡ some k → numeral g ≡ some l → numerals fs ≡ some ns
-    → numerals (f ∷ g ∷ fs) ≡ some (k ∷ l ∷ ns)
+both_spelled : (f g : Field) (k l : ℕ) (fs : List Field) (ns : List ℕ) → numeral f ≡ Some k → numeral g ≡ Some l → numerals fs ≡ Some ns
+    → numerals (f ∷ g ∷ fs) ≡ Some (k ∷ l ∷ ns)
 unfolding numerals with_numeral
 both_spelled f g k l fs ns e e' es = rw (e, e', es)
 
-zero_spelled : numeral (bytes "0") ≡ some 0
+zero_spelled : numeral (bytes "0") ≡ Some 0
 unfolding bytes numeral digit_limit digits leading_zero value
 zero_spelled = refl
 
@@ -139,12 +139,12 @@ second_out r₁ r₂ rs a b ns e = simp (e, and-false)
 -- the numbers of a row, as they are handed on
 module _
     (H : Header) (few : (H.types ≤ 64) × (H.maps ≤ 512)) (f : Field) (a b : ℕ) (first : Spells f a)
-    (rs : List Range) (narrow : AllNarrow rs) (fs : List Field) (ns : List ℕ) (behind : numerals fs ≡ some ns) (many : length ns ≡ length rs)
+    (rs : List Range) (narrow : AllNarrow rs) (fs : List Field) (ns : List ℕ) (behind : numerals fs ≡ Some ns) (many : length ns ≡ length rs)
   where
     abbrev handed : LineResult (List ℕ)
     handed = judged (below H.types ∷ below H.maps ∷ rs) (a ∷ b ∷ map stored ns)
 
-    with_post : (count : ℕ) → count ≤ 512 → (m : Field) (k : ℕ) → numeral m ≡ some k
+    with_post : (count : ℕ) → count ≤ 512 → (m : Field) (k : ℕ) → numeral m ≡ Some k
         → numbers (below H.types ∷ below count ∷ rs) (f ∷ m ∷ fs) ≡ judged (below H.types ∷ below count ∷ rs) (a ∷ stored k ∷ map stored ns)
     with_post count small m k e =
         all_spelled (below H.types ∷ below count ∷ rs) (f ∷ m ∷ fs) (first.0 ∷ k ∷ ns) (omega arith, (omega arith, narrow))
@@ -169,19 +169,19 @@ module _
   where
     -- an empty s: form and ranges first, then whether it may be
     pub row_empty : word_line purpose H w (f ∷ m ∷ [] ∷ [])
-        ≡ ensure (may_be_empty H.heading w) (empty_fault w) (when all_in_range (two H) (a ∷ b ∷ []) then good (row_of none (a ∷ b ∷ [])) else bad bad_range)
+        ≡ ensure (may_be_empty H.heading w) (empty_fault w) (when all_in_range (two H) (a ∷ b ∷ []) then good (row_of None (a ∷ b ∷ [])) else bad bad_range)
     unfolding word_line row_line numerals judged
     row_empty =
-        ap (λ (x : LineResult (List ℕ)). ensure (may_be_empty H.heading w) (empty_fault w) (seen (row_of none) x)) (row_handed H few f a b first [] tt [] [] refl refl purpose m second)
-        ∙ ap (ensure (may_be_empty H.heading w) (empty_fault w)) (seen_row (row_of none) (all_in_range (two H) (a ∷ b ∷ [])) (a ∷ b ∷ []))
+        ap (λ (x : LineResult (List ℕ)). ensure (may_be_empty H.heading w) (empty_fault w) (seen (row_of None) x)) (row_handed H few f a b first [] tt [] [] refl refl purpose m second)
+        ∙ ap (ensure (may_be_empty H.heading w) (empty_fault w)) (seen_row (row_of None) (all_in_range (two H) (a ∷ b ∷ [])) (a ∷ b ∷ []))
 
     -- a number
     pub row_given : (s : Field) (n : ℕ) → Spells s n → word_line purpose H w (f ∷ m ∷ s ∷ [])
-        ≡ (when all_in_range (three H w) (a ∷ b ∷ n ∷ []) then good (row_of (some (record { 0 = n })) (a ∷ b ∷ n ∷ [])) else bad bad_range)
+        ≡ (when all_in_range (three H w) (a ∷ b ∷ n ∷ []) then good (row_of (Some (record { 0 = n })) (a ∷ b ∷ n ∷ [])) else bad bad_range)
     unfolding word_line row_line numerals with_numeral start_range judged
     row_given [] n third = let z : ◌≡◌ {A = ℕ} 0 1 = unfold numeral in cc in absurd (omega arith)
     row_given (x ∷ s) n (k, e, q) =
         let limit = start_few w H.maps in
-        ap (seen (λ ns. row_of (some (nth_map 2 ns)) ns)) (row_handed H few f a b first (start_range w H ∷ []) (omega arith, tt) ((x ∷ s) ∷ []) (k ∷ []) (rw e) refl purpose m second)
-        ∙ seen_row (λ ns. row_of (some (nth_map 2 ns)) ns) (all_in_range (three H w) (a ∷ b ∷ stored k ∷ [])) (a ∷ b ∷ stored k ∷ [])
-        ∙ ap (λ (n : ℕ). when all_in_range (three H w) (a ∷ b ∷ n ∷ []) then good (row_of (some (record { 0 = n })) (a ∷ b ∷ n ∷ [])) else bad bad_range) (sym q)
+        ap (seen (λ ns. row_of (Some (nth_map 2 ns)) ns)) (row_handed H few f a b first (start_range w H ∷ []) (omega arith, tt) ((x ∷ s) ∷ []) (k ∷ []) (rw e) refl purpose m second)
+        ∙ seen_row (λ ns. row_of (Some (nth_map 2 ns)) ns) (all_in_range (three H w) (a ∷ b ∷ stored k ∷ [])) (a ∷ b ∷ stored k ∷ [])
+        ∙ ap (λ (n : ℕ). when all_in_range (three H w) (a ∷ b ∷ n ∷ []) then good (row_of (Some (record { 0 = n })) (a ∷ b ∷ n ∷ [])) else bad bad_range) (sym q)

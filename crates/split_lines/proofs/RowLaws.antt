@@ -1,13 +1,15 @@
 -- Rows, by their two numerals and their last field.
+use Rattle.std.proofs.Common.{Result, Err}
 use mathlib.Core.Path.{◌≡◌, refl, sym, ap, subst, ◌∙◌}
 use mathlib.Core.Logic.{⊎_elim}
 use mathlib.Core.List.{List, [], ◌∷◌}
 use mathlib.Core.Bool.{Bool, true, false, ◌&&◌}
 use Prim.Native.Nat.{ℕ, ◌+◌, ◌≤◌, ◌<◌}
 use lib.ListN.{length}
+use Rattle.spec.specs.declared.Refusal.{Refusal}
 use Rattle.spec.specs.Choice.{when◌then◌else◌}
 use Rattle.spec.specs.Text.{lines, Field}
-use Rattle.spec.specs.Reading.{split_sheet, Result, refuse, Place, LineResult, good, bad, bad_range, ensure, below, in_range, all_in_range, passed, read_line}
+use Rattle.spec.specs.Reading.{split_sheet, Place, LineResult, good, bad, bad_range, ensure, below, in_range, all_in_range, passed, read_line}
 use Rattle.spec.specs.Split.{Row, row_of, start_range, may_be_empty, empty_fault}
 use Rattle.spec.specs.declared.Header.{Header}
 use Rattle.spec.specs.declared.Purpose.{Purpose}
@@ -82,10 +84,10 @@ three_tested H w a b n = go (in_range (below H.types) a) (in_range (below H.maps
     go false y z = refl
 
 module _ (purpose : Purpose) (H : Header) (w : Word) {text : List ℕ} {c : Cursor} (p : Placed text c) (some_left : 0 < length (rest text c)) where
-  abbrev out : Result (Row × Place)
+  abbrev out : Result (Row × Place) Refusal
   out = read_line split_sheet (word_line purpose H w) (place_at text c)
 
-  pub row_first : LeadingAnswer text c leading.Malformed → out ≡ refuse (SplitForm (c.line + 1))
+  pub row_first : LeadingAnswer text c leading.Malformed → out ≡ Err (SplitForm (c.line + 1))
   row_first h =
       let f = first_field (rest text c) in
       at_cursor (word_line purpose H w) text c some_left
@@ -107,7 +109,7 @@ module _ (purpose : Purpose) (H : Header) (w : Word) {text : List ℕ} {c : Curs
         ∙ ap (shown (word_line purpose H w) (c.line + 1)) (comma_line text c c₂ p lead.1 lead.2)
         ∙ behind_field_lem (word_line purpose H w) (c.line + 1) (first_field (rest text c)) (line_at (rest text c₂))
 
-    pub row_second : PostAnswer purpose text c₂ leading.Malformed → out ≡ refuse (SplitForm (c.line + 1))
+    pub row_second : PostAnswer purpose text c₂ leading.Malformed → out ≡ Err (SplitForm (c.line + 1))
     row_second h =
         let f = first_field (rest text c) in
         let g = first_field (rest text c₂) in
@@ -130,7 +132,7 @@ module _ (purpose : Purpose) (H : Header) (w : Word) {text : List ℕ} {c : Curs
           ∙ ap (shown behind_one (c.line + 1)) (comma_line text c₂ c₃ second_placed lead₂.1 lead₂.2)
           ∙ behind_field_lem behind_one (c.line + 1) (first_field (rest text c₂)) (line_at (rest text c₃))
 
-      pub row_third : StartAnswer text c₃ start.Malformed → out ≡ refuse (SplitForm (c.line + 1))
+      pub row_third : StartAnswer text c₃ start.Malformed → out ≡ Err (SplitForm (c.line + 1))
       row_third h =
           let f = first_field (rest text c) in
           let g = first_field (rest text c₂) in

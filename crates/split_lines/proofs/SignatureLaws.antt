@@ -1,14 +1,14 @@
 -- Signature lines: four numerals, two of maps and two of types.
+use Rattle.std.proofs.Common.{None, Ok, Err}
 use mathlib.Core.Path.{◌≡◌, refl, ap, ◌∙◌}
 use mathlib.Core.List.{List, [], ◌∷◌}
 use mathlib.Core.Bool.{Bool, true, false, ◌&&◌}
-use mathlib.Core.Option.{none}
 use Prim.Native.Nat.{ℕ, ◌+◌, ◌≤◌, ◌<◌}
 use native.Mathlib.Omega.{arith}
 use lib.ListN.{length, get_or}
 use Rattle.spec.specs.Choice.{when◌then◌else◌}
 use Rattle.spec.specs.Text.{Field, lines}
-use Rattle.spec.specs.Reading.{split_sheet, refuse, ok, good, bad, bad_range, seen, Range, below, in_range, all_in_range, numbers, form, passed, read_line}
+use Rattle.spec.specs.Reading.{split_sheet, good, bad, bad_range, seen, Range, below, in_range, all_in_range, numbers, form, passed, read_line}
 use Rattle.spec.specs.Split.{signature_of, signature_line}
 use Rattle.spec.specs.declared.Header.{Header}
 use Rattle.spec.specs.declared.Refusal.TheVariants.{SplitForm, SplitRange}
@@ -43,7 +43,7 @@ module _ (H : Header) (text : List ℕ) (c : Cursor) where
   unfolding signature_line
   shows fs = refl
 
-  pub signature_form : 0 < length (rest text c) → numbers_at text c 4 ≡ none → read_line split_sheet (signature_line H) (place_at text c) ≡ refuse (SplitForm (c.line + 1))
+  pub signature_form : 0 < length (rest text c) → numbers_at text c 4 ≡ None → read_line split_sheet (signature_line H) (place_at text c) ≡ Err (SplitForm (c.line + 1))
   unfolding form seen
   signature_form l e =
       next_at split_sheet text (signature_line H) c
@@ -60,16 +60,16 @@ module _ (H : Header) (text : List ℕ) (c : Cursor) where
         ∙ ap (λ (x : Bool). passed split_sheet (c.line + 1) (lines (rest text d)) (seen signature_of (when x then good ns else bad bad_range)))
         (ap (all_in_range (both H)) (one_by_one 4 ns h.long) ∙ four_tested H (get_or ns 0 0) (get_or ns 1 0) (get_or ns 2 0) (get_or ns 3 0))
 
-    pub first_out : all_in_range (pair H) (get_or ns 0 0 ∷ get_or ns 1 0 ∷ []) ≡ false → read_line split_sheet (signature_line H) (place_at text c) ≡ refuse (SplitRange (c.line + 1))
+    pub first_out : all_in_range (pair H) (get_or ns 0 0 ∷ get_or ns 1 0 ∷ []) ≡ false → read_line split_sheet (signature_line H) (place_at text c) ≡ Err (SplitRange (c.line + 1))
     unfolding seen
     first_out e = reads ∙ shows_range (c.line + 1) (lines (rest text d)) (rw e)
 
     module _ (e : all_in_range (pair H) (get_or ns 0 0 ∷ get_or ns 1 0 ∷ []) ≡ true) where
-      pub second_out : all_in_range (pair H) (get_or ns 2 0 ∷ get_or ns 3 0 ∷ []) ≡ false → read_line split_sheet (signature_line H) (place_at text c) ≡ refuse (SplitRange (c.line + 1))
+      pub second_out : all_in_range (pair H) (get_or ns 2 0 ∷ get_or ns 3 0 ∷ []) ≡ false → read_line split_sheet (signature_line H) (place_at text c) ≡ Err (SplitRange (c.line + 1))
       unfolding seen
       second_out f = reads ∙ shows_range (c.line + 1) (lines (rest text d)) (rw (e, f))
 
       pub signature_on : all_in_range (pair H) (get_or ns 2 0 ∷ get_or ns 3 0 ∷ []) ≡ true
-          → read_line split_sheet (signature_line H) (place_at text c) ≡ ok (signature_of ns, place_at text d)
+          → read_line split_sheet (signature_line H) (place_at text c) ≡ Ok (signature_of ns, place_at text d)
       unfolding seen
       signature_on f = reads ∙ shows_entry text c d (signature_of ns) (rw (e, f)) h.line

@@ -1,14 +1,14 @@
 -- Type lines, by their word and their two numbers.
+use Rattle.std.proofs.Common.{None, Some, Err}
 use mathlib.Core.Path.{◌≡◌, refl, sym, ap, ◌∙◌}
 use mathlib.Core.List.{List, [], ◌∷◌}
 use mathlib.Core.Bool.{Bool, true, false}
-use mathlib.Core.Option.{none, some}
 use Prim.Native.Nat.{ℕ, ◌+◌, ◌≤◌, ◌<◌}
 use native.Mathlib.Omega.{arith}
 use lib.ListN.{length, get_or}
 use Rattle.spec.specs.Choice.{when◌then◌else◌}
 use Rattle.spec.specs.Text.{Field, lines}
-use Rattle.spec.specs.Reading.{split_sheet, refuse, good, bad, bad_form, bad_range, seen, Range, all_in_range, numerals, numbers, form, faulty, passed, next_line, read_line, or_bad_form}
+use Rattle.spec.specs.Reading.{split_sheet, good, bad, bad_form, bad_range, seen, Range, all_in_range, numerals, numbers, form, faulty, passed, next_line, read_line, or_bad_form}
 use Rattle.spec.specs.Split.{out_range, type_line}
 use Rattle.spec.specs.declared.Header.{Header}
 use Rattle.spec.specs.declared.Heading.{Heading}
@@ -73,7 +73,7 @@ type_answer type-seen.BadForm k d = type_read.Refused (SplitForm k)
 type_answer type-seen.BadRange k d = type_read.Refused (SplitRange k)
 
 module _ (H : Header) (own : ℕ) (text : List ℕ) (c : Cursor) (some_left : 0 < length (rest text c)) where
-  pub no_comma : (end_of (rest text c) ≡ Comma → ⊥) → read_line split_sheet (type_line H own) (place_at text c) ≡ refuse (SplitForm (c.line + 1))
+  pub no_comma : (end_of (rest text c) ≡ Comma → ⊥) → read_line split_sheet (type_line H own) (place_at text c) ≡ Err (SplitForm (c.line + 1))
   unfolding form
   no_comma n =
       let f = first_field (rest text c) in
@@ -85,23 +85,23 @@ module _ (H : Header) (own : ℕ) (text : List ℕ) (c : Cursor) (some_left : 0 
     as_kind k e fs = kind_line H own (first_field (rest text c)) fs ∙ ap (of_kind H own fs) e
 
     module _ (rs : List Range) (g : List ℕ → TypeLine) (shows : (fs : List Field) → type_line H own (first_field (rest text c) ∷ fs) ≡ seen g (numbers rs fs)) where
-      known_form : numbers_at text d (length rs) ≡ none → next_line split_sheet (type_line H own) c.line (lines (rest text c)) ≡ refuse (SplitForm (c.line + 1))
+      known_form : numbers_at text d (length rs) ≡ None → next_line split_sheet (type_line H own) c.line (lines (rest text c)) ≡ Err (SplitForm (c.line + 1))
       unfolding form seen
       known_form e =
           tail_form split_sheet (type_line H own) c.line rs (seen g) text c (first_field (rest text c)) d (comma_line text c d p comma is) shows refl some_left e
 
-      known_read : AllNarrow rs → (ns r : List ℕ) → numbers_at text d (length rs) ≡ some (ns, r)
+      known_read : AllNarrow rs → (ns r : List ℕ) → numbers_at text d (length rs) ≡ Some (ns, r)
           → next_line split_sheet (type_line H own) c.line (lines (rest text c)) ≡ passed split_sheet (c.line + 1) (lines r) (type_decoded (ranged_type rs g ns))
       known_read narrow ns r e =
           tail_read split_sheet (type_line H own) c.line rs (seen g) text c (first_field (rest text c)) d (comma_line text c d p comma is) shows narrow ns r e
           ∙ ap (passed split_sheet (c.line + 1) (lines r)) (seen_ranged rs g ns)
 
-    unknown : type_word_of (first_field (rest text c)) ≡ kind.Unknown → next_line split_sheet (type_line H own) c.line (lines (rest text c)) ≡ refuse (SplitForm (c.line + 1))
+    unknown : type_word_of (first_field (rest text c)) ≡ kind.Unknown → next_line split_sheet (type_line H own) c.line (lines (rest text c)) ≡ Err (SplitForm (c.line + 1))
     unfolding form of_kind
     unknown e = first_wrong split_sheet (type_line H own) c.line (rest text c) some_left (as_kind kind.Unknown e)
 
-    kind_form : (k : TypeWord) → type_word_of (first_field (rest text c)) ≡ k → numbers_at text d 2 ≡ none
-        → next_line split_sheet (type_line H own) c.line (lines (rest text c)) ≡ refuse (SplitForm (c.line + 1))
+    kind_form : (k : TypeWord) → type_word_of (first_field (rest text c)) ≡ k → numbers_at text d 2 ≡ None
+        → next_line split_sheet (type_line H own) c.line (lines (rest text c)) ≡ Err (SplitForm (c.line + 1))
     unfolding of_kind
     kind_form kind.Int e n = known_form _ _ (as_kind kind.Int e) n
     kind_form kind.Ref e n = known_form _ _ (as_kind kind.Ref e) n
@@ -111,7 +111,7 @@ module _ (H : Header) (own : ℕ) (text : List ℕ) (c : Cursor) (some_left : 0 
     kind_form kind.Rwlock e n = known_form _ _ (as_kind kind.Rwlock e) n
     kind_form kind.Unknown e n = unknown e
 
-    kind_read : (H.locations ≤ 16) × (H.maps ≤ 512) × (own < 64) → (k : TypeWord) → type_word_of (first_field (rest text c)) ≡ k → (ns r : List ℕ) → numbers_at text d 2 ≡ some (ns, r)
+    kind_read : (H.locations ≤ 16) × (H.maps ≤ 512) × (own < 64) → (k : TypeWord) → type_word_of (first_field (rest text c)) ≡ k → (ns r : List ℕ) → numbers_at text d 2 ≡ Some (ns, r)
         → next_line split_sheet (type_line H own) c.line (lines (rest text c)) ≡ passed split_sheet (c.line + 1) (lines r) (type_decoded (type_seen k H own ns))
     unfolding of_kind type_seen lock_seen type_decoded faulty passed form
     kind_read few kind.Int e ns r n = known_read _ _ (as_kind kind.Int e) (omega arith, (omega arith, tt)) ns r n
@@ -122,7 +122,7 @@ module _ (H : Header) (own : ℕ) (text : List ℕ) (c : Cursor) (some_left : 0 
     kind_read few kind.Rwlock e ns r n = known_read _ _ (as_kind kind.Rwlock e) (omega arith, (omega arith, tt)) ns r n
     kind_read few kind.Unknown e ns r n = unknown e
 
-    pub type_form : numbers_at text d 2 ≡ none → read_line split_sheet (type_line H own) (place_at text c) ≡ refuse (SplitForm (c.line + 1))
+    pub type_form : numbers_at text d 2 ≡ None → read_line split_sheet (type_line H own) (place_at text c) ≡ Err (SplitForm (c.line + 1))
     type_form n = next_at split_sheet text (type_line H own) c ∙ kind_form (type_word_of (first_field (rest text c))) refl n
 
     -- the word and the numbers are read: what they come to

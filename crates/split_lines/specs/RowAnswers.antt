@@ -1,7 +1,8 @@
 -- What the answers to a signature line and to a row mean: a refusal is that of document 01, and what is read is what document 01
 -- reads there.
-use Rattle.std.specs.Prelude.{◌≡◌, List, ℕ}
-use Rattle.spec.specs.Reading.{Result, refuse, ok, Place}
+use Rattle.std.specs.Prelude.{◌≡◌, List, ℕ, Result, Ok, Err}
+use Rattle.spec.specs.declared.Refusal.{Refusal}
+use Rattle.spec.specs.Reading.{Place}
 use Rattle.spec.specs.Split.{Row}
 use Rattle.spec.specs.declared.Signature.{Signature}
 use Rattle.lexer.specs.Cursors.{Placed, place_at}
@@ -20,10 +21,10 @@ pub record AtRow (text : List ℕ) (c : Cursor) (h : Header) : Type 0 where
   pub reading : SplitCursor text c
   pub small : Small h
 
-abbrev pub SignatureAnswer : List ℕ → Result (Signature × Place) → SignatureRead → Type 0
-SignatureAnswer text out (signature_read.Refused r) = out ≡ refuse r
-SignatureAnswer text out (signature_read.Read g c) = (out ≡ ok (g, place_at text c)) × Placed text c
+abbrev pub SignatureAnswer : List ℕ → Result (Signature × Place) Refusal → SignatureRead → Type 0
+SignatureAnswer text out (signature_read.Refused r) = out ≡ Err r
+SignatureAnswer text out (signature_read.Read g c) = (out ≡ Ok (g, place_at text c)) × Placed text c
 
-abbrev pub RowAnswer : List ℕ → Result (Row × Place) → RowRead → Type 0
-RowAnswer text out (row_read.Refused r) = out ≡ refuse r
-RowAnswer text out (row_read.Read row c) = (out ≡ ok (row_decoded row, place_at text c)) × Placed text c
+abbrev pub RowAnswer : List ℕ → Result (Row × Place) Refusal → RowRead → Type 0
+RowAnswer text out (row_read.Refused r) = out ≡ Err r
+RowAnswer text out (row_read.Read row c) = (out ≡ Ok (row_decoded row, place_at text c)) × Placed text c

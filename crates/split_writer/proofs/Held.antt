@@ -1,7 +1,7 @@
 -- The split that the work space holds is the one that stands there, entry by entry; and the bounds that the writers ask for.
+use Rattle.std.proofs.Common.{Option, None, Some}
 use mathlib.Core.Path.{◌≡◌, refl, sym, ap, ◌∙◌}
 use mathlib.Core.List.{List, [], ◌∷◌}
-use mathlib.Core.Option.{Option, none, some}
 use Prim.Native.Nat.{ℕ, zero, suc, ◌+◌, ◌*◌, ◌≤◌, ◌<◌}
 use native.Mathlib.Omega.{arith}
 use lib.ListN.{length, get_or, take, drop, length-map}
@@ -32,10 +32,10 @@ in_order_entries f (x ∷ xs) d i (suc n) l e =
     λ k. here k ∷ behind k
 
 -- the number of a start that is a map, or of the empty map
-start_decodes : (o : Option MapNumber) → ((m : MapNumber) → o ≡ some m → m.0 < empty_map) → start_stored (start_number o) ≡ o
+start_decodes : (o : Option MapNumber) → ((m : MapNumber) → o ≡ Some m → m.0 < empty_map) → start_stored (start_number o) ≡ o
 unfolding start_stored start_number
-start_decodes none few = refl
-start_decodes (some m) few = rw (ne_eqb m.0 empty_map (λ e. omega (arith, few m refl)))
+start_decodes None few = refl
+start_decodes (Some m) few = rw (ne_eqb m.0 empty_map (λ e. omega (arith, few m refl)))
 
 module _ {w : List ℕ} {header : Header} {procedures steps : ℕ} {S : Split} (K : HoldsSheet w header procedures steps S) where
   type_held : (t : ℕ) → t < length S.types → type_stored w t ≡ get_or S.types t Int
@@ -69,7 +69,7 @@ module _ {w : List ℕ} {header : Header} {procedures steps : ℕ} {S : Split} (
       let typed = column w row_types_at (λ (q : Row). q.type.0) S.rows no_row i K.split.row_types h in
       let left = column w posts_at (λ (q : Row). q.post.0) S.rows no_row i K.split.posts h in
       let number = column w starts_at (λ (q : Row). start_number q.start) S.rows no_row i K.split.starts h in
-      let few : (m : MapNumber) → r.start ≡ some m → m.0 < empty_map =
+      let few : (m : MapNumber) → r.start ≡ Some m → m.0 < empty_map =
       λ m e. omega (arith, K.in_range.row_start i no_row m h e, K.in_range.maps_counted, K.in_range.maps_few) in
       let start = ap start_stored number ∙ start_decodes r.start few in
       λ k. record { type = record { 0 = typed k }; post = record { 0 = left k }; start = start k }

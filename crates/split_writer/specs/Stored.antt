@@ -1,6 +1,5 @@
 -- The split that stands in the work space: its types, maps, procedures and rows as the places of the work space have them.
-use Rattle.std.specs.Prelude.{List, [], ◌∷◌, ℕ, zero, suc, ◌+◌, ◌*◌, eqb, get_or, take, drop}
-use Rattle.std.proofs.Math.Option.{Option, none, some}
+use Rattle.std.specs.Prelude.{List, [], ◌∷◌, ℕ, zero, suc, ◌+◌, ◌*◌, eqb, get_or, take, drop, Option, None, Some}
 use Rattle.spec.specs.Choice.{when◌then◌else◌}
 use Rattle.spec.specs.Split.{Map, Row, Split}
 use Rattle.spec.specs.declared.Signature.{Signature}
@@ -31,7 +30,7 @@ signature_in w f = record {
 
 -- the number of the empty map stands for a start that is not given
 unfoldable pub start_stored : ℕ → Option MapNumber
-start_stored n = when eqb n empty_map then none else some (record { 0 = n })
+start_stored n = when eqb n empty_map then None else Some (record { 0 = n })
 
 unfoldable pub row_in : List ℕ → (i : ℕ) → Row
 row_in w i = record {

@@ -1,11 +1,11 @@
 -- What counts of a step or a `proc` line when only its types are asked for: since a row has its conditions on types in front, the first false
 -- condition of the row is on types, or no condition on types is false.
+use Rattle.std.proofs.Common.{None, Some, Ok}
 use mathlib.Core.Path.{◌≡◌, refl}
 use mathlib.Core.Bool.{true, false}
 use mathlib.Core.List.{List, [], ◌∷◌, ◌++◌}
-use mathlib.Core.Option.{none, some}
 use Prim.Native.Nat.{ℕ, ◌+◌}
-use Rattle.spec.specs.Reading.{ok, ◌>>=◌}
+use Rattle.spec.specs.Reading.{◌>>=◌}
 use Rattle.spec.specs.Expression.{Expr, leaf, unary, binary, Procedure}
 use Rattle.spec.specs.Split.{Map, Split}
 use Rattle.spec.specs.declared.Signature.{Signature}
@@ -85,12 +85,12 @@ module _ (line : ℕ) where
   no_types_asked i (F o ∷ cs) h = no_types_asked (i + 1) cs h
   no_types_asked i (A b p ∷ cs) h = no_types_asked (i + 1) cs h
 
-  no_types_counted : (i : ℕ) (cs : List Condition) → NoTypes cs → on_types (first_false_from line i cs) ≡ ok tt
+  no_types_counted : (i : ℕ) (cs : List Condition) → NoTypes cs → on_types (first_false_from line i cs) ≡ Ok tt
   unfolding NoTypes refuses_types on_types first_false_from numbered first_false judge ◌>>=◌ returned numbers4
   no_types_counted i [] h = refl
   no_types_counted i (T b ∷ cs) h = absurd h
-  no_types_counted i (F none ∷ cs) h = no_types_counted (i + 1) cs h
-  no_types_counted i (F (some l) ∷ cs) h = refl
+  no_types_counted i (F None ∷ cs) h = no_types_counted (i + 1) cs h
+  no_types_counted i (F (Some l) ∷ cs) h = refl
   no_types_counted i (A true p ∷ cs) h = no_types_counted (i + 1) cs h
   no_types_counted i (A false p ∷ cs) h = refl
 
@@ -99,8 +99,8 @@ module _ (line : ℕ) where
   types_counted_lem i [] h = refl
   types_counted_lem i (T true ∷ cs) h = types_counted_lem (i + 1) cs h
   types_counted_lem i (T false ∷ cs) h = refl
-  types_counted_lem i (F none ∷ cs) h = rw (no_types_asked (i + 1) cs h) (no_types_counted (i + 1) cs h)
-  types_counted_lem i (F (some l) ∷ cs) h = rw (no_types_asked (i + 1) cs h)
+  types_counted_lem i (F None ∷ cs) h = rw (no_types_asked (i + 1) cs h) (no_types_counted (i + 1) cs h)
+  types_counted_lem i (F (Some l) ∷ cs) h = rw (no_types_asked (i + 1) cs h)
   types_counted_lem i (A true p ∷ cs) h = rw (no_types_asked (i + 1) cs h) (no_types_counted (i + 1) cs h)
   types_counted_lem i (A false p ∷ cs) h = rw (no_types_asked (i + 1) cs h)
 

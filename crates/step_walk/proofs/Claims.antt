@@ -1,7 +1,9 @@
 -- The first false claim of step contexts, of those that are asked for, one step context after the other.
+use Rattle.std.proofs.Common.{Result, Ok}
 use mathlib.Core.Path.{◌≡◌, refl, ap, sym, ◌∙◌}
 use mathlib.Core.List.{List, [], ◌∷◌, ◌++◌}
-use Rattle.spec.specs.Reading.{Result, ok, ◌>>=◌}
+use Rattle.spec.specs.declared.Refusal.{Refusal}
+use Rattle.spec.specs.Reading.{◌>>=◌}
 use Rattle.spec.specs.Split.{Split}
 use Rattle.spec.specs.StepContexts.{StepContext, NumberedCondition, claims_at, claims, judge, first_false}
 use Rattle.spec.specs.declared.Purpose.{Purpose}
@@ -19,13 +21,13 @@ first_append (c ∷ cs) ys =
 
 module _ (purpose : Purpose) where
   -- the first false claim of those that are asked for
-  abbrev pub first_asked : List NumberedCondition → Result (Unit {0})
+  abbrev pub first_asked : List NumberedCondition → Result (Unit {0}) Refusal
   first_asked cs = first_false (asked purpose cs)
 
   pub asked_parts : (xs ys : List NumberedCondition) → first_asked (xs ++ ys) ≡ both (first_asked xs) (first_asked ys)
   asked_parts xs ys = ap first_false (asked_append purpose xs ys) ∙ first_append (asked purpose xs) (asked purpose ys)
 
-  pub none_asked : first_asked [] ≡ ok tt
+  pub none_asked : first_asked [] ≡ Ok tt
   unfolding first_false
   none_asked = ap first_false (asked_none purpose)
 

@@ -1,13 +1,15 @@
 -- The walk over an expression in the work space gives what document 01 says of it. The proof goes by the expression: an
 -- expression at index k is walked through, and what is left is the walk from its end on, over a work space in which only
 -- maps before its own steps are changed.
+use Rattle.std.proofs.Common.{Result}
 use mathlib.Core.Path.{◌≡◌, sym, ap, ◌∙◌}
 use mathlib.Core.Logic.{inr}
 use mathlib.Core.List.{List}
 use Prim.Native.Nat.{ℕ, suc, ◌+◌, ◌<◌, ◌≤◌}
 use native.Mathlib.Omega.{arith}
 use lib.ListN.{length}
-use Rattle.spec.specs.Reading.{Result}
+
+use Rattle.spec.specs.declared.Refusal.{Refusal}
 use Rattle.spec.specs.Expression.{Position, Expr, leaf, unary, binary, size, index_of}
 use Rattle.spec.specs.Program.{Program}
 use Rattle.spec.specs.Split.{Map, Row, Split}
@@ -40,7 +42,7 @@ use Rattle.step_walk.proofs.Claims.{first_asked, claims_first, claims_one, claim
 use Rattle.step_walk.proofs.HandedDown.{pre_number, part_number, second_number, step_counted, leaf_passes, unary_passes, binary_passes, part_stands, second_stands}
 
 -- the walk over the steps of a program, with its split's locations and denominator
-abbrev walk_of : Purpose → Split → List ℕ → (k n : ℕ) → Result (Unit {0})
+abbrev walk_of : Purpose → Split → List ℕ → (k n : ℕ) → Result (Unit {0}) Refusal
 walk_of purpose S w k n = walk purpose S.header.locations S.header.denominator w k n
 
 -- ------------------------------------------------------------------ the walk through an expression

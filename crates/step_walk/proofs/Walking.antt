@@ -1,4 +1,5 @@
 -- The walk over the steps, one step at a time, and which part of the work space it changes.
+use Rattle.std.proofs.Common.{Ok}
 use mathlib.Core.Path.{◌≡◌, refl}
 use mathlib.Core.Bool.{Bool, true, false}
 use mathlib.Core.List.{List}
@@ -9,7 +10,7 @@ use lib.ListN.{length, set}
 use lib.Seq.{get_or-set_same, get_or-set_other}
 use borrow.Author.Tests.{lt-ltb, ltb-true}
 use Rattle.spec.specs.Choice.{when◌then◌else◌}
-use Rattle.spec.specs.Reading.{ok}
+
 use Rattle.spec.specs.Words.{pre_of_part, pre_of_second}
 use Rattle.spec.specs.declared.MapNumber.{MapNumber}
 use Rattle.spec.specs.declared.Purpose.{Purpose}
@@ -32,7 +33,7 @@ module _ (purpose : Purpose) (locations denominator : ℕ) (w : List ℕ) (k n :
       let e : n - k ≡ suc (n - (k + 1)) = omega arith in
       rw e
 
-  pub walk_end : n ≤ k → walk purpose locations denominator w k (n - k) ≡ ok tt
+  pub walk_end : n ≤ k → walk purpose locations denominator w k (n - k) ≡ Ok tt
   unfolding walk
   walk_end h =
       let e : n - k ≡ 0 = omega arith in

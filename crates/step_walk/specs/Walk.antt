@@ -1,7 +1,7 @@
 -- The steps in line order: what counts of each for a purpose, and the map before each, which its step hands down.
-use Rattle.std.specs.Prelude.{Bool, true, false, List, ℕ, zero, suc, ◌+◌, eqb, ltb, set}
+use Rattle.std.specs.Prelude.{Bool, true, false, List, ℕ, zero, suc, ◌+◌, eqb, ltb, set, Result, Ok, Err}
 use Rattle.spec.specs.Choice.{when◌then◌else◌}
-use Rattle.spec.specs.Reading.{Result, refuse, ok}
+
 use Rattle.spec.specs.Words.{pre_of_part, pre_of_second}
 use Rattle.spec.specs.Verdict.{returned}
 use Rattle.spec.specs.declared.MapNumber.{MapNumber}
@@ -21,19 +21,19 @@ unfoldable pub refuses_types : Refusal → Bool
 refuses_types r = eqb (returned (Refuse r)).number 31
 
 -- what an outcome says of types
-unfoldable pub on_types : Result (Unit {0}) → Result (Unit {0})
-on_types (refuse r) = when refuses_types r then refuse r else ok tt
-on_types (ok a) = ok tt
+unfoldable pub on_types : Result (Unit {0}) Refusal → Result (Unit {0}) Refusal
+on_types (Err r) = when refuses_types r then Err r else Ok tt
+on_types (Ok a) = Ok tt
 
 -- what counts of the outcome of a step or a `proc` line: when filling, what it says of types
-unfoldable pub counted : Purpose → Result (Unit {0}) → Result (Unit {0})
+unfoldable pub counted : Purpose → Result (Unit {0}) Refusal → Result (Unit {0}) Refusal
 counted Check o = o
 counted Fill o = on_types o
 
 -- whether an outcome is a refusal
-unfoldable pub stops : Result (Unit {0}) → Bool
-stops (refuse r) = true
-stops (ok a) = false
+unfoldable pub stops : Result (Unit {0}) Refusal → Bool
+stops (Err r) = true
+stops (Ok a) = false
 
 -- the map before step i is m
 unfoldable pub put_pre : (w : List ℕ) → (i : ℕ) → MapNumber → List ℕ
@@ -52,7 +52,7 @@ pass_on w k =
     (record { 0 = cell w (posts_at + 1) k }) (record { 0 = cell w starts_at k }) (cell w (ends_at + 1) k)
 
 -- n steps from step k on
-unfoldable pub walk : Purpose → (locations denominator : ℕ) → (w : List ℕ) → (k n : ℕ) → Result (Unit {0})
-walk purpose locations denominator w k zero = ok tt
+unfoldable pub walk : Purpose → (locations denominator : ℕ) → (w : List ℕ) → (k n : ℕ) → Result (Unit {0}) Refusal
+walk purpose locations denominator w k zero = Ok tt
 walk purpose locations denominator w k (suc n) =
     both (counted purpose (step_outcome w locations denominator k)) (walk purpose locations denominator (pass_on w k) (k + 1) n)

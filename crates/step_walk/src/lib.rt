@@ -10,7 +10,8 @@ ghost use Rattle.step_walk.specs.Walk.{refuses_types, counted, stops, put_pre, p
 
 use rule_rows::cell;
 use rule_table::check_step;
-use spec::{BinaryWord, MapNumber, Purpose, Refusal, Ruling, UnaryWord, Word};
+use spec::{BinaryWord, MapNumber, Purpose, Refusal, UnaryWord, Word};
+use workspace::Ruling;
 use workspace::{ENDS, POSTS, PRES, STARTS, WORDS, index, word_of};
 
 // Whether a refusal is on types.

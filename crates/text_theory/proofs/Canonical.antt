@@ -1,8 +1,8 @@
 -- What was read is spelled as it is written: a text is its lines, a line is its fields, and a numeral is the digits of its number.
+use Rattle.std.proofs.Common.{Option, None, Some}
 use mathlib.Core.Path.{◌≡◌, refl, sym, ap, ◌∙◌}
 use mathlib.Core.List.{List, [], ◌∷◌, ◌++◌, map, append_assoc, append-nil}
 use mathlib.Core.Bool.{Bool, true, false, ◌&&◌, not}
-use mathlib.Core.Option.{Option, none, some}
 use Prim.Native.Nat.{ℕ, ◌+◌, ◌*◌, ◌-◌, ◌/◌, ◌%◌, ◌≤◌, ◌<◌}
 use native.Mathlib.Nat.{mod-lt, mod-eq_of_lt, div-add-mod'}
 use native.Mathlib.Omega.{arith}
@@ -73,12 +73,12 @@ all_digits (b ∷ c ∷ t) h d z =
     ∙ more_digits (b - 48) (c ∷ t) (omega arith) rest
     ∙ ap (λ (s : List ℕ). s ++ (c ∷ t)) (first_digit b here)
 
-chosen : (b : Bool) (v n : ℕ) → (when b then some v else none) ≡ some n → (b ≡ true) × (v ≡ n)
+chosen : (b : Bool) (v n : ℕ) → (when b then Some v else None) ≡ Some n → (b ≡ true) × (v ≡ n)
 chosen true v n e = (refl, cc)
 chosen false v n e = none_is_not_some e
 
 -- a numeral is the digits of its number
-pub numeral_canonical : (f : Field) (n : ℕ) → numeral f ≡ some n → f ≡ decimal n
+pub numeral_canonical : (f : Field) (n : ℕ) → numeral f ≡ Some n → f ≡ decimal n
 unfolding numeral
 numeral_canonical f n e =
     let (all, v) = chosen (leb 1 (length f) && leb (length f) digit_limit && digits f && not (leading_zero f)) (value 0 f) n e in
@@ -89,14 +89,14 @@ numeral_canonical f n e =
 
 -- ------------------------------------------------------------------ numbers on a line
 
-found : (o : Option ℕ) (p : Option (List ℕ)) (ns : List ℕ) → with_numeral o p ≡ some ns
-    → (n : ℕ) × (ms : List ℕ) × (o ≡ some n) × (p ≡ some ms) × (ns ≡ n ∷ ms)
+found : (o : Option ℕ) (p : Option (List ℕ)) (ns : List ℕ) → with_numeral o p ≡ Some ns
+    → (n : ℕ) × (ms : List ℕ) × (o ≡ Some n) × (p ≡ Some ms) × (ns ≡ n ∷ ms)
 unfolding with_numeral
-found none p ns e = none_is_not_some e
-found (some n) none ns e = none_is_not_some e
-found (some n) (some ms) ns e = (n, ms, refl, refl, cc)
+found None p ns e = none_is_not_some e
+found (Some n) None ns e = none_is_not_some e
+found (Some n) (Some ms) ns e = (n, ms, refl, refl, cc)
 
-numerals_canonical : (fs : List Field) (ns : List ℕ) → numerals fs ≡ some ns → fs ≡ map decimal ns
+numerals_canonical : (fs : List Field) (ns : List ℕ) → numerals fs ≡ Some ns → fs ≡ map decimal ns
 unfolding numerals
 numerals_canonical [] ns e = let q : [] ≡ ns = cc in ap (map decimal) q
 numerals_canonical (f ∷ fs) ns e =

@@ -1,8 +1,8 @@
 -- Numbers in their ranges, written as numerals, read back.
+use Rattle.std.proofs.Common.{Some}
 use mathlib.Core.Path.{◌≡◌, refl, ap}
 use mathlib.Core.List.{List, [], ◌∷◌, map}
 use mathlib.Core.Bool.{true}
-use mathlib.Core.Option.{some}
 use Prim.Native.Nat.{ℕ, suc, ◌^◌, ◌≤◌, ◌<◌}
 use native.Mathlib.Omega.{arith}
 use lib.ListN.{length}
@@ -31,7 +31,7 @@ within_below {c = c} {n = n} h l w = number {n = n} (lt-ltb n c h) (omega arith)
 
 -- ------------------------------------------------------------------ read back
 
-pub numerals_back : {rs : List Range} {ns : List ℕ} → Within rs ns → numerals (map decimal ns) ≡ some ns
+pub numerals_back : {rs : List Range} {ns : List ℕ} → Within rs ns → numerals (map decimal ns) ≡ Some ns
 unfolding numerals with_numeral
 numerals_back empty = refl
 numerals_back (number {n = n} i s w) = rw (numeral_decimal n s, numerals_back w)

@@ -1,8 +1,8 @@
 -- The numeral that is written for a number reads back as that number.
+use Rattle.std.proofs.Common.{Some}
 use mathlib.Core.Path.{◌≡◌, refl, sym, ap, ◌∙◌, subst}
 use mathlib.Core.List.{List, [], ◌∷◌, ◌++◌}
 use mathlib.Core.Bool.{Bool, true, false, ◌&&◌}
-use mathlib.Core.Option.{some}
 use Prim.Native.Nat.{ℕ, zero, suc, ◌+◌, ◌*◌, ◌-◌, ◌^◌, ◌/◌, ◌%◌, ◌≤◌, ◌<◌}
 use native.Mathlib.Nat.{mod-lt, mod-eq_of_lt, div-add-mod', le_refl}
 use native.Mathlib.Omega.{arith}
@@ -113,11 +113,11 @@ some_digits : 1 ≤ digit_limit
 unfolding digit_limit
 some_digits = omega arith
 
-pub numeral_decimal : (n : ℕ) → n < 10 ^ digit_limit → numeral (decimal n) ≡ some n
+pub numeral_decimal : (n : ℕ) → n < 10 ^ digit_limit → numeral (decimal n) ≡ Some n
 unfolding numeral
 numeral_decimal n h =
     simp (le-leb 1 (length (decimal n)) (decimal_long n), le-leb (length (decimal n)) digit_limit (decimal_length digit_limit n some_digits h), decimal_digits n, decimal_leading n)
-    (ap some (decimal_value n))
+    (ap Some (decimal_value n))
 
 -- ------------------------------------------------------------------ a plain field
 

@@ -1,15 +1,15 @@
 -- A split that is written reads back as that split. Line by line: the numbers of a line are in their ranges, so the line's own way
 -- of reading finds them again; then the lines of the text are those that were written.
+use Rattle.std.proofs.Common.{Option, None, Some, Ok}
 use mathlib.Core.Path.{◌≡◌, refl, sym, ap, ◌∙◌}
 use mathlib.Core.List.{List, [], ◌∷◌, ◌++◌, map}
 use mathlib.Core.Bool.{false}
-use mathlib.Core.Option.{Option, none, some}
 use Prim.Native.Nat.{ℕ, zero, suc, ◌+◌, ◌≤◌, ◌<◌}
 use native.Mathlib.Omega.{arith}
 use lib.Dec.{eqb}
 use lib.ListN.{length, replicate, get_or, length-map, length-replicate, get_or-replicate, get_or-map}
 use Rattle.spec.specs.Text.{bytes, same, look_up, lines, Field}
-use Rattle.spec.specs.Reading.{split_sheet, ok, LineResult, good, seen, ensure, Range, ◌to◌, below, numbers, begin, end, or_bad_form, require}
+use Rattle.spec.specs.Reading.{split_sheet, LineResult, good, seen, ensure, Range, ◌to◌, below, numbers, begin, end, or_bad_form, require}
 use Rattle.spec.specs.Expression.{Step}
 use Rattle.spec.specs.Program.{Program}
 use Rattle.spec.specs.Split.{Map, headings, header_ranges, maps_in, maps_of, start_of, header_of, header_line, lock_of, out_range, type_line, type_lines, map_line, no_signature, signature_of, signature_line, Row, no_row, row_of, start_range, post_range, post_field, row_line, Split, split, nth_map}
@@ -76,8 +76,8 @@ signature_plain g = plain_numbers g.before.0 (g.argument.0 ∷ g.after.0 ∷ g.r
 
 start_plain : (s : Option MapNumber) → Plain (start_shown s)
 unfolding start_shown
-start_plain none = plain.none
-start_plain (some m) = decimal_plain m.0
+start_plain None = plain.none
+start_plain (Some m) = decimal_plain m.0
 
 row_plain : (r : Row) → PlainLine (row_fields Check r)
 unfolding row_fields post_shown
@@ -110,7 +110,7 @@ map_within (suc n) e (accepted.more a small) = within_to (omega arith, a) (omega
 -- a start that is not empty is a third numeral
 third_numeral : (H : Header) (s : Step) (t m f : Field) → 1 ≤ length f
     → row_line Check H s (t ∷ m ∷ f ∷ [])
-    ≡ seen (λ ns. row_of (some (nth_map 2 ns)) ns) (numbers (below H.types ∷ below H.maps ∷ start_range s.word H ∷ []) (t ∷ m ∷ f ∷ []))
+    ≡ seen (λ ns. row_of (Some (nth_map 2 ns)) ns) (numbers (below H.types ∷ below H.maps ∷ start_range s.word H ∷ []) (t ∷ m ∷ f ∷ []))
 unfolding row_line post_range post_field
 third_numeral H s t m [] h = absurd (omega arith)
 third_numeral H s t m (b ∷ f) h = refl
@@ -207,17 +207,17 @@ module _ {P : Program} {S : Split} (W : Writable P S) where
       (within_below (a_map (R.after_map f no_signature h)) few_maps_lem (within_below (a_type (R.result_type f no_signature h)) few_types empty)))))
 
   row_back : (s : Step) (r : Row) → r.type.0 < length S.types → r.post.0 < length S.maps
-      → ((m : MapNumber) → r.start ≡ some m → m.0 < length S.maps) → RowStarts H.heading s.word r.start
+      → ((m : MapNumber) → r.start ≡ Some m → m.0 < length S.maps) → RowStarts H.heading s.word r.start
       → row_line Check H s (row_fields Check r) ≡ good r
   unfolding row_line row_of start_range post_range post_field seen ensure row_fields post_shown start_shown RowStarts
   row_back s r t p in_maps starts = by_start r.start refl starts
     where
       by_start : (o : Option MapNumber) → r.start ≡ o → RowStarts H.heading s.word o
           → row_line Check H s (decimal r.type.0 ∷ decimal r.post.0 ∷ start_shown o ∷ []) ≡ good r
-      by_start none e empty_allowed =
+      by_start None e empty_allowed =
           rw (numbers_back (within_below (a_type t) few_types (within_below (a_map p) few_maps_lem empty)), empty_allowed)
           (λ i. good (record { type = r.type; post = r.post; start = sym e i }))
-      by_start (some m) e spawns =
+      by_start (Some m) e spawns =
           third_numeral H s _ _ (decimal m.0) (decimal_long m.0)
           ∙ rw (spawns, numbers_back (within_below (a_type t) few_types (within_below (a_map p) few_maps_lem (within_below (a_map (in_maps m e)) few_maps_lem empty))))
           (λ i. good (record { type = r.type; post = r.post; start = sym e i }))
@@ -253,7 +253,7 @@ module _ {P : Program} {S : Split} (W : Writable P S) where
 
   -- ---------------------------------------------------------------- the sheet
 
-  pub written_reads_back : split Check P (sheet_text S) ≡ ok S
+  pub written_reads_back : split Check P (sheet_text S) ≡ Ok S
   unfolding split begin end require sheet_text split_lines text lines
   written_reads_back =
       let rowed = map (row_fields Check) S.rows in

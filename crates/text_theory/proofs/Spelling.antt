@@ -1,10 +1,10 @@
 -- A sheet has one spelling: the text that was read, for whatever purpose, is what is written of the split, the same byte for byte.
 -- Line by line: the numerals of a line are the digits of its numbers.
+use Rattle.std.proofs.Common.{Some}
 use mathlib.Core.Path.{◌≡◌, refl, sym, ap, ◌∙◌}
 use mathlib.Core.Path.{subst as along}
 use mathlib.Core.List.{List, [], ◌∷◌, ◌++◌, map, append-nil}
 use mathlib.Core.Bool.{Bool, true, false}
-use mathlib.Core.Option.{some}
 use Prim.Native.Nat.{ℕ, zero, suc, ◌+◌}
 use native.Mathlib.Omega.{arith}
 use lib.ListN.{length, get_or, replicate, drop, drop_of_length-le}
@@ -64,12 +64,12 @@ Named : List (List ℕ × Heading) → Type 0
 Named [] = Unit {0}
 Named (w ∷ ws) = (w.0 ≡ heading_name w.1) × Named ws
 
-named_found : (ws : List (List ℕ × Heading)) (f : Field) (h : Heading) → Named ws → look_up ws f ≡ some h → f ≡ heading_name h
+named_found : (ws : List (List ℕ × Heading)) (f : Field) (h : Heading) → Named ws → look_up ws f ≡ Some h → f ≡ heading_name h
 unfolding Named look_up
 named_found [] f h names e = none_is_not_some e
 named_found (w ∷ ws) f h names e = by_test (same w.0 f) refl e (named_found ws f h names.1)
   where
-    by_test : (b : Bool) → same w.0 f ≡ b → (when b then some w.1 else look_up ws f) ≡ some h → (look_up ws f ≡ some h → f ≡ heading_name h)
+    by_test : (b : Bool) → same w.0 f ≡ b → (when b then Some w.1 else look_up ws f) ≡ Some h → (look_up ws f ≡ Some h → f ≡ heading_name h)
         → f ≡ heading_name h
     by_test true t e others = let it : w.1 ≡ h = cc in sym (same_equal w.0 f t) ∙ names.0 ∙ ap heading_name it
     by_test false t e others = others e

@@ -1,6 +1,5 @@
 -- The split sheet as it is written.
-use Rattle.std.specs.Prelude.{List, [], ◌∷◌, ◌++◌, map, ℕ}
-use Rattle.std.proofs.Math.Option.{Option, none, some}
+use Rattle.std.specs.Prelude.{List, [], ◌∷◌, ◌++◌, map, ℕ, Option, None, Some}
 use Rattle.spec.specs.Text.{bytes, Field}
 use Rattle.spec.specs.Split.{Map, Row, Split}
 use Rattle.spec.specs.declared.Signature.{Signature}
@@ -58,8 +57,8 @@ post_shown Fill m = []
 
 -- s of a row: it stays empty where no start is given
 unfoldable pub start_shown : Option MapNumber → Field
-start_shown none = []
-start_shown (some m) = decimal m.0
+start_shown None = []
+start_shown (Some m) = decimal m.0
 
 -- `t,m,s`
 unfoldable pub row_fields : Purpose → Row → List Field

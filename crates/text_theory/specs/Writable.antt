@@ -1,6 +1,5 @@
 -- The splits that some sheet shows: those that can be written and read back.
-use Rattle.std.specs.Prelude.{◌≡◌, [], true, ℕ, ◌<◌, length, get_or}
-use Rattle.std.proofs.Math.Option.{Option, none, some}
+use Rattle.std.specs.Prelude.{◌≡◌, [], true, ℕ, ◌<◌, length, get_or, Option, None, Some}
 use Rattle.spec.specs.Words.{takes_start}
 use Rattle.spec.specs.Expression.{Step}
 use Rattle.spec.specs.Program.{Program}
@@ -27,8 +26,8 @@ LockShows C3 i o = Unit {0}
 
 -- the start that a row of a step with this word can show
 unfoldable pub RowStarts : Heading → Word → Option MapNumber → Type 0
-RowStarts h w none = may_be_empty h w ≡ true
-RowStarts h w (some m) = takes_start w ≡ true
+RowStarts h w None = may_be_empty h w ≡ true
+RowStarts h w (Some m) = takes_start w ≡ true
 
 -- a split that can be written for a program
 pub record Writable (P : Program) (S : Split) : Type 0 where

@@ -1,8 +1,8 @@
 -- A line of a trace field by field is the line by its fields.
+use Rattle.std.proofs.Common.{Option, None, Some}
 use mathlib.Core.Path.{◌≡◌, refl, sym, ap, ◌∙◌}
 use mathlib.Core.List.{List, [], ◌∷◌}
 use mathlib.Core.Bool.{Bool, true, false}
-use mathlib.Core.Option.{Option, none, some}
 use Prim.Native.Nat.{ℕ, suc, ◌+◌, ◌-◌, ◌≤◌, ◌<◌}
 use native.Mathlib.Omega.{arith}
 use lib.Dec.{eqb}
@@ -48,13 +48,13 @@ module _ (end from to : ℕ) (text : List ℕ) (le : from ≤ length text) (is :
 
 pub number_decodes : (o : Option ℕ) (n next : ℕ) → numeral_of o ≡ numeral_is.Value n → closed.Number (stored n) next ≡ closed_number o next
 unfolding numeral_of closed_number
-number_decodes none n next e = cc
-number_decodes (some m) n next e = let same : m ≡ n = cc in rw same
+number_decodes None n next e = cc
+number_decodes (Some m) n next e = let same : m ≡ n = cc in rw same
 
 pub malformed_decodes : (o : Option ℕ) (next : ℕ) → numeral_of o ≡ numeral_is.Malformed → closed.Malformed ≡ closed_number o next
 unfolding numeral_of closed_number
-malformed_decodes none next e = refl
-malformed_decodes (some m) next e = cc
+malformed_decodes None next e = refl
+malformed_decodes (Some m) next e = cc
 
 -- ------------------------------------------------------------------ the byte that ends a field
 
@@ -100,24 +100,24 @@ module _ (from : ℕ) (t : List ℕ) where
 -- three fields or more are no line of a trace
 three : (a b c : Option ℕ) (o : Option (List ℕ)) (next : ℕ) → move_of (with_numeral a (with_numeral b (with_numeral c o))) next ≡ line.Malformed
 unfolding move_of with_numeral
-three none b c o next = refl
-three (some a) none c o next = refl
-three (some a) (some b) none o next = refl
-three (some a) (some b) (some c) none next = refl
-three (some a) (some b) (some c) (some ns) next = refl
+three None b c o next = refl
+three (Some a) None c o next = refl
+three (Some a) (Some b) None o next = refl
+three (Some a) (Some b) (Some c) None next = refl
+three (Some a) (Some b) (Some c) (Some ns) next = refl
 
-no_number : (f : Field) (o : Option (List Field × List ℕ)) (n : ℕ) → numeral f ≡ none → move_in n (with_field f o) ≡ line.Malformed
+no_number : (f : Field) (o : Option (List Field × List ℕ)) (n : ℕ) → numeral f ≡ None → move_in n (with_field f o) ≡ line.Malformed
 unfolding move_in with_field numerals with_numeral move_of
-no_number f none n e = refl
-no_number f (some found) n e = rw e
+no_number f None n e = refl
+no_number f (Some found) n e = rw e
 
-two : (f g : Field) (a : ℕ) (next : ℕ) → numeral f ≡ some a → choice_by (stored a) (closed_number (numeral g) next) ≡ move_of (numerals (f ∷ g ∷ [])) next
+two : (f g : Field) (a : ℕ) (next : ℕ) → numeral f ≡ Some a → choice_by (stored a) (closed_number (numeral g) next) ≡ move_of (numerals (f ∷ g ∷ [])) next
 unfolding numerals with_numeral move_of choice_by closed_number
 two f g a next e = rw e (go (numeral g))
   where
-    go : (o : Option ℕ) → choice_by (stored a) (closed_number o next) ≡ move_of (with_numeral (some a) (with_numeral o (some []))) next
-    go none = refl
-    go (some b) = refl
+    go : (o : Option ℕ) → choice_by (stored a) (closed_number o next) ≡ move_of (with_numeral (Some a) (with_numeral o (Some []))) next
+    go None = refl
+    go (Some b) = refl
 
 -- what the fields behind the second come to
 more : (f g : Field) (t : List ℕ) (n : ℕ) → move_in n (with_field f (with_field g (line_at t))) ≡ line.Malformed
@@ -125,16 +125,16 @@ unfolding move_in with_field numerals
 more f g t n = go (line_at t) refl
   where
     go : (o : Option (List Field × List ℕ)) → line_at t ≡ o → move_in n (with_field f (with_field g o)) ≡ line.Malformed
-    go none e = refl
-    go (some ([], r)) e = absurd (let h = line_some t [] r e in omega arith)
-    go (some (h ∷ fs, r)) e = three (numeral f) (numeral g) (numeral h) (numerals fs) (n - length r)
+    go None e = refl
+    go (Some ([], r)) e = absurd (let h = line_some t [] r e in omega arith)
+    go (Some (h ∷ fs, r)) e = three (numeral f) (numeral g) (numeral h) (numerals fs) (n - length r)
 
 module _ (text : List ℕ) where
   abbrev here : ℕ → List ℕ
   here at = drop at text
 
   -- the second field, behind a first one that is a numeral
-  pub second_field : (at a : ℕ) (f : Field) → at ≤ length text → numeral f ≡ some a
+  pub second_field : (at a : ℕ) (f : Field) → at ≤ length text → numeral f ≡ Some a
       → choice_by (stored a) (closed_by 10 at (here at)) ≡ move_in (length text) (with_field f (line_at (here at)))
   unfolding choice_by move_in with_field behind
   second_field at a f le e = go (end_of (here at)) refl (end_is (here at))
@@ -151,7 +151,7 @@ module _ (text : List ℕ) where
   -- the first field
   pub record FirstField (at n next : ℕ) : Type 0 where
     pub value : ℕ
-    pub numeral_is : numeral (first_field (here at)) ≡ some value
+    pub numeral_is : numeral (first_field (here at)) ≡ Some value
     pub number : n ≡ stored value
     pub comma : end_of (here at) ≡ Comma
     pub behind_is : next ≡ at + width (here at) + 1
@@ -162,8 +162,8 @@ module _ (text : List ℕ) where
   first_field_lem at n next le e = go (end_of (here at)) refl (end_is (here at))
     where
       numbered : (o : Option ℕ) → numeral (first_field (here at)) ≡ o → end_of (here at) ≡ Comma → width (here at) < length (here at) → closed_number o (at + width (here at) + 1) ≡ closed.Number n next → FirstField at n next
-      numbered none q p h f = absurd (let z : ◌≡◌ {A = ℕ} 0 1 = cc in omega arith)
-      numbered (some m) q p h f =
+      numbered None q p h f = absurd (let z : ◌≡◌ {A = ℕ} 0 1 = cc in omega arith)
+      numbered (Some m) q p h f =
           let b : next ≡ at + width (here at) + 1 = cc in
           record { value = m; numeral_is = q; number = cc; comma = p; behind_is = b; fits = omega (arith, b, h, le, length-drop at text) }
 
@@ -184,12 +184,12 @@ module _ (text : List ℕ) where
   line_malformed at e = go (end_of (here at)) refl (end_is (here at))
     where
       by_numeral : (o : Option ℕ) → numeral (first_field (here at)) ≡ o → end_of (here at) ≡ Comma → closed_number o (at + width (here at) + 1) ≡ closed.Malformed → line.Malformed ≡ move_in (length text) (line_at (here at))
-      by_numeral none q p f = rw (line_comma (here at) p, no_number (first_field (here at)) (line_at (behind (here at))) (length text) q)
-      by_numeral (some m) q p f = cc
+      by_numeral None q p f = rw (line_comma (here at) p, no_number (first_field (here at)) (line_at (behind (here at))) (length text) q)
+      by_numeral (Some m) q p f = cc
 
-      one_field : (o : Option ℕ) (next : ℕ) → move_of (with_numeral o (some [])) next ≡ line.Malformed
-      one_field none next = refl
-      one_field (some m) next = refl
+      one_field : (o : Option ℕ) (next : ℕ) → move_of (with_numeral o (Some [])) next ≡ line.Malformed
+      one_field None next = refl
+      one_field (Some m) next = refl
 
       go : (x : FieldEnd) → end_of (here at) ≡ x → EndIs x (width (here at)) (here at) → line.Malformed ≡ move_in (length text) (line_at (here at))
       go Comma p h = by_numeral (numeral (first_field (here at))) refl p (sym (byte_closes at (here at) 44 h) ∙ e)

@@ -1,12 +1,14 @@
 -- The procedures one after the other, then the root: what the walk over each comes to for the sheets that the work space holds.
 -- Between two of them only maps before steps are changed, so the sheets are held throughout.
+use Rattle.std.proofs.Common.{Result, Ok}
 use mathlib.Core.Path.{◌≡◌, refl, sym, ap, ◌∙◌}
 use mathlib.Core.List.{List, [], ◌∷◌}
 use Prim.Native.Nat.{ℕ, zero, suc, ◌+◌, ◌-◌, ◌<◌, ◌≤◌}
 use native.Mathlib.Omega.{arith}
 use lib.ListN.{length, get_or, drop, drop_of_length-le}
 use lib.Seq.{drop-cons}
-use Rattle.spec.specs.Reading.{Result, ok}
+
+use Rattle.spec.specs.declared.Refusal.{Refusal}
 use Rattle.spec.specs.Expression.{Expr, size, line_of, steps_among, Procedure}
 use Rattle.spec.specs.Program.{Program}
 use Rattle.spec.specs.Split.{Split}
@@ -108,7 +110,7 @@ module _ (w : List ℕ) (steps procedures denominator locations start : ℕ) (P 
       (ap (refuse_over (line_of P.root)) (within_shown H.locations_given (header_start_stands H) _))
 
   -- what is judged at the root's line is the start
-  pub start_judged : {root line : ℕ} {o : Result (Unit {0})} → root ≡ cell w proc_firsts_at procedures → line ≡ cell w lines_at root
+  pub start_judged : {root line : ℕ} {o : Result (Unit {0}) Refusal} → root ≡ cell w proc_firsts_at procedures → line ≡ cell w lines_at root
       → o ≡ start_outcome line w denominator locations (record { 0 = start }) → o ≡ start_at_most_one P S
   start_judged at_root at_line judged =
       judged ∙ ap (λ l. start_outcome l w denominator locations (record { 0 = start })) (at_line ∙ ap (cell w lines_at) at_root) ∙ start_shown_lem
@@ -185,7 +187,7 @@ module _ (w : List ℕ) (steps procedures denominator locations start : ℕ) (P 
         (asked_parts purpose (claims_of_procedure S (signature S f) p) (claims_of_procedures S (f + 1) ps)
         ∙ ap (λ o. both o (first_asked purpose (claims_of_procedures S (f + 1) ps))) (sym own))
 
-    pub bodies_none : (f : ℕ) → procedures ≤ f → first_asked purpose (claims_of_procedures S f (drop f P.procedures)) ≡ ok tt
+    pub bodies_none : (f : ℕ) → procedures ≤ f → first_asked purpose (claims_of_procedures S f (drop f P.procedures)) ≡ Ok tt
     unfolding claims_of_procedures
     bodies_none f h =
         let past : length P.procedures ≤ f = omega (arith, H.procedures_counted) in

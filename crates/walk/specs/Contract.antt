@@ -1,6 +1,7 @@
 -- What `rule` promises, and what the bodies and the root come to.
-use Rattle.std.specs.Prelude.{◌≡◌, List, ℕ, ◌+◌, ◌≤◌}
-use Rattle.spec.specs.Reading.{Result, ◌>>=◌}
+use Rattle.std.specs.Prelude.{◌≡◌, List, ℕ, ◌+◌, ◌≤◌, Result}
+use Rattle.spec.specs.declared.Refusal.{Refusal}
+use Rattle.spec.specs.Reading.{◌>>=◌}
 use Rattle.spec.specs.Program.{Program}
 use Rattle.spec.specs.Split.{Split}
 use Rattle.spec.specs.StepContexts.{claims_of_procedures, first_false}
@@ -12,11 +13,11 @@ use Rattle.workspace.specs.Region.{ChangedWithin}
 use Rattle.workspace.specs.Sheets.{HoldsSheets}
 use Rattle.spec.specs.declared.Header.{Header}
 use Rattle.conditions.specs.Outcome.{outcome}
-use Rattle.spec.specs.declared.Ruling.{Ruling}
+use Rattle.workspace.specs.declared.Ruling.{Ruling}
 use Rattle.step_walk.specs.Asked.{asked}
 
 -- the conditions by purpose: all of them, 31 to 33, or those on types, 31
-unfoldable pub ruled_for : Purpose → Program → Split → Result (Unit {0})
+unfoldable pub ruled_for : Purpose → Program → Split → Result (Unit {0}) Refusal
 ruled_for Check P S = conditions_hold P S
 ruled_for Fill P S = type_conditions_hold P S
 

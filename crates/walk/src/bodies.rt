@@ -8,7 +8,8 @@ ghost use Rattle.walk.specs.Contract.{BodiesRuled, ProgramRuled};
 
 use rule_rows::{cell, signature_of};
 use sequential_rules::check_procedure;
-use spec::{MapNumber, Purpose, Ruling, TypeNumber};
+use spec::{MapNumber, Purpose, TypeNumber};
+use workspace::Ruling;
 use step_walk::{check_steps, refuses};
 use workspace::{POSTS, PROC_FIRSTS, PROC_LINES, ROW_TYPES};
 

@@ -11,7 +11,8 @@ ghost use Rattle.walk.specs.Contract.{Ruled};
 use bodies::check_program;
 use conditions::{check_locks, check_start};
 use rule_rows::cell;
-use spec::{Header, Purpose, Ruling};
+use spec::{Header, Purpose};
+use workspace::Ruling;
 use workspace::{LINES, PROC_FIRSTS};
 
 // The first reason of 44 and 30 to 33 for the sheets that the work space holds, when filling of 44, 30 and 31. It notes the maps

@@ -1,8 +1,8 @@
 -- What the work space shows of the split that it holds: types, maps, signatures and rows by number.
+use Rattle.std.proofs.Common.{Option, None, Some}
 use mathlib.Core.Path.{◌≡◌, refl, sym, ap, ◌∙◌}
 use mathlib.Core.Logic.{inr}
 use mathlib.Core.List.{List, [], ◌∷◌}
-use mathlib.Core.Option.{Option, none, some}
 use Prim.Native.Nat.{ℕ, zero, suc, ◌+◌, ◌*◌, ◌<◌, ◌≤◌}
 use native.Mathlib.Omega.{arith}
 use lib.ListN.{length, get_or, replicate, length-replicate, get_or-replicate}
@@ -115,11 +115,11 @@ module _ (w : List ℕ) (S : Split) (P : Program) (H : HoldsSplit w S) (R : InRa
             (λ i l. ap (map_cell w (record { 0 = empty_map })) (omega arith) ∙ zero_at i (omega arith));
       }
 
-  pub start_stands : (o : Option MapNumber) → ((m : MapNumber) → o ≡ some m → m.0 < length S.maps)
+  pub start_stands : (o : Option MapNumber) → ((m : MapNumber) → o ≡ Some m → m.0 < length S.maps)
       → Stands w S (record { 0 = start_number o }) (start_or S o)
   unfolding start_number start_or
-  start_stands none h = empty_stands
-  start_stands (some m) h = map_stands m (h m refl)
+  start_stands None h = empty_stands
+  start_stands (Some m) h = map_stands m (h m refl)
 
   -- what a map has of a location
   pub has_shown : {m : MapNumber} {x : Map} (p : Location) → Stands w S m x → p.0 < S.header.locations

@@ -1,6 +1,5 @@
 -- What the work space holds of a program and of a split, column by column.
-use Rattle.std.specs.Prelude.{List, [], ◌∷◌, ◌++◌, map, ℕ, suc, ◌+◌, ◌*◌, ◌<◌, eqb, length, get_or, replicate}
-use Rattle.std.proofs.Math.Option.{Option, none, some}
+use Rattle.std.specs.Prelude.{List, [], ◌∷◌, ◌++◌, map, ℕ, suc, ◌+◌, ◌*◌, ◌<◌, eqb, length, get_or, replicate, Option, None, Some}
 use Rattle.spec.specs.Choice.{when◌then◌else◌}
 use Rattle.spec.specs.Expression.{Step, Expr, leaf, unary, binary, size, Procedure}
 use Rattle.spec.specs.Words.{role, binding}
@@ -79,8 +78,8 @@ pub record HoldsProgram (w : List ℕ) (P : Program) : Type 0 where
 
 -- the number that stands for the start of a row: its map's, or the empty map's where none is given
 unfoldable pub start_number : Option MapNumber → ℕ
-start_number none = empty_map
-start_number (some m) = m.0
+start_number None = empty_map
+start_number (Some m) = m.0
 
 -- types, maps and signatures by number, the empty map, rows in step order
 pub record HoldsSplit (w : List ℕ) (S : Split) : Type 0 where

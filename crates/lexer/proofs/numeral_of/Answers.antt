@@ -1,5 +1,5 @@
+use Rattle.std.proofs.Common.{Some}
 use mathlib.Core.Path.{refl, ap, sym, ◌∙◌}
-use mathlib.Core.Option.{some}
 use native.Mathlib.Omega.{arith}
 use borrow.Author.Rules.{rules}
 use Rattle.spec.specs.Text.{digit_limit}
@@ -70,4 +70,4 @@ returns c =
     let none-leads = sym c.leading_zero.ensures ∙ c.if-leading_zero.false in
     let all_digits = sym c.loop-i.invariant.2 ∙ digits_end s i (search rules) in
     let whole = sym c.loop-i.invariant.3 ∙ value_end s i c.loop-i.value (search rules) in
-    sym (ap numeral_of (is_numeral s (omega arith) (omega arith) none-leads all_digits ∙ ap some whole))
+    sym (ap numeral_of (is_numeral s (omega arith) (omega arith) none-leads all_digits ∙ ap Some whole))
