@@ -1,8 +1,8 @@
 -- A thread that halts in a well-typed state has finished, or waits: progress.
-use Rattle.std.proofs.Common.{Option, None, Some}
 use Prim.Native.Nat.{ℕ, zero, suc}
 use mathlib.Core.Path.{◌≡◌, refl, ap}
 use mathlib.Core.Logic.{◌⊎◌, inl, inr}
+use mathlib.Core.Option.{Option, none, some}
 use mathlib.Core.List.{List}
 use native.Mathlib.Omega.{arith}
 use lib.ListN.{get_elem?}
@@ -32,22 +32,22 @@ listed i j n = record { thread = i; part = first; finished = j; fresh = n }
 module _ {D : ℕ} {S : Signatures} {s : State} (P : List Procedure) (bodies : BodiesTyped D S P) (I : WellTyped D S s) (i : ℕ) (t : Thread)
     (there : ThreadAt s i t) (halts : Halts P s i) where
   -- Whatever a move of the thread lists, its next word does not reduce.
-  no_reduct : {r : Redex} → next_word t.body ≡ at_word r → (j n : ℕ) → reduct P s (listed i j n) t r ≡ None
+  no_reduct : {r : Redex} → next_word t.body ≡ at_word r → (j n : ℕ) → reduct P s (listed i j n) t r ≡ none
   unfolding reduce
   no_reduct word j n =
       let from_here = bind_goes_on (get_elem? s.threads i) _ there (halts (listed i j n) refl) in
       bind_goes_on (word_of (next_word t.body)) _ (ap word_of word) from_here
 
   -- A word that makes a new thing goes ahead: some name is unused.
-  named_goes_ahead : {A : Type 0} (new : Slot) → named s (listed i 0 I.top) t new ≡ None → A
+  named_goes_ahead : {A : Type 0} (new : Slot) → named s (listed i 0 I.top) t new ≡ none → A
   named_goes_ahead new h =
       some_is_not_none (bind_goes_on (if_unused (s.names I.top)) _ (ap if_unused (I.above I.top (omega arith))) h)
 
   -- So does a word on a cell.
-  cell_has_content : {ρ n : ℕ} {τ : Ty} → I.N n ≡ Some (ref_type ρ τ) → (v : Value) × (cell_value (s.names n) ≡ Some v)
+  cell_has_content : {ρ n : ℕ} {τ : Ty} → I.N n ≡ some (ref_type ρ τ) → (v : Value) × (cell_value (s.names n) ≡ some v)
   cell_has_content {n} known = let (v, found, _) = cell_there (rw known at (I.slots n)) in (v, ap cell_value found)
 
-  join_waits : {K : Cap} {n : ℕ} → next_word t.body ≡ at_word (unary_redex join (name n)) → I.N n ≡ Some (tid_type K) → Waits s t
+  join_waits : {K : Cap} {n : ℕ} → next_word t.body ≡ at_word (unary_redex join (name n)) → I.N n ≡ some (tid_type K) → Waits s t
   join_waits {n} word known = at_join n word kind none_finished
     where
       kind : s.names n ≡ identifier
@@ -77,8 +77,8 @@ module _ {D : ℕ} {S : Signatures} {s : State} (P : List Procedure) (bodies : B
   -- A word of a read-write lock goes ahead unless the lock does not let it.
   hold_waits : {n M : ℕ} {k : Inside} (w : HoldWord) → next_word t.body ≡ at_word (unary_redex (hold w) (name n)) → s.names n ≡ rwlock M k →
       (o : Option Inside) → inside_after M w k ≡ o → Waits s t
-  hold_waits {n} {M} {k} w word found None stays = at_hold n M w k word found stays
-  hold_waits {n} {M} {k} w word found (Some after) turned =
+  hold_waits {n} {M} {k} w word found none stays = at_hold n M w k word found stays
+  hold_waits {n} {M} {k} w word found (some after) turned =
       let h = bind_goes_on (rw_state (s.names n)) _ (ap rw_state found) (no_reduct word 0 0) in
       some_is_not_none (bind_goes_on (inside_after M w k) _ turned h)
 

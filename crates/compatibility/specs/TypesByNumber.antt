@@ -1,6 +1,5 @@
 -- Request (i), "The same type under two numbers". Before it two types agreed when their numbers agreed.
 use Rattle.std.specs.Prelude.{◌≡◌, List, [], ◌∷◌, ◌++◌, Bool, ℕ, ◌+◌, eqb, Result}
-
 use Rattle.spec.specs.declared.Refusal.{Refusal}
 use Rattle.spec.specs.Expression.{Expr, line_of, Procedure}
 use Rattle.spec.specs.Program.{Program, program}

@@ -15,9 +15,8 @@ ghost use Rattle.conditions.specs.Relation.{HasCell, HasCells, holds_at, held, a
 
 pub use locks::check_locks;
 use spec::{Location, MapNumber, Refusal};
-use workspace::Ruling;
 pub use types::{agrees, may_show};
-use workspace::{MAPS, STRIDE, index, map_cell, wide};
+use workspace::{MAPS, Ruling, STRIDE, index, map_cell, wide};
 
 // What is asked of maps, number by number: a = b, a ≥ b, a ≥ n × b, a + b = c, a ≤ n.
 #[derive(Clone, Copy)]

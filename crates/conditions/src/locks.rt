@@ -5,8 +5,7 @@ ghost use Rattle.conditions.specs.SheetOutcomes.{lock_outcome, locks_outcome};
 
 use super::{Relation, everywhere};
 use spec::{Refusal, TypeLine, TypeNumber};
-use workspace::Ruling;
-use workspace::type_at;
+use workspace::{Ruling, type_at};
 
 // The line of the split sheet's first type.
 const FIRST_LINE: u32 = 2;

@@ -11,7 +11,6 @@ use native.Mathlib.Omega.{arith}
 use native.Mathlib.Decide.{dec_le}
 use lib.ListN.{length, get_or}
 use borrow.Author.Tests.{leb-true}
-
 use Rattle.spec.specs.declared.Refusal.{Refusal}
 use Rattle.spec.specs.Program.{Program, program_limit}
 use Rattle.spec.specs.Split.{Map, Split, split, split_limit}

@@ -5,7 +5,6 @@ use mathlib.Core.List.{List, ◌++◌}
 use Prim.Native.Nat.{ℕ}
 use lib.ListN.{length, drop}
 use lib.Seq.{drop-append_seam}
-
 use Rattle.spec.specs.declared.Refusal.{Refusal}
 use Rattle.text_theory.specs.Text.{in_front}
 use Rattle.fill_theory.specs.Answer.{buffer_after}

@@ -9,7 +9,6 @@ use native.Mathlib.Omega.{arith}
 use native.Mathlib.Decide.{dec_lt}
 use lib.ListN.{length, get_or, length-map, get_or-eq_default}
 use lib.Seq.{ext_get_or}
-
 use Rattle.spec.specs.Expression.{line_of}
 use Rattle.spec.specs.StepContexts.{claims_of}
 use Rattle.spec.specs.Program.{Program}

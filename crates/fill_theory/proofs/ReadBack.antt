@@ -9,7 +9,6 @@ use native.Mathlib.Decide.{dec_lt}
 use lib.ListN.{length, get_or, get_or-append}
 use lib.Seq.{get_or-append-add}
 use Rattle.spec.specs.Text.{Field}
-
 use Rattle.spec.specs.Program.{Program}
 use Rattle.spec.specs.Split.{Map, Split, split}
 use Rattle.spec.specs.WellFormed.{WellFormedSplit}

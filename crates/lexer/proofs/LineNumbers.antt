@@ -76,30 +76,30 @@ no_numbers t f = go (end_of t) refl
 
 -- ------------------------------------------------------------------ how many they are
 
-abbrev Some : Option (List ℕ × List ℕ) → Type 0
-Some None = Unit
-Some (Some found) = 0 < length found.0
+abbrev Several : Option (List ℕ × List ℕ) → Type 0
+Several None = Unit
+Several (Some found) = 0 < length found.0
 
-some_with : (n : ℕ) (o : Option (List ℕ)) (r : List ℕ) → Some (with_rest (with_numeral (Some n) o) r)
+some_with : (n : ℕ) (o : Option (List ℕ)) (r : List ℕ) → Several (with_rest (with_numeral (Some n) o) r)
 unfolding with_rest with_numeral
 some_with n None r = tt
 some_with n (Some ns) r = omega arith
 
-some_numerals : (fs : List Field) (r : List ℕ) → 0 < length fs → Some (with_rest (numerals fs) r)
+some_numerals : (fs : List Field) (r : List ℕ) → 0 < length fs → Several (with_rest (numerals fs) r)
 unfolding numerals
 some_numerals [] r h = absurd (omega arith)
 some_numerals (f ∷ fs) r h = go (numeral f)
   where
-    go : (o : Option ℕ) → Some (with_rest (with_numeral o (numerals fs)) r)
-    go None = subst Some (sym (no_rest (numerals fs) r)) tt
+    go : (o : Option ℕ) → Several (with_rest (with_numeral o (numerals fs)) r)
+    go None = subst Several (sym (no_rest (numerals fs) r)) tt
     go (Some n) = some_with n (numerals fs) r
 
-some_line : (t : List ℕ) (o : Option (List Field × List ℕ)) → line_at t ≡ o → Some (numbers_in o)
+some_line : (t : List ℕ) (o : Option (List Field × List ℕ)) → line_at t ≡ o → Several (numbers_in o)
 unfolding numbers_in
 some_line t None e = tt
 some_line t (Some line) e = some_numerals line.0 line.1 (line_some t line.0 line.1 e)
 
-more : (xs : List ℕ) (n : ℕ) (o : Option (List ℕ × List ℕ)) → n ≤ length xs → Some o → counted n (ahead xs o) ≡ None
+more : (xs : List ℕ) (n : ℕ) (o : Option (List ℕ × List ℕ)) → n ≤ length xs → Several o → counted n (ahead xs o) ≡ None
 unfolding counted ahead
 more xs n None h k = refl
 more xs n (Some found) h k =

@@ -1,6 +1,5 @@
 -- What a check of the stored steps answers.
 use Rattle.std.specs.Prelude.{◌≡◌, Result, Ok, Err}
-
 use Rattle.spec.specs.declared.Refusal.{Refusal}
 use Rattle.workspace.specs.declared.Ruling.{Ruling}
 use Rattle.workspace.specs.declared.Ruling.TheVariants.{Holds, Refused}

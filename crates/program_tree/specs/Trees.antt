@@ -2,7 +2,6 @@
 use Rattle.std.specs.Prelude.{◌≡◌, Bool, ◌&&◌, List, [], ◌∷◌, ℕ, ◌+◌, ◌-◌, ◌<◌, ◌≤◌, eqb, ltb, length, get_or, Result, Ok, Err}
 use Rattle.spec.specs.declared.Refusal.{Refusal}
 use Rattle.spec.specs.Choice.{when◌then◌else◌}
-
 use Rattle.spec.specs.Expression.{Expr, size, Item, step, proc, steps_among, Procedure, listed, expression, structure}
 use Rattle.spec.specs.declared.Refusal.TheVariants.{ProgramLines}
 use Rattle.workspace.specs.Layout.{ends_at, lines_at, proc_lines_at, proc_firsts_at, step_room}

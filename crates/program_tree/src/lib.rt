@@ -8,8 +8,7 @@ ghost use Rattle.program_tree.specs.Structure.{RoomFor, parts_of, Ended, ending_
 ghost use Rattle.program_tree.specs.Trees.{proc_next, next_of, limit_at, break_line, left_at, ExpressionDue, ExpressionFound, LinesLeft, BodyFound, Structured};
 
 use spec::{Refusal, Word};
-use workspace::Ruling;
-use workspace::{ENDS, LINES, PROC_FIRSTS, PROC_LINES, WORDS};
+use workspace::{ENDS, LINES, PROC_FIRSTS, PROC_LINES, Ruling, WORDS};
 
 // Reads the step at index k, and stores the index just past it and past each step in it: that index, or one behind all n steps
 // if a part is missing. "Each part is again a step": it reads its parts, which reads steps; the lines left fall.

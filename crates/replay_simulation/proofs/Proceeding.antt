@@ -1,10 +1,10 @@
 -- A thread goes on from a focus to its next word: the numbers then hold the machine in which it has gone there.
-use Rattle.std.proofs.Common.{Some}
 use Prim.Native.Nat.{ℕ, zero, suc, ◌+◌, ◌<◌, ◌≤◌}
 use mathlib.Core.Path.{◌≡◌, refl, sym, ◌∙◌, ap, subst}
 use mathlib.Core.Logic.{◌≢◌}
 use mathlib.Core.Bool.{Bool, false}
 use mathlib.Core.List.{List, [], ◌∷◌}
+use mathlib.Core.Option.{some}
 use native.Mathlib.Omega.{arith}
 use native.Mathlib.Decide.{ℕ_discrete}
 use borrow.Author.Tests.{lt-ltb}
@@ -104,12 +104,12 @@ module _ (T : Threads) (t tid : ℕ) (low : t < 16) (long : length T.records ≡
 
 -- ------------------------------------------------------------------ places
 
-pub place_below : {A : Type 0} (xs : List A) (i : ℕ) (a : A) → get_elem? xs i ≡ Some a → i < length xs
+pub place_below : {A : Type 0} (xs : List A) (i : ℕ) (a : A) → get_elem? xs i ≡ some a → i < length xs
 place_below [] i a h = none_is_not_some h
 place_below (x ∷ xs) zero a h = omega arith
 place_below (x ∷ xs) (suc i) a h = let l = place_below xs i a h in omega arith
 
-pub set_here : {A : Type 0} (xs : List A) (i : ℕ) (a b : A) → get_elem? (set xs i a) i ≡ Some b → a ≡ b
+pub set_here : {A : Type 0} (xs : List A) (i : ℕ) (a b : A) → get_elem? (set xs i a) i ≡ some b → a ≡ b
 set_here [] i a b h = none_is_not_some h
 set_here (x ∷ xs) zero a b h = some_injective h
 set_here (x ∷ xs) (suc i) a b h = set_here xs i a b h
@@ -124,7 +124,7 @@ pub record Paused (p s : List ℕ) (T : Threads) (R : Replay) (t tid : ℕ) : Ty
   pub sized : Sized T R.machine.threads
   pub there : t < length R.machine.threads
   pub was : get_or T.records t no_record ≡ running_record tid
-  pub others : (i : ℕ) (th : MachineThread) → i ≢ t → get_elem? R.machine.threads i ≡ Some th → ThreadHeld p s T i th
+  pub others : (i : ℕ) (th : MachineThread) → i ≢ t → get_elem? R.machine.threads i ≡ some th → ThreadHeld p s T i th
 
 -- it has gone on to d
 abbrev pub gone_to : Replay → (t tid : ℕ) → Control → Replay
@@ -169,7 +169,7 @@ module _ {p s : List ℕ} {T : Threads} {R : Replay} {t tid : ℕ} (P : Paused p
       calls = few;
     }
 
-    thread_there : (i : ℕ) (th : MachineThread) → i ≢ t → get_elem? ts i ≡ Some th → ThreadHeld p s' T' i th
+    thread_there : (i : ℕ) (th : MachineThread) → i ≢ t → get_elem? ts i ≡ some th → ThreadHeld p s' T' i th
     thread_there i th n h =
         let l = place_below ts i th h in
         let f = P.sized.fits in

@@ -1,9 +1,9 @@
 -- A line's numbers are stored in 32 bits: one that does not fit names no thread, and no part of an `if`, as stored or not.
-use Rattle.std.proofs.Common.{Option, None, Some}
 use Prim.Native.Nat.{ℕ, zero, suc, ◌<◌, ◌≤◌}
 use mathlib.Core.Path.{◌≡◌, refl, sym, ◌∙◌, ap, subst}
 use mathlib.Core.Bool.{Bool, true, false}
 use mathlib.Core.List.{List, [], ◌∷◌}
+use mathlib.Core.Option.{Option, none, some}
 use native.Mathlib.Omega.{arith}
 use borrow.Author.Tests.{leb-false}
 use lib.Dec.{leb}
@@ -38,7 +38,7 @@ stored_cases {A} f n past = by_size (leb n 4294967295) refl
     by_size true e = refl
     by_size false e = past (let l = leb-false n 4294967295 e in omega arith)
 
-part_past : (w : Redex) (c : ℕ) → 1 < c → part_chosen w c ≡ None
+part_past : (w : Redex) (c : ℕ) → 1 < c → part_chosen w c ≡ none
 unfolding part_of_if no_choice traits
 part_past w zero l = absurd (omega arith)
 part_past w (suc zero) l = absurd (omega arith)
@@ -53,7 +53,7 @@ part_past (nullary_redex o) (suc (suc c)) l = refl
 part_stored : (w : Redex) (c : ℕ) → part_chosen w (stored c) ≡ part_chosen w c
 part_stored w c = stored_cases (part_chosen w) c (λ l. part_past w 4294967295 (omega arith) ∙ sym (part_past w c (omega arith)))
 
-place_past : {A : Type 0} (xs : List A) (i : ℕ) → length xs ≤ i → get_elem? xs i ≡ None
+place_past : {A : Type 0} (xs : List A) (i : ℕ) → length xs ≤ i → get_elem? xs i ≡ none
 place_past [] i l = refl
 place_past (x ∷ xs) zero l = absurd (omega arith)
 place_past (x ∷ xs) (suc i) l = place_past xs i (omega arith)
@@ -66,13 +66,13 @@ module _ (R : Replay) where
       word_of th.joined th >>= λ w.
       f w >>= λ c.
       step R.machine t c >>= λ M.
-      Some (record { machine = M; things = things_after (effect w) R.things })
+      some (record { machine = M; things = things_after (effect w) R.things })
 
   choice_stored : (t c : ℕ) → stepped R (recorded_line t (stored c)) ≡ stepped R (recorded_line t c)
   unfolding stepped
   choice_stored t c = ap (stepped_by t) (λ i w. part_stored w c i)
 
-  no_thread : (t c : ℕ) → length R.machine.threads ≤ t → stepped R (recorded_line t c) ≡ None
+  no_thread : (t c : ℕ) → length R.machine.threads ≤ t → stepped R (recorded_line t c) ≡ none
   unfolding stepped
   no_thread t c l = rw (place_past R.machine.threads t l)
 

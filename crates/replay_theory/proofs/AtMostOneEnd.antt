@@ -1,7 +1,7 @@
 -- Follows fixes the count of steps and the answer: each line has one reason to stop at it, or none.
-use Rattle.std.proofs.Common.{Option, None, Some}
 use Prim.Native.Nat.{ℕ, suc}
 use mathlib.Core.Path.{◌≡◌, refl, sym, ◌∙◌, ap, subst}
+use mathlib.Core.Option.{Option, none, some}
 use mathlib.Core.List.{List}
 use native.Mathlib.Omega.{arith}
 use lib.ListN.{get_elem?}
@@ -30,10 +30,10 @@ pub no_step_beside : {r s s' : Run} {l : TraceLine} {d : Reduced} → Alike r s 
 no_step_beside E none_goes B =
     none_is_not_some (sym (none_goes B.move (move_too E B.listed)) ∙ (λ z. reduce (E.procedures z) (E.state z) B.move) ∙ B.reduces)
 
-pub same_line : {t t' : TraceLine} (l : Line) → trace_line l ≡ Some t → trace_line l ≡ Some t' → t ≡ t'
+pub same_line : {t t' : TraceLine} (l : Line) → trace_line l ≡ some t → trace_line l ≡ some t' → t ≡ t'
 same_line l q q' = some_injective (sym q ∙ q')
 
-pub not_a_line : {A : Type 0} {t : TraceLine} (l : Line) → trace_line l ≡ None → trace_line l ≡ Some t → A
+pub not_a_line : {A : Type 0} {t : TraceLine} (l : Line) → trace_line l ≡ none → trace_line l ≡ some t → A
 not_a_line l q q' = none_is_not_some (sym q ∙ q')
 
 pub stepping : {s s' : Run} {t t' : TraceLine} {d : Reduced} → t ≡ t' → LanguageStep s t d s' → LanguageStep s t' d s'

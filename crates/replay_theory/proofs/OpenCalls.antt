@@ -1,8 +1,8 @@
 -- The calls that a run keeps for a thread are those that the claim finds open along its steps.
-use Rattle.std.proofs.Common.{Option, None, Some}
 use Prim.Native.Nat.{ℕ, suc}
 use mathlib.Core.Path.{◌≡◌, refl, sym, ◌∙◌, ap}
 use mathlib.Core.Bool.{Bool, true, false, ◌&&◌}
+use mathlib.Core.Option.{Option, none, some}
 use mathlib.Core.List.{List, [], ◌∷◌, ◌++◌, append_assoc, append-nil}
 use native.Mathlib.Omega.{arith}
 use lib.Dec.{eqb}
@@ -23,22 +23,22 @@ use Rattle.replay_theory.proofs.ThreadCalls.{one_if, look_up, calls_for, open_fo
 
 open_append : (o : Option Thread) (ps qs : List Path) → open_for o (ps ++ qs) ≡ open_for o ps ++ open_for o qs
 unfolding open_for still_open
-open_append None ps qs = refl
-open_append (Some t) [] qs = refl
-open_append (Some t) (p ∷ ps) qs = by_cases (is_open (part_at p t.body)) (open_append (Some t) ps qs)
+open_append none ps qs = refl
+open_append (some t) [] qs = refl
+open_append (some t) (p ∷ ps) qs = by_cases (is_open (part_at p t.body)) (open_append (some t) ps qs)
   where
-    by_cases : (b : Bool) → open_for (Some t) (ps ++ qs) ≡ open_for (Some t) ps ++ open_for (Some t) qs →
-        (when b then (p ∷ open_for (Some t) (ps ++ qs)) else open_for (Some t) (ps ++ qs))
-        ≡ (when b then (p ∷ open_for (Some t) ps) else open_for (Some t) ps) ++ open_for (Some t) qs
+    by_cases : (b : Bool) → open_for (some t) (ps ++ qs) ≡ open_for (some t) ps ++ open_for (some t) qs →
+        (when b then (p ∷ open_for (some t) (ps ++ qs)) else open_for (some t) (ps ++ qs))
+        ≡ (when b then (p ∷ open_for (some t) ps) else open_for (some t) ps) ++ open_for (some t) qs
     by_cases true later = ap (λ (x : List Path). p ∷ x) later
     by_cases false later = later
 
 open_one : (o : Option Thread) (b : Bool) (q : Path) → open_for o (one_if b q) ≡ one_if (b && is_open (o >>= λ t. part_at q t.body)) q
 unfolding open_for still_open is_open
-open_one None true q = refl
-open_one None false q = refl
-open_one (Some t) true q = refl
-open_one (Some t) false q = refl
+open_one none true q = refl
+open_one none false q = refl
+open_one (some t) true q = refl
+open_one (some t) false q = refl
 
 both_assoc : (a b c : Bool) → (a && (b && c)) ≡ ((a && b) && c)
 both_assoc true b c = refl

@@ -1,13 +1,13 @@
 -- What a report says: the first state with a race of the calculus, with its lowest pair; and none for a job that is accepted.
-use Rattle.std.proofs.Common.{None as none, Result, Ok, Err}
+use Rattle.std.proofs.Common.{Result, Ok, Err}
 use Prim.Native.Nat.{ℕ}
 use mathlib.Core.Path.{◌≡◌, refl, sym, ◌∙◌, ap, subst}
+use mathlib.Core.Option.{none}
 use mathlib.Core.List.{List, [], ◌∷◌}
 use native.Mathlib.Omega.{arith}
 use lib.ListN.{get_elem?}
 use Rattle.spec.specs.declared.Refusal.{Refusal}
 use Rattle.spec.specs.Text.{Line, lines}
-
 use Rattle.spec.specs.Program.{Program}
 use Rattle.spec.proofs.Outcomes.{on_injective}
 use Rattle.spec.proofs.WellFormed.{well_formed_program}

@@ -1,8 +1,8 @@
 -- Runs that are alike have the same calls open, and a step that makes something opens none; so their limits are one.
-use Rattle.std.proofs.Common.{Option, None, Some}
 use Prim.Native.Nat.{ℕ, zero, suc, ◌≤◌, ◌<◌}
 use mathlib.Core.Path.{◌≡◌, refl, sym, ◌∙◌, ap, subst}
 use mathlib.Core.Bool.{Bool, true, false, ◌&&◌}
+use mathlib.Core.Option.{Option, none, some}
 use mathlib.Core.List.{List, [], ◌∷◌, ◌++◌}
 use native.Mathlib.Omega.{arith}
 use lib.Dec.{eqb}
@@ -29,7 +29,7 @@ AllAlike (r ∷ rs) (s ∷ ss) = Alike r s × AllAlike rs ss
 
 -- A list of m runs that are like the first of another.
 pub alike_first : (rs ss : List Run) (m : ℕ) → length rs ≡ m → m ≤ length ss →
-    ((k : ℕ) (r s : Run) → k < m → get_elem? rs k ≡ Some r → get_elem? ss k ≡ Some s → Alike r s) → AllAlike rs (take m ss)
+    ((k : ℕ) (r s : Run) → k < m → get_elem? rs k ≡ some r → get_elem? ss k ≡ some s → Alike r s) → AllAlike rs (take m ss)
 alike_first [] ss zero h b same = tt
 alike_first [] ss (suc m) h b same = absurd (omega (arith, h))
 alike_first (r ∷ rs) ss zero h b same = absurd (omega (arith, h))
@@ -74,12 +74,12 @@ within_alike rs ss ds es all same W =
 
 fewer : (o : Option Thread) (ps : List Path) → length (open_for o ps) ≤ length ps
 unfolding open_for still_open
-fewer None ps = omega arith
-fewer (Some t) [] = omega arith
-fewer (Some t) (q ∷ ps) = by_cases (is_open (part_at q t.body)) (fewer (Some t) ps)
+fewer none ps = omega arith
+fewer (some t) [] = omega arith
+fewer (some t) (q ∷ ps) = by_cases (is_open (part_at q t.body)) (fewer (some t) ps)
   where
-    by_cases : (b : Bool) → length (open_for (Some t) ps) ≤ length ps →
-        length (when b then (q ∷ open_for (Some t) ps) else open_for (Some t) ps) ≤ suc (length ps)
+    by_cases : (b : Bool) → length (open_for (some t) ps) ≤ length ps →
+        length (when b then (q ∷ open_for (some t) ps) else open_for (some t) ps) ≤ suc (length ps)
     by_cases true later = omega (arith, later)
     by_cases false later = omega (arith, later)
 

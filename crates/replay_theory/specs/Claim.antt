@@ -4,11 +4,11 @@
 -- threads' numbers and how many threads there have been, and they say how each goes on. They are proved in proofs/Followed, proofs/Calls and
 -- proofs/Reported, and fit one report, one answer and one list of runs alone (Exact). Three parts are implied by the others of their record and
 -- are told for the reader: `running` and `puts_body` of a step (proofs/Implied), `races` of the first race (`told_is_race`, proofs/AtMostOneRace).
-use Rattle.std.specs.Prelude.{ℕ, suc, ◌+◌, ◌≤◌, ◌<◌, ◌≡◌, Bool, true, false, ◌&&◌, ◌⊎◌, List, [], ◌∷◌, ◌++◌, eqb, length, take, Option, None as none, Some as some, Ok}
+use Rattle.std.specs.Prelude.{ℕ, suc, ◌+◌, ◌≤◌, ◌<◌, ◌≡◌, Bool, true, false, ◌&&◌, ◌⊎◌, List, [], ◌∷◌, ◌++◌, eqb, length, take, Ok}
+use Rattle.std.proofs.Math.Option.{Option, none, some}
 use Rattle.std.proofs.Math.ListN.{get_elem?}
 use Rattle.spec.specs.Choice.{when◌then◌else◌}
 use Rattle.spec.specs.Text.{Line, lines}
-
 use Rattle.spec.specs.Program.{Program}
 use Rattle.spec.specs.Verdict.{verdict}
 use Rattle.spec.specs.declared.Answer.TheVariants.{Accept}

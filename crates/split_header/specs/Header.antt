@@ -26,7 +26,7 @@ heading_found (Some h) = found_heading.Known h
 -- a cursor where line 1 stands
 pub record AtHeader (text : List ℕ) (c : Cursor) : Type 0 where
   pub reading : SplitCursor text c
-  pub Some : text_ended (rest text c) ≡ false
+  pub some : text_ended (rest text c) ≡ false
 
 -- how many numerals stand behind a heading
 unfoldable pub numerals_of : Heading → ℕ

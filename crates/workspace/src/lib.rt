@@ -5,7 +5,9 @@
 ghost use Rattle.std.specs.Prelude.{◌≡◌, ◌+◌, ◌*◌, ◌<◌, length, get_or, replicate};
 ghost use Rattle.workspace.specs.Layout.{code_of, leaf_code, unary_code, binary_code, rule_of, touching as touching_by, known as known_by, traits_of, shape_of, touch_of, word_of, kind_code, first_of, second_of, type_of, type_at, map_cell};
 
-use spec::{BinaryWord, LeafWord, Location, MapNumber, Refusal, TypeLine, TypeNumber, UnaryWord, Word};
+use spec::{
+    BinaryWord, LeafWord, Location, MapNumber, Refusal, TypeLine, TypeNumber, UnaryWord, Word,
+};
 
 // How many 32-bit numbers a check works in.
 pub const SIZE: usize = 16384;

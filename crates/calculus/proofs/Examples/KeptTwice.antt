@@ -1,7 +1,7 @@
 -- What the caller keeps back is counted once: were it counted twice, Figure 5 would derive a program that races.
-use Rattle.std.proofs.Common.{Some}
 use Prim.Native.Nat.{ℕ}
 use mathlib.Core.Path.{◌≡◌, refl}
+use mathlib.Core.Option.{some}
 use mathlib.Core.List.{[], ◌∷◌}
 use native.Mathlib.Decide.{ℕ_discrete}
 use native.Mathlib.Omega.{arith}
@@ -17,7 +17,7 @@ use Rattle.calculus.proofs.Examples.Races.{kept_twice_has_no_derivation}
 
 -- CALL with Ψkeep given back twice, as a rule beside those of Figure 5.
 abbrev pub TwiceCALL : Type 0
-TwiceCALL = (D : ℕ) (S : Signatures) (Γ : Env) (Ψ Ψ₁ Ψ₂ Ψ₃ Ψkeep : Cap) (f : ℕ) (g : Signature) (e : Exp) → get_elem? S f ≡ Some g →
+TwiceCALL = (D : ℕ) (S : Signatures) (Γ : Env) (Ψ Ψ₁ Ψ₂ Ψ₃ Ψkeep : Cap) (f : ℕ) (g : Signature) (e : Exp) → get_elem? S f ≡ some g →
     D ∣ S ∣ Γ ∣ Ψ ⊢ e ∶ g.argument ∣ Ψ₁ → Ψ₁ ≈ g.before ⊕ Ψkeep → Ψ₂ ≈ g.after ⊕ Ψkeep → Ψ₃ ≈ Ψ₂ ⊕ Ψkeep →
     D ∣ S ∣ Γ ∣ Ψ ⊢ unary (call f) e ∶ g.result ∣ Ψ₃
 
