@@ -1,6 +1,5 @@
 // A line behind line 1 of a program sheet: that of a step or a `proc` line.
 ghost use Rattle.std.specs.Prelude.{◌≡◌, Err};
-
 ghost use Rattle.lexer.specs.Cursors.{Placed};
 ghost use Rattle.program_lines.specs.Lines.{FreelockAt, ProcAt, WordAt, item_at, StepShown};
 

@@ -7,7 +7,6 @@ use Prim.Native.Nat.{ℕ, suc, zero, ◌+◌, ◌-◌, ◌<◌, ◌≤◌}
 use native.Mathlib.Omega.{arith}
 use native.Mathlib.Nat.{not-suc-le-zero, le_of_suc-le-suc}
 use lib.ListN.{length, get_or, set, replicate, length-set, length-append}
-
 use Rattle.spec.specs.declared.Refusal.{Refusal}
 use Rattle.workspace.specs.Layout.{values_at, lets_at, work_size}
 use Rattle.workspace.specs.Region.{Region, ChangedWithin}

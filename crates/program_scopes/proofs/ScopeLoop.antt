@@ -11,7 +11,6 @@ use lib.Dec.{ltb}
 use lib.ListN.{length, get_or, set, length-set, length-append}
 use borrow.Author.Tests.{le-ltb, lt-ltb}
 use Rattle.spec.specs.Choice.{when◌then◌else◌}
-
 use Rattle.spec.specs.declared.Refusal.{Refusal}
 use Rattle.spec.specs.declared.Refusal.TheVariants.{Rebound}
 use Rattle.workspace.specs.Layout.{values_at, lets_at, proc_lines_at, proc_vars_at, proc_firsts_at, proc_mark}

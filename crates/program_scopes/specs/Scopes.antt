@@ -2,7 +2,6 @@
 use Rattle.std.specs.Prelude.{◌≡◌, List, [], ◌∷◌, ◌++◌, ℕ, suc, zero, ◌+◌, ◌-◌, ◌<◌, ◌≤◌, ltb, length, get_or, set, replicate, Result, Ok, Err}
 use Rattle.spec.specs.declared.Refusal.{Refusal}
 use Rattle.spec.specs.Choice.{when◌then◌else◌}
-
 use Rattle.spec.specs.declared.Refusal.TheVariants.{Rebound}
 use Rattle.workspace.specs.Layout.{lets_at, proc_lines_at, proc_vars_at, proc_firsts_at, proc_mark, work_size}
 use Rattle.workspace.specs.Region.{Region, ChangedWithin}

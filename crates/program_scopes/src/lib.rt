@@ -12,8 +12,7 @@ ghost use Rattle.program_scopes.specs.Resolved.{Resolvable, Resolved};
 use crate::binders::{Judged, UNBOUND, judge};
 use program_tree::Found;
 use spec::Refusal;
-use workspace::Ruling;
-use workspace::{LETS, PROC_FIRSTS, PROC_LINES, PROC_MARK, PROC_VARS, VALUES};
+use workspace::{LETS, PROC_FIRSTS, PROC_LINES, PROC_MARK, PROC_VARS, Ruling, VALUES};
 
 // What binds a variable: the index of its let, or the mark of its procedure; unbound, past the table's end.
 fn binder(table: &[u32], v: usize) -> u32
