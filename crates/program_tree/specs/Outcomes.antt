@@ -6,3 +6,7 @@ use Rattle.spec.specs.declared.Refusal.{Refusal}
 abbrev pub Answers : {A B : Type 0} → (f : A → B) → (P : A → Type 0) → Result B Refusal → Result A Refusal → Type 0
 Answers f P r (Err x) = r ≡ Err x
 Answers f P r (Ok a) = (r ≡ Ok (f a)) × P a
+
+-- the same of code that has nothing more to say
+abbrev pub Passes : {A : Type 0} → (P : A → Type 0) → Result (Unit {0}) Refusal → Result A Refusal → Type 0
+Passes P = Answers (λ _. tt) P
