@@ -29,23 +29,23 @@ module _ (w : List ℕ) where
 
   pub from_proc : (f : ℕ) → scope_from w (proc_mark + f) ≡ first_at w f
   unfolding scope_from
-  from_proc f = let e : proc_mark + f - 256 ≡ f = omega arith in rw (le-ltb (proc_mark + f) 256 (omega arith), e) refl
+  from_proc f = let e : proc_mark + f - proc_mark ≡ f = omega arith in rw (le-ltb (proc_mark + f) 256 (omega arith), e) refl
 
   pub till_proc : (f : ℕ) → scope_till w (proc_mark + f) ≡ first_at w (f + 1)
   unfolding scope_till
-  till_proc f = let e : proc_mark + f - 255 ≡ f + 1 = omega arith in rw (le-ltb (proc_mark + f) 256 (omega arith), e) refl
+  till_proc f = let e : proc_mark + f - proc_mark + 1 ≡ f + 1 = omega arith in rw (le-ltb (proc_mark + f) 256 (omega arith), e) refl
 
 -- what is judged does not depend on what is stored of lets
 module _ (w w' : List ℕ) (a z : ℕ) (few : z ≤ 256) (x : ChangedWithin (lets_at + a) (lets_at + z) w w') where
   from_kept_by : (b : ℕ) → Dec (b < 256) → scope_from w' b ≡ scope_from w b
   unfolding scope_from
   from_kept_by b (yes l) = rw (lt-ltb b 256 l) (x.kept (ends_at + (b + 1)) (inl (omega (arith, l))))
-  from_kept_by b (no l) = rw (le-ltb b 256 (omega (arith, l))) (x.kept (proc_firsts_at + (b - 256)) (inr (omega arith)))
+  from_kept_by b (no l) = rw (le-ltb b 256 (omega (arith, l))) (x.kept (proc_firsts_at + (b - proc_mark)) (inr (omega arith)))
 
   till_kept_by : (b : ℕ) → Dec (b < 256) → scope_till w' b ≡ scope_till w b
   unfolding scope_till
   till_kept_by b (yes l) = rw (lt-ltb b 256 l) (x.kept (ends_at + b) (inl (omega (arith, l))))
-  till_kept_by b (no l) = rw (le-ltb b 256 (omega (arith, l))) (x.kept (proc_firsts_at + (b - 255)) (inr (omega arith)))
+  till_kept_by b (no l) = rw (le-ltb b 256 (omega (arith, l))) (x.kept (proc_firsts_at + (b - proc_mark + 1)) (inr (omega arith)))
 
   pub scope_from_kept : (b : ℕ) → scope_from w' b ≡ scope_from w b
   scope_from_kept b = from_kept_by b (dec_lt b 256)

@@ -7,7 +7,7 @@ use mathlib.Core.List.{List, [], ◌∷◌, ◌++◌, map}
 use Prim.Native.Nat.{ℕ, ◌+◌, ◌<◌, ◌≤◌}
 use native.Mathlib.Omega.{arith}
 use native.Mathlib.Decide.{ℕ_discrete}
-use lib.ListN.{length, set, length-map, length-set}
+use lib.ListN.{length, set, length-map}
 use Rattle.spec.specs.Reading.{◌>>=◌}
 use Rattle.spec.specs.Expression.{Step, Expr, size, steps_among, Procedure, structure, scopes}
 use Rattle.spec.specs.WellFormed.{listing}
@@ -79,10 +79,9 @@ root_first_sized k [] root = refl
 root_first_sized k (p ∷ ps) root = omega (arith, root_first_sized (k + size p.body) ps root)
 
 -- so their scopes can be judged
-pub scopable : (n count : ℕ) (w : List ℕ) (ps : List Procedure) (root : Expr) → length w ≡ work_size → n ≤ 256 → count ≤ 16 → length ps ≡ count
+pub scopable : (n count : ℕ) (w : List ℕ) (ps : List Procedure) (root : Expr) → n ≤ 256 → count ≤ 16 → length ps ≡ count
     → all_size ps root ≡ n → Standings w 0 0 ps root → Scopable n count w
-scopable n count w ps root long few procedures counted sized s = record {
-  long = long;
+scopable n count w ps root few procedures counted sized s = record {
   few = few;
   procedures = procedures;
   begun = first_of w 0 0 ps root s;
@@ -113,7 +112,7 @@ resolve_refused {s} {count} S = record {
 -- ------------------------------------------------------------------ the walk finds them
 
 -- the root begins at r, which is stored behind where the bodies begin
-module _ {s : Stored} {count r : ℕ} {w w₁ : List ℕ} (D : Resolvable s count w) (S : Structured s count w w₁ (Ok r)) (st : ItemsStored s.steps s.procs w) where
+module _ {s : Stored} {count r : ℕ} {w w₁ : List ℕ} (long : length w ≡ work_size) (D : Resolvable s count w) (S : Structured s count w w₁ (Ok r)) (st : ItemsStored s.steps s.procs w) where
   tree : Found (λ (t : List Procedure × Expr). root_first 0 t.0) (λ t. Region w₁ ends_at (all_ends 0 t.0 t.1)) r (structure s.last count 0 st.items)
   tree = found _ _ (structure s.last count 0 st.items) (S.found st.items st.held st.steps_counted st.procs_counted)
 
@@ -162,7 +161,7 @@ module _ {s : Stored} {count r : ℕ} {w w₁ : List ℕ} (D : Resolvable s coun
       let kept : Region w₁ proc_firsts_at rows = region_kept S.changed (inr (omega arith)) held.procs.firsts in
       subst (Region w₂ proc_firsts_at) (ap (λ i. rows ++ (i ∷ [])) tree.same ∙ rows_firsts 0 ps top)
       (subst (λ i. Region (set w₁ (proc_firsts_at + i) r) proc_firsts_at (rows ++ (r ∷ []))) n
-      (region_push w₁ proc_firsts_at rows r (omega (arith, n, D.few, S.changed.long, D.long)) kept))
+      (region_push w₁ proc_firsts_at rows r (omega (arith, n, D.few, S.changed.long, long)) kept))
 
   columns : Columns w₂ 0 0 ps top
   columns = record {
@@ -185,7 +184,7 @@ module _ {s : Stored} {count r : ℕ} {w w₁ : List ℕ} (D : Resolvable s coun
 
   pub resolve_scopable : Scopable s.steps count w₂
   resolve_scopable =
-      scopable s.steps count w₂ ps top (length-set w₁ (proc_firsts_at + count) r ∙ S.changed.long ∙ D.long) few_steps D.few lists.counted all_counted standing
+      scopable s.steps count w₂ ps top few_steps D.few lists.counted all_counted standing
 
   module _ {w₃ : List ℕ} {o : Result (Unit {0}) Refusal} (q : Scoped s.steps count w₂ w₃ o) where
     steps_kept : HoldsSteps w₃ (steps_among st.items)
@@ -215,10 +214,10 @@ module _ {s : Stored} {count r : ℕ} {w w₁ : List ℕ} (D : Resolvable s coun
     resolve_scoped =
         scoped_by (scopes count ps top []) refl (judged s.steps count w₂ ps top few_steps D.few lists.counted all_counted standing)
 
-pub resolved : {s : Stored} {count r : ℕ} {w w₁ w₃ : List ℕ} {o : Result (Unit {0}) Refusal} → Resolvable s count w
+pub resolved : {s : Stored} {count r : ℕ} {w w₁ w₃ : List ℕ} {o : Result (Unit {0}) Refusal} → length w ≡ work_size → Resolvable s count w
     → Structured s count w w₁ (Ok r) → Scoped s.steps count (set w₁ (proc_firsts_at + count) r) w₃ o → Resolved s count w w₃ o
-resolved {s} {count} {r} {w} {w₁} D S q = record {
-  found = λ st. resolve_scoped D S st q;
+resolved {s} {count} {r} {w} {w₁} long D S q = record {
+  found = λ st. resolve_scoped long D S st q;
   changed = changed_then ends_at row_types_at
       (changed_then ends_at row_types_at (changed_wider ends_at row_types_at (omega arith) (omega arith) S.changed)
       (changed_store ends_at row_types_at w₁ (proc_firsts_at + count) r (omega arith) (omega (arith, D.few))))

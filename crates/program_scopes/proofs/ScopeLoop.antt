@@ -12,7 +12,7 @@ use lib.ListN.{length, get_or, set, length-append}
 use Rattle.spec.specs.Choice.{when◌then◌else◌}
 use Rattle.spec.specs.declared.Refusal.{Refusal}
 use Rattle.spec.specs.declared.Refusal.TheVariants.{Rebound}
-use Rattle.workspace.specs.Layout.{values_at, lets_at, proc_lines_at, proc_vars_at, proc_firsts_at, proc_mark}
+use Rattle.workspace.specs.Layout.{values_at, lets_at, proc_lines_at, proc_vars_at, proc_firsts_at, proc_mark, work_size}
 use Rattle.workspace.specs.Region.{Region, ChangedWithin}
 use Rattle.workspace.proofs.Region.{region_empty, region_append, region_kept, region_moved, changed_nothing, changed_then, changed_wider}
 use Rattle.workspace.specs.Steps.{value_at}
@@ -141,11 +141,11 @@ pub record BodiesSoFar (n count : ℕ) (w₀ w : List ℕ) (t : Table) (f : ℕ)
   pub changed : ChangedWithin (lets_at + 0) (lets_at + 256) w₀ w
   pub rest : scopes_behind w₀ n count count 0 unbound ≡ with_front stored (scopes_behind w₀ n count (count - f) f t)
 
-pub bodies_start : {n count : ℕ} {w : List ℕ} → Scopable n count w → BodiesSoFar n count w w unbound 0
-bodies_start {n} {count} {w} s = record {
+pub bodies_start : {n count : ℕ} {w : List ℕ} → length w ≡ work_size → Scopable n count w → BodiesSoFar n count w w unbound 0
+bodies_start {n} {count} {w} long s = record {
   stored = [];
   counted = sym s.begun;
-  held = region_empty w lets_at (omega (arith, s.long));
+  held = region_empty w lets_at (omega (arith, long));
   changed = changed_nothing (lets_at + 0) (lets_at + 256) w;
   rest = ap (λ m. scopes_behind w n count m 0 unbound) (sym (sub-zero count)) ∙ sym (front_none (scopes_behind w n count (count - 0) 0 unbound));
 }
@@ -163,7 +163,6 @@ module _ {n count : ℕ} {w₀ w : List ℕ} {t : Table} {f : ℕ} (d : Scopable
 
     pub body_due : BodyScopable count f w
     body_due = record {
-      long = s.changed.long ∙ d.long;
       there = l;
       few = d.procedures;
       in_turn = omega (arith, kept f, kept (f + 1), turn);

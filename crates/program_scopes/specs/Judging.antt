@@ -17,10 +17,10 @@ judge_let l b = when is_some b then Err (Rebound l) else Ok Bind
 
 -- the scope of what is bound at b: a let's e2, or a procedure's body
 unfoldable pub scope_from : List ℕ → (b : ℕ) → ℕ
-scope_from w b = when ltb b proc_mark then get_or w (ends_at + (b + 1)) 0 else get_or w (proc_firsts_at + (b - 256)) 0
+scope_from w b = when ltb b proc_mark then get_or w (ends_at + (b + 1)) 0 else get_or w (proc_firsts_at + (b - proc_mark)) 0
 
 unfoldable pub scope_till : List ℕ → (b : ℕ) → ℕ
-scope_till w b = when ltb b proc_mark then get_or w (ends_at + b) 0 else get_or w (proc_firsts_at + (b - 255)) 0
+scope_till w b = when ltb b proc_mark then get_or w (ends_at + b) 0 else get_or w (proc_firsts_at + (b - proc_mark + 1)) 0
 
 -- a use at index k of the variable that is bound at b: within that scope
 unfoldable pub judge_var : List ℕ → (k : ℕ) (b : Option ℕ) → Result Judged Refusal

@@ -1,9 +1,9 @@
 -- What arranging stored lines answers, and what it leaves in the work space.
-use Rattle.std.specs.Prelude.{◌≡◌, List, [], map, ℕ, ◌+◌, ◌≤◌, length, Result, Ok}
+use Rattle.std.specs.Prelude.{List, [], map, ℕ, ◌+◌, ◌≤◌, Result, Ok}
 use Rattle.spec.specs.declared.Refusal.{Refusal}
 use Rattle.spec.specs.Reading.{◌>>=◌}
 use Rattle.spec.specs.Expression.{Expr, Item, steps_among, Procedure, structure, scopes}
-use Rattle.workspace.specs.Layout.{ends_at, lets_at, proc_lines_at, proc_vars_at, proc_firsts_at, row_types_at, work_size}
+use Rattle.workspace.specs.Layout.{ends_at, lets_at, proc_lines_at, proc_vars_at, proc_firsts_at, row_types_at}
 use Rattle.workspace.specs.Holds.{all_ends, all_lets, first_steps, HoldsSteps}
 use Rattle.workspace.specs.Region.{Region, ChangedWithin}
 use Rattle.program_tree.specs.Items.{ItemsStored}
@@ -17,7 +17,6 @@ resolved_of last count items =
 
 -- lines are stored that may list so many procedures
 pub record Resolvable (s : Stored) (count : ℕ) (w : List ℕ) : Type 0 where
-  pub long : length w ≡ work_size
   pub all : s.steps + s.procs ≤ 256 + count
   pub few : count ≤ 16
   pub stored : ItemsStored s.steps s.procs w

@@ -1,9 +1,9 @@
 -- Scopes in line order: a table has, for each variable that is bound, the index of the let that binds it, or the mark of its procedure.
-use Rattle.std.specs.Prelude.{◌≡◌, List, [], ◌∷◌, ◌++◌, ℕ, suc, zero, ◌+◌, ◌-◌, ◌<◌, ◌≤◌, is_some, length, get_or, set, replicate, Option, None, Some, Result, Ok, Err}
+use Rattle.std.specs.Prelude.{◌≡◌, List, [], ◌∷◌, ◌++◌, ℕ, suc, zero, ◌+◌, ◌-◌, ◌<◌, ◌≤◌, is_some, get_or, set, replicate, Option, None, Some, Result, Ok, Err}
 use Rattle.spec.specs.declared.Refusal.{Refusal}
 use Rattle.spec.specs.Choice.{when◌then◌else◌}
 use Rattle.spec.specs.declared.Refusal.TheVariants.{Rebound}
-use Rattle.workspace.specs.Layout.{lets_at, proc_lines_at, proc_vars_at, proc_firsts_at, proc_mark, work_size}
+use Rattle.workspace.specs.Layout.{lets_at, proc_lines_at, proc_vars_at, proc_firsts_at, proc_mark}
 use Rattle.workspace.specs.Region.{Region, ChangedWithin}
 use Rattle.workspace.specs.Steps.{value_at}
 use Rattle.program_tree.specs.Outcomes.{Passes}
@@ -68,7 +68,6 @@ body_scopes w count f t =
 
 -- a body is due
 pub record BodyScopable (count f : ℕ) (w : List ℕ) : Type 0 where
-  pub long : length w ≡ work_size
   pub there : f < count
   pub few : count ≤ 16
   pub in_turn : first_at w f ≤ first_at w (f + 1)
@@ -85,7 +84,6 @@ scopes_behind w n count (suc m) f t = followed (body_scopes w count f t) (λ u. 
 
 -- the work space has the bodies one behind the other, and then the root
 pub record Scopable (n count : ℕ) (w : List ℕ) : Type 0 where
-  pub long : length w ≡ work_size
   pub few : n ≤ 256
   pub procedures : count ≤ 16
   pub begun : first_at w 0 ≡ 0

@@ -4,15 +4,14 @@
 
 mod binders;
 
-ghost use Rattle.std.specs.Prelude.{◌≡◌, ◌≤◌, length, get_or, set, None, Some};
-ghost use Rattle.workspace.specs.Layout.{work_size};
+ghost use Rattle.std.specs.Prelude.{◌≡◌, ◌≤◌, get_or, set, None, Some};
 ghost use Rattle.program_scopes.specs.Scopes.{PartScoped, BodyScopable, BodyScoped, Scopable, Scoped};
 ghost use Rattle.program_scopes.specs.Resolved.{Resolvable, Resolved};
 
 use crate::binders::{Judged, judge};
 use program_tree::Stored;
 use spec::Refusal;
-use workspace::{LETS, PROC_FIRSTS, PROC_LINES, PROC_MARK, PROC_VARS, VALUES};
+use workspace::{LETS, PROC_FIRSTS, PROC_LINES, PROC_MARK, PROC_VARS, SIZE, VALUES};
 
 // What binds each variable: the index of its let, or the mark of its procedure.
 type Table = [Option<u32>; 256];
@@ -35,13 +34,13 @@ fn bind(table: &mut Table, v: usize, k: u32)
 
 // The steps from index `from` to index `to`, judged in line order with a table; stores what each `var` means.
 fn scope_steps(
-    work: &mut [u32],
+    work: &mut [u32; SIZE],
     table: &mut Table,
     count: usize,
     from: usize,
     to: usize,
 ) -> Result<(), Refusal>
-    requires { (length work.old ≡ work_size) × (from ≤ to) × (to ≤ 256) }
+    requires { (from ≤ to) × (to ≤ 256) }
     ensures { PartScoped count from to work.old work.new table.old table.new result }
 {
     for k in from..to {
@@ -60,7 +59,12 @@ fn scope_steps(
 }
 
 // The procedure f binds its variable in a table, and its body is judged.
-fn scope_body(work: &mut [u32], table: &mut Table, count: usize, f: usize) -> Result<(), Refusal>
+fn scope_body(
+    work: &mut [u32; SIZE],
+    table: &mut Table,
+    count: usize,
+    f: usize,
+) -> Result<(), Refusal>
     requires { BodyScopable count f work.old }
     ensures { BodyScoped count f work.old work.new table.old table.new result }
 {
@@ -77,7 +81,7 @@ fn scope_body(work: &mut [u32], table: &mut Table, count: usize, f: usize) -> Re
 
 // Whether each variable is bound once, by a let or a procedure, and used only in its scope, and each call names a procedure, judged
 // in line order; stores which let or procedure each `var` means.
-fn scopes(work: &mut [u32], n: usize, count: usize) -> Result<(), Refusal>
+fn scopes(work: &mut [u32; SIZE], n: usize, count: usize) -> Result<(), Refusal>
     requires { Scopable n count work.old }
     ensures { Scoped n count work.old work.new result }
 {
@@ -91,11 +95,11 @@ fn scopes(work: &mut [u32], n: usize, count: usize) -> Result<(), Refusal>
 
 // Whether the lines stored list `count` procedures and a root, with their variables in scope; stores where steps end, where the root
 // begins, and which let or procedure each `var` means.
-pub fn resolve(work: &mut [u32], stored: Stored, count: usize) -> Result<(), Refusal>
+pub fn resolve(work: &mut [u32; SIZE], stored: Stored, count: usize) -> Result<(), Refusal>
     requires { Resolvable stored count work.old }
     ensures { Resolved stored count work.old work.new result }
 {
-    let root = program_tree::structure(work, stored, count)?;
+    let root = stored.structure(work, count)?;
     work[PROC_FIRSTS + count] = root as u32;
     scopes(work, stored.steps, count)
 }

@@ -10,7 +10,7 @@ use lib.ListN.{length, get_or, set}
 use Rattle.spec.specs.Expression.{Position, Expr, size, with_parts, listed}
 use Rattle.spec.specs.declared.Word.{Word}
 use Rattle.spec.specs.declared.Word.TheVariants.{Leaf, Unary, Binary}
-use Rattle.workspace.specs.Layout.{ends_at, step_room, word_of, words_at}
+use Rattle.workspace.specs.Layout.{work_size, ends_at, step_room, word_of, words_at}
 use Rattle.workspace.specs.Holds.{ends}
 use Rattle.spec.proofs.Listing.{size_positive}
 use Rattle.workspace.proofs.Held.{ends_length}
@@ -22,7 +22,7 @@ use Rattle.spec.specs.declared.Refusal.{Refusal}
 use Rattle.spec.specs.declared.Refusal.TheVariants.{ProgramLines}
 use Rattle.program_tree.specs.declared.Stored.{Stored}
 use Rattle.program_tree.specs.Trees.{limit_at, break_line, ExpressionAnswer, ExpressionFound}
-use Rattle.program_tree.specs.Structure.{RoomFor, parts_of, listed_from, reached, ends_of, Ended}
+use Rattle.program_tree.specs.Structure.{parts_of, listed_from, reached, ends_of, Ended}
 use Rattle.program_tree.proofs.Listed.{behind_first}
 
 -- ------------------------------------------------------------------ a step and its parts
@@ -102,12 +102,12 @@ past {n} {k} {e} {w} x = let f = first_of k e (listed_from w n k) x.answer in om
 
 -- ------------------------------------------------------------------ reading steps one after the other
 
-module _ {n k : ℕ} {w : List ℕ} (room : RoomFor n w) (hk : k ≤ n) where
+module _ {n k : ℕ} {w : List ℕ} (long : length w ≡ work_size) (few : n ≤ step_room) (hk : k ≤ n) where
   pub parts_none : Ended n 0 k w w (Some k)
   unfolding reached ends_of
   parts_none = record {
     answer = refl;
-    marks = region_empty w (ends_at + k) (omega (arith, room.long, room.few));
+    marks = region_empty w (ends_at + k) (omega (arith, long, few));
     changed = changed_nothing (ends_at + k) (ends_at + step_room) w;
   }
 
@@ -118,7 +118,7 @@ module _ {n k : ℕ} {w : List ℕ} (room : RoomFor n w) (hk : k ≤ n) where
       let q : listed_from w n k ≡ [] = none_of k (listed_from w n k) x.answer in
       record {
         answer = rw q refl;
-        marks = rw q (region_empty w₁ (ends_at + k) (omega (arith, x.changed.long, room.long, room.few)));
+        marks = rw q (region_empty w₁ (ends_at + k) (omega (arith, x.changed.long, long, few)));
         changed = x.changed;
       }
 
@@ -148,7 +148,7 @@ module _ {n k : ℕ} {w : List ℕ} (room : RoomFor n w) (hk : k ≤ n) where
       end = first.3
 
       tail : listed_from w₁ n e ≡ fs
-      tail = listed_kept w w₁ k x.changed n e room.few he ∙ ap (listed_from w n) end ∙ sym (listed_behind w n k f fs q)
+      tail = listed_kept w w₁ k x.changed n e few he ∙ ap (listed_from w n) end ∙ sym (listed_behind w n k f fs q)
 
       left : Region w₂ (ends_at + k) (ends k f)
       left = region_kept y.changed (inl (omega (arith, end, ends_length k f))) (rw (q, append-nil (ends k f)) at x.marks)
@@ -160,12 +160,12 @@ module _ {n k : ℕ} {w : List ℕ} (room : RoomFor n w) (hk : k ≤ n) where
 
 -- ------------------------------------------------------------------ reading one step
 
-module _ {n k : ℕ} {w : List ℕ} (room : RoomFor n w) where
+module _ {n k : ℕ} {w : List ℕ} (long : length w ≡ work_size) (few : n ≤ step_room) where
   pub step_none : k ≤ n → n ≤ k → Ended n 1 k w w None
   unfolding reached ends_of
   step_none l h = record {
     answer = rw (listed_none w n k h) refl;
-    marks = rw (listed_none w n k h) (region_empty w (ends_at + k) (omega (arith, room.long, room.few)));
+    marks = rw (listed_none w n k h) (region_empty w (ends_at + k) (omega (arith, long, few)));
     changed = changed_nothing (ends_at + k) (ends_at + step_room) w;
   }
 
@@ -184,7 +184,7 @@ module _ {n k : ℕ} {w : List ℕ} (room : RoomFor n w) where
     step_open p = record {
       answer = rw p at answer;
       marks = rw (listed_here, step_unended x (position_at w k) (value_at w k) k (listed_from w n (k + 1)) (sym parts.answer ∙ p))
-          (region_empty w₁ (ends_at + k) (omega (arith, near.long, room.long, room.few)));
+          (region_empty w₁ (ends_at + k) (omega (arith, near.long, long, few)));
       changed = near;
     }
 
@@ -192,9 +192,9 @@ module _ {n k : ℕ} {w : List ℕ} (room : RoomFor n w) where
     step_more {e} p = record {
       answer = rw p at answer;
       marks = rw (listed_here, step_ends x (position_at w k) (value_at w k) k (listed_from w n (k + 1)) e (sym parts.answer ∙ p))
-          (region_front w₁ (ends_of (parts_of x) (k + 1) (listed_from w n (k + 1))) (ends_at + k) e (omega (arith, near.long, room.long, room.few)) inner);
+          (region_front w₁ (ends_of (parts_of x) (k + 1) (listed_from w n (k + 1))) (ends_at + k) e (omega (arith, near.long, long, few)) inner);
       changed = changed_then (ends_at + k) (ends_at + step_room) near
-          (changed_store (ends_at + k) (ends_at + step_room) w₁ (ends_at + k) e (omega arith) (omega (arith, room.few)));
+          (changed_store (ends_at + k) (ends_at + step_room) w₁ (ends_at + k) e (omega arith) (omega (arith, few)));
     }
       where
         inner : Region w₁ (ends_at + k + 1) (ends_of (parts_of x) (k + 1) (listed_from w n (k + 1)))

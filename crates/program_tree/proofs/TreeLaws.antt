@@ -20,7 +20,7 @@ use Rattle.workspace.specs.Steps.{word_at, value_at, step_line_at, step_at, step
 use Rattle.workspace.proofs.Region.{region_moved, region_first, region_behind}
 use Rattle.workspace.proofs.Steps.{steps_held}
 use Rattle.program_tree.specs.Items.{ProcRow, proc_rows, HoldsItems}
-use Rattle.program_tree.specs.Trees.{HasRoom, proc_next, next_of, limit_at, break_line, ExpressionDue, ExpressionAnswer, ExpressionFound, StoredFrom, LinesLeft, body_due, BodyAnswer, BodyFound}
+use Rattle.program_tree.specs.Trees.{proc_next, next_of, limit_at, break_line, ExpressionDue, ExpressionAnswer, ExpressionFound, StoredFrom, LinesLeft, body_due, BodyAnswer, BodyFound}
 use Rattle.program_tree.specs.declared.Next.{Next}
 use Rattle.program_tree.specs.declared.Next.TheVariants.{Proc, Step as StepNext, End}
 use Rattle.program_tree.specs.declared.Stored.{Stored}
@@ -138,17 +138,17 @@ step_kept a i l c =
     refl
 
 -- while ends are stored
-pub stored_kept : {w w' : List ℕ} {s : Stored} (a : ℕ) → HasRoom s w → ChangedWithin (ends_at + a) (ends_at + step_room) w w' → (i j : ℕ) (items : List Item)
+pub stored_kept : {w w' : List ℕ} (s : Stored) (a : ℕ) → ChangedWithin (ends_at + a) (ends_at + step_room) w w' → (i j : ℕ) (items : List Item)
     → StoredFrom w s i j items → StoredFrom w' s i j items
 unfolding StoredFrom
-stored_kept a room c i j [] h = h
-stored_kept a room c i j (step x ∷ items) h =
-    (h.0, step_kept a i (omega (arith, h.0, room.few_steps)) c ∙ h.1, stored_kept a room c (i + 1) j items h.2)
-stored_kept a room c i j (proc x k ∷ items) h = (
+stored_kept s a c i j [] h = h
+stored_kept s a c i j (step x ∷ items) h =
+    (h.0, step_kept a i (omega (arith, h.0, s.in_room.0)) c ∙ h.1, stored_kept s a c (i + 1) j items h.2)
+stored_kept s a c i j (proc x k ∷ items) h = (
   h.0,
   c.kept (proc_firsts_at + j) (inr (omega arith)) ∙ h.1,
-  c.kept (proc_lines_at + j) (inr (omega (arith, h.0, room.few_procs))) ∙ h.2,
-  stored_kept a room c i (j + 1) items h.3,
+  c.kept (proc_lines_at + j) (inr (omega (arith, h.0, s.in_room.1))) ∙ h.2,
+  stored_kept s a c i (j + 1) items h.3,
 )
 
 -- ------------------------------------------------------------------ from the columns
@@ -182,7 +182,7 @@ items_stored {w} s items h es ep =
 
 -- ------------------------------------------------------------------ one expression
 
-module _ {s : Stored} {i j : ℕ} {w w' : List ℕ} {r : Result ℕ Refusal} (room : HasRoom s w) (x : ExpressionFound s i j w w' r)
+module _ {s : Stored} {i j : ℕ} {w w' : List ℕ} {r : Result ℕ Refusal} (x : ExpressionFound s i j w w' r)
     (items : List Item) (h : StoredFrom w s i j items) where
   found_by : (es : List Expr) → listed i (leading items) ≡ es → ExpressionAnswer w' i (break_line w s j) r es
       → BodyAnswer s i j w' r (first_listed s.last items es)
@@ -191,7 +191,7 @@ module _ {s : Stored} {i j : ℕ} {w w' : List ℕ} {r : Result ℕ Refusal} (ro
   found_by (e ∷ es) q a =
       let t : total 1 (e ∷ es) ≤ length (leading items) = subst (λ l. total 1 l ≤ length (leading items)) q (total_listed i (leading items) 1) in (
         a.0,
-        (a.1, stored_kept i room x.changed (i + size e) j (drop (size e) items) (stored_behind w s i j items (size e) (omega (arith, t)) h)),
+        (a.1, stored_kept s i x.changed (i + size e) j (drop (size e) items) (stored_behind w s i j items (size e) (omega (arith, t)) h)),
       )
 
   pub expression_answers : BodyAnswer s i j w' r (expression s.last i items)
@@ -201,24 +201,23 @@ module _ {s : Stored} {i j : ℕ} {w w' : List ℕ} {r : Result ℕ Refusal} (ro
       let q : steps_from w i (limit_at w s j - i) ≡ leading items = ap (steps_from w i) m ∙ steps_leading w s i j items h in
       found_by (listed i (leading items)) refl (rw q at x.found)
 
-pub expression_due : {s : Stored} {i j : ℕ} {w : List ℕ} → HasRoom s w → (items : List Item) → StoredFrom w s i j items → ExpressionDue s i j w
-expression_due {s} {i} {j} {w} room items h = record {
-  room = room;
+pub expression_due : {s : Stored} {i j : ℕ} {w : List ℕ} → (items : List Item) → StoredFrom w s i j items → ExpressionDue s i j w
+expression_due {s} {i} {j} {w} items h = record {
   before = omega (arith, limit_leading w s i j items h);
-  within = omega (arith, limit_leading w s i j items h, steps_left w s i j items h, room.few_steps);
+  within = omega (arith, limit_leading w s i j items h, steps_left w s i j items h, s.in_room.0);
 }
 
 -- ------------------------------------------------------------------ one procedure
 
 module _ (s : Stored) (i j : ℕ) (w : List ℕ) where
-  due_by : HasRoom s w → (items : List Item) → StoredFrom w s i j items → next_by items ≡ Proc → ExpressionDue s i (j + 1) w
+  due_by : (items : List Item) → StoredFrom w s i j items → next_by items ≡ Proc → ExpressionDue s i (j + 1) w
   unfolding StoredFrom next_by
-  due_by room [] h e = absurd (grind arith)
-  due_by room (step x ∷ items) h e = absurd (grind arith)
-  due_by room (proc x k ∷ items) h e = expression_due room items h.3
+  due_by [] h e = absurd (grind arith)
+  due_by (step x ∷ items) h e = absurd (grind arith)
+  due_by (proc x k ∷ items) h e = expression_due items h.3
 
   pub procedure_due : LinesLeft s i j w → next_of w s i j ≡ Proc → ExpressionDue s i (j + 1) w
-  procedure_due l n = due_by l.room l.items l.stored (sym (next_by_lem w s i j l.items l.stored) ∙ n)
+  procedure_due l n = due_by l.items l.stored (sym (next_by_lem w s i j l.items l.stored) ∙ n)
 
   -- what reading it comes to, by what stands next
   abbrev Came : (w' : List ℕ) → Result ℕ Refusal → Next → Type 0
@@ -226,16 +225,16 @@ module _ (s : Stored) (i j : ℕ) (w : List ℕ) where
   Came w' r StepNext = r ≡ Err (ProgramLines (get_or w (lines_at + i) 0))
   Came w' r End = r ≡ Err (ProgramLines s.last)
 
-  body_by : (w' : List ℕ) (r : Result ℕ Refusal) → HasRoom s w → (items : List Item) → StoredFrom w s i j items → Came w' r (next_by items)
+  body_by : (w' : List ℕ) (r : Result ℕ Refusal) → (items : List Item) → StoredFrom w s i j items → Came w' r (next_by items)
       → BodyAnswer s i (j + 1) w' r (body_due s.last i items)
   unfolding StoredFrom next_by body_due step_line_at
-  body_by w' r room [] h a = a
-  body_by w' r room (step x ∷ items) h a = a ∙ ap (λ (t : Step). Err (ProgramLines t.line)) h.1
-  body_by w' r room (proc x k ∷ items) h a = expression_answers room a items h.3
+  body_by w' r [] h a = a
+  body_by w' r (step x ∷ items) h a = a ∙ ap (λ (t : Step). Err (ProgramLines t.line)) h.1
+  body_by w' r (proc x k ∷ items) h a = expression_answers a items h.3
 
-  pub body_found : {w' : List ℕ} {r : Result ℕ Refusal} (n : Next) → HasRoom s w → next_of w s i j ≡ n → Came w' r n
+  pub body_found : {w' : List ℕ} {r : Result ℕ Refusal} (n : Next) → next_of w s i j ≡ n → Came w' r n
       → ChangedWithin (ends_at + i) (ends_at + step_room) w w' → BodyFound s i j w w' r
-  body_found {w'} {r} n room e a c = record {
-    found = λ items h. body_by w' r room items h (rw (sym (next_by_lem w s i j items h) ∙ e) a);
+  body_found {w'} {r} n e a c = record {
+    found = λ items h. body_by w' r items h (rw (sym (next_by_lem w s i j items h) ∙ e) a);
     changed = c;
   }

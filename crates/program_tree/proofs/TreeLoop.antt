@@ -19,7 +19,7 @@ use Rattle.workspace.proofs.Region.{region_moved, region_append, region_kept, ch
 use Rattle.workspace.proofs.Held.{ends_length}
 use Rattle.program_tree.specs.Items.{ItemsStored}
 use Rattle.program_tree.specs.declared.Stored.{Stored}
-use Rattle.program_tree.specs.Trees.{HasRoom, left_at, ExpressionDue, ExpressionFound, StoredFrom, LinesLeft, body_due, BodyAnswer, BodyFound, root_first, TreeAnswer, Structured}
+use Rattle.program_tree.specs.Trees.{left_at, ExpressionDue, ExpressionFound, StoredFrom, LinesLeft, body_due, BodyAnswer, BodyFound, root_first, TreeAnswer, Structured}
 use Rattle.program_tree.proofs.Outcomes.{same_refusal, refused, found}
 use Rattle.program_tree.proofs.TreeLaws.{next_by, next_by_lem, items_stored, expression_answers, expression_due, steps_left}
 
@@ -93,10 +93,10 @@ pub record Walked (s : Stored) (count : ℕ) (w₀ w : List ℕ) (i f : ℕ) : T
   pub left : LinesLeft s i f w
   pub rests : (items : List Item) → StoredFrom w₀ s 0 0 items → Rest s count w i f items
 
-pub walk_start : {s : Stored} (count : ℕ) {w : List ℕ} → HasRoom s w → ItemsStored s.steps s.procs w → Walked s count w w 0 0
-walk_start {s} count {w} room st = record {
+pub walk_start : {s : Stored} (count : ℕ) {w : List ℕ} → ItemsStored s.steps s.procs w → Walked s count w w 0 0
+walk_start {s} count {w} st = record {
   changed = changed_nothing ends_at (ends_at + step_room) w;
-  left = record { room = room; items = st.items; stored = items_stored s st.items st.held st.steps_counted st.procs_counted };
+  left = record { items = st.items; stored = items_stored s st.items st.held st.steps_counted st.procs_counted };
   rests = λ items h. record {
     rest = items;
     stored = h;
@@ -137,7 +137,6 @@ module _ {s : Stored} {count : ℕ} {w₀ w : List ℕ} {i f : ℕ} (v : Walked 
       walk_on = record {
         changed = changed_then ends_at (ends_at + step_room) v.changed (changed_wider ends_at (ends_at + step_room) (omega arith) (omega arith) x.changed);
         left = record {
-          room = record { long = x.changed.long ∙ v.left.room.long; few_steps = v.left.room.few_steps; few_procs = v.left.room.few_procs };
           items = (on_at v.left.items v.left.stored).behind;
           stored = (on_at v.left.items v.left.stored).stored;
         };
@@ -173,14 +172,14 @@ module _ {s : Stored} {count : ℕ} {w₀ w : List ℕ} {i f : ℕ} (v : Walked 
   here items h = let e : f ≡ count = omega arith in rw e at h
 
   pub root_due : ExpressionDue s i count w
-  root_due = expression_due v.left.room v.left.items (here v.left.items v.left.stored)
+  root_due = expression_due v.left.items (here v.left.items v.left.stored)
 
   rooted : {w₁ : List ℕ} {r : Result ℕ Refusal} → ExpressionFound s i count w w₁ r → (r' : Result ℕ Refusal)
       → ((items : List Item) → BodyAnswer s i count w₁ r (expression s.last i items) → TreeAnswer w₁ i r' (structure s.last 0 i items))
       → Structured s count w₀ w₁ r'
   rooted {w₁} x r' a =
       let none : count - f ≡ 0 = omega arith in
-      answered v w₁ r' x.changed (λ items h. rw none (a items (expression_answers v.left.room x items (here items h))))
+      answered v w₁ r' x.changed (λ items h. rw none (a items (expression_answers x items (here items h))))
 
   pub root_refused : {w₁ : List ℕ} {y : Refusal} → ExpressionFound s i count w w₁ (Err y) → Structured s count w₀ w₁ (Err y)
   unfolding structure ◌>>=◌
@@ -189,7 +188,7 @@ module _ {s : Stored} {count : ℕ} {w₀ w : List ℕ} {i f : ℕ} (v : Walked 
   module _ {w₁ : List ℕ} {e : ℕ} (x : ExpressionFound s i count w w₁ (Ok e)) where
     pub root_within : e ≤ s.steps
     root_within =
-        let a = expression_answers v.left.room x v.left.items (here v.left.items v.left.stored) in
+        let a = expression_answers x v.left.items (here v.left.items v.left.stored) in
         let b = found _ _ (expression s.last i v.left.items) a in
         omega (arith, b.same, steps_left w₁ s (i + size b.value.0) count b.value.1 b.holds.1)
 

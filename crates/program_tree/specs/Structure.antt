@@ -1,17 +1,12 @@
 -- Where the steps that the work space stores end.
-use Rattle.std.specs.Prelude.{◌≡◌, List, [], ◌∷◌, ◌++◌, ℕ, suc, zero, ◌+◌, ◌-◌, ◌≤◌, length, Option, None, Some}
+use Rattle.std.specs.Prelude.{◌≡◌, List, [], ◌∷◌, ◌++◌, ℕ, suc, zero, ◌+◌, ◌-◌, Option, None, Some}
 use Rattle.spec.specs.Expression.{Expr, size, listed}
 use Rattle.spec.specs.declared.Word.{Word}
 use Rattle.spec.specs.declared.Word.TheVariants.{Leaf, Unary, Binary}
-use Rattle.workspace.specs.Layout.{work_size, ends_at, step_room}
+use Rattle.workspace.specs.Layout.{ends_at, step_room}
 use Rattle.workspace.specs.Holds.{ends}
 use Rattle.workspace.specs.Region.{Region, ChangedWithin}
 use Rattle.workspace.specs.Steps.{steps_from}
-
--- a work space of its size, with room for n steps
-pub record RoomFor (n : ℕ) (w : List ℕ) : Type 0 where
-  pub long : length w ≡ work_size
-  pub few : n ≤ step_room
 
 -- how many parts a step with this word has
 abbrev pub parts_of : Word → ℕ

@@ -4,7 +4,7 @@ use Rattle.spec.specs.declared.Refusal.{Refusal}
 use Rattle.spec.specs.Choice.{when◌then◌else◌}
 use Rattle.spec.specs.Expression.{Expr, size, Item, step, proc, steps_among, Procedure, listed, expression, structure}
 use Rattle.spec.specs.declared.Refusal.TheVariants.{ProgramLines}
-use Rattle.workspace.specs.Layout.{work_size, ends_at, lines_at, proc_lines_at, proc_firsts_at, step_room}
+use Rattle.workspace.specs.Layout.{ends_at, lines_at, proc_lines_at, proc_firsts_at, step_room}
 use Rattle.workspace.specs.Region.{Region, ChangedWithin}
 use Rattle.workspace.specs.Holds.{ends, all_ends}
 use Rattle.workspace.specs.Steps.{step_at, steps_from}
@@ -13,12 +13,6 @@ use Rattle.program_tree.specs.Outcomes.{Answers}
 use Rattle.program_tree.specs.declared.Next.{Next}
 use Rattle.program_tree.specs.declared.Next.TheVariants.{Proc, Step, End}
 use Rattle.program_tree.specs.declared.Stored.{Stored}
-
--- a work space of its size, with room for the lines stored
-pub record HasRoom (s : Stored) (w : List ℕ) : Type 0 where
-  pub long : length w ≡ work_size
-  pub few_steps : s.steps ≤ step_room
-  pub few_procs : s.procs ≤ step_room
 
 -- ------------------------------------------------------------------ what stands where
 
@@ -52,7 +46,6 @@ left_at w s e j = left_by w e j (next_of w s e j)
 
 -- an expression is due at index i, behind j of the `proc` lines
 pub record ExpressionDue (s : Stored) (i j : ℕ) (w : List ℕ) : Type 0 where
-  pub room : HasRoom s w
   pub before : i ≤ limit_at w s j
   pub within : limit_at w s j ≤ step_room
 
@@ -79,7 +72,6 @@ StoredFrom w s i j (proc x k ∷ items) =
 
 -- a procedure, or the root, is due at index i, behind j of the `proc` lines
 pub record LinesLeft (s : Stored) (i j : ℕ) (w : List ℕ) : Type 0 where
-  pub room : HasRoom s w
   pub items : List Item
   pub stored : StoredFrom w s i j items
 

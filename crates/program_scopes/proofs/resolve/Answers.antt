@@ -1,17 +1,8 @@
 -- The walk, the root's index, and the scopes.
 use Rattle.std.proofs.lemmas.Result.{err_from_is_err_and}
 use borrow.Author.Rules.{rules}
-use native.Mathlib.Omega.{arith}
 use Rattle.program_scopes.proofs.Resolved.{resolve_refused, resolve_scopable, root_small, resolved}
 use Rattle.program_scopes.proofs.resolve.Goals as goal
-
-pub structure-requires : goal.structure-requires
-structure-requires c =
-    let pre = c.requires in (
-      record { long = pre.long; few_steps = omega (arith, pre.all, pre.few); few_procs = omega (arith, pre.all, pre.few) },
-      pre.few,
-      pre.stored,
-    )
 
 pub returns-in_err-root : goal.returns-in_err-root
 returns-in_err-root c =
@@ -20,16 +11,11 @@ returns-in_err-root c =
 
 pub overflow_cast-work : goal.overflow_cast-work
 overflow_cast-work c =
-    let small = root_small c.requires c.in_ok-root.ensures c.requires.stored in
+    let small = root_small c.told-work c.requires c.in_ok-root.ensures c.requires.stored in
     search (rules, small)
 
-pub bounds-work-count : goal.bounds-work-count
-bounds-work-count c =
-    let pre = c.requires in
-    omega (arith, pre.long, pre.few, c.structure.ensures.changed.long)
-
 pub scopes-requires : goal.scopes-requires
-scopes-requires c = resolve_scopable c.requires c.in_ok-root.ensures c.requires.stored
+scopes-requires c = resolve_scopable c.told-work c.requires c.in_ok-root.ensures c.requires.stored
 
 pub returns : goal.returns
-returns c = resolved c.requires c.in_ok-root.ensures c.scopes.ensures
+returns c = resolved c.told-work c.requires c.in_ok-root.ensures c.scopes.ensures

@@ -1,11 +1,10 @@
 use Rattle.std.proofs.lemmas.Result.{err_from_is_err_and}
-use mathlib.Core.Path.{◌∙◌}
 use native.Mathlib.Omega.{arith}
 use Rattle.program_tree.proofs.TreeLoop.{walk_start, walk_refuses, walk_on, root_due, root_refused, root_within, root_passed, root_failed}
-use Rattle.program_tree.proofs.structure.Goals as goal
+use Rattle.program_tree.proofs.Stored.structure.Goals as goal
 
 pub loop-f-init : goal.loop-f-init
-loop-f-init c = walk_start _ c.requires.0 c.requires.2
+loop-f-init c = walk_start _ c.requires.1
 
 pub read_procedure-requires : goal.read_procedure-requires
 read_procedure-requires c = c.loop-f.invariant.left
@@ -28,11 +27,9 @@ returns-in_err-e c =
 
 pub finish-requires : goal.finish-requires
 finish-requires c =
-    let left = c.loop-f.invariant.left in
     let e = root_within c.loop-f.invariant c.loop-f.auto.f-end c.loop-f-test.false c.in_ok-e.ensures in (
-      record { long = c.read_expression.ensures.changed.long ∙ left.room.long; few_steps = left.room.few_steps; few_procs = left.room.few_procs },
-      omega (arith, e, left.room.few_steps),
-      omega (arith, c.requires.1),
+      omega (arith, e, c.args.self.in_room.0),
+      omega (arith, c.requires.0),
     )
 
 pub returns-in_err-finish : goal.returns-in_err-finish
