@@ -1,16 +1,19 @@
 -- The first field of a line, and what ends it.
-use mathlib.Core.Path.{refl}
-use Rattle.split_fields.proofs.FieldLaws.{ends_apart, comma_text, head_field, other_end}
+use mathlib.Core.Path.{sym, ◌∙◌}
+use Rattle.split_fields.proofs.FieldLaws.{at_field}
 use Rattle.split_fields.proofs.first_field.Goals as goal
 
-pub returns-in-Comma : goal.returns-in-Comma
-returns-in-Comma c =
-    head_field _ _ c.field-field.result c.field-field.ensures c.requires.placed c.in-Comma.is
+pub slice_bounds-result-count : goal.slice_bounds-result-count
+slice_bounds-result-count c = (at_field c.requires.placed c.field-field.ensures).forward
 
-pub returns-in-Newline : goal.returns-in-Newline
-returns-in-Newline c =
-    other_end _ _ c.field-field.result c.field-field.ensures c.in-Newline.is (ends_apart refl refl)
+pub slice_bounds-result-start : goal.slice_bounds-result-start
+slice_bounds-result-start c = (at_field c.requires.placed c.field-field.ensures).forward
 
-pub returns-in-Text : goal.returns-in-Text
-returns-in-Text c =
-    other_end _ _ c.field-field.result c.field-field.ensures c.in-Text.is (comma_text refl refl)
+pub slice_bounds-result-end : goal.slice_bounds-result-end
+slice_bounds-result-end c = (at_field c.requires.placed c.field-field.ensures).in_text
+
+pub returns-in_default : goal.returns-in_default
+returns-in_default c = λ e. c.in_default.not-Comma (sym (at_field c.requires.placed c.field-field.ensures).end ∙ e)
+
+pub returns : goal.returns
+returns c = let at = at_field c.requires.placed c.field-field.ensures in (at.field, at.end ∙ c.in-Comma.is, at.next)

@@ -1,41 +1,34 @@
 -- The last field of a row: nothing, a numeral, or something else.
-use mathlib.Core.Path.{sym, refl, ◌∙◌}
+use mathlib.Core.Path.{sym, ap, ◌∙◌}
 use mathlib.Core.Logic.{inl, inr}
-use Rattle.lexer.proofs.Places.{span_le}
-use Rattle.split_fields.proofs.FieldLaws.{ends_apart, newline_text, other_end, start_empty, start_given_lem, start_neither}
+use Rattle.spec.specs.Text.{numeral}
+use Rattle.lexer.proofs.Numerals.{numeral_value, numeral_none}
+use Rattle.split_fields.proofs.FieldLaws.{at_field, field_empty, field_full}
 use Rattle.split_fields.proofs.start_field.Goals as goal
 
-pub returns-then-from-to : goal.returns-then-from-to
-returns-then-from-to c =
-    start_empty _ _ c.field-field.result c.field-field.ensures c.in-Newline.is c.if-from-to.true
+pub returns-in_default : goal.returns-in_default
+returns-in_default c = inr (λ e. c.in_default.not-Newline (sym (at_field c.requires.placed c.field-field.ensures).end ∙ e))
+
+pub returns-then-field : goal.returns-then-field
+returns-then-field c =
+    let at = at_field c.requires.placed c.field-field.ensures in
+    (field_empty at c.if-field.true, at.end ∙ c.in-Newline.is, at.next)
 
 pub slice_bounds-numeral_of-count : goal.slice_bounds-numeral_of-count
-slice_bounds-numeral_of-count c =
-    let bounds = span_le _ _ c.field-field.result c.field-field.ensures c.requires.placed in
-    bounds.0
+slice_bounds-numeral_of-count c = (at_field c.requires.placed c.field-field.ensures).forward
 
 pub slice_bounds-numeral_of-start : goal.slice_bounds-numeral_of-start
-slice_bounds-numeral_of-start c =
-    let bounds = span_le _ _ c.field-field.result c.field-field.ensures c.requires.placed in
-    bounds.0
+slice_bounds-numeral_of-start c = (at_field c.requires.placed c.field-field.ensures).forward
 
 pub slice_bounds-numeral_of-end : goal.slice_bounds-numeral_of-end
-slice_bounds-numeral_of-end c =
-    let bounds = span_le _ _ c.field-field.result c.field-field.ensures c.requires.placed in
-    bounds.1
+slice_bounds-numeral_of-end c = (at_field c.requires.placed c.field-field.ensures).in_text
 
-pub returns-in-Comma : goal.returns-in-Comma
-returns-in-Comma c =
-    inr (other_end _ _ c.field-field.result c.field-field.ensures c.in-Comma.is (λ q. ends_apart refl refl (sym q)))
+pub returns-in_default-numeral_of : goal.returns-in_default-numeral_of
+returns-in_default-numeral_of c =
+    let at = at_field c.requires.placed c.field-field.ensures in
+    inl (ap numeral (sym at.field) ∙ numeral_none _ (sym c.numeral_of.ensures ∙ c.in_default-numeral_of.is), field_full at c.if-field.false)
 
-pub returns-in-Value : goal.returns-in-Value
-returns-in-Value c =
-    start_given_lem _ _ c.field-field.result c.field-field.ensures c.in-Newline.is _ _ (sym c.numeral_of-found.ensures ∙ c.in-Value.is) c.narrow.ensures
-
-pub returns-in-Malformed : goal.returns-in-Malformed
-returns-in-Malformed c =
-    inl (start_neither _ _ c.field-field.result c.field-field.ensures c.requires.placed c.if-from-to.false (sym c.numeral_of-found.ensures ∙ c.in-Malformed.is))
-
-pub returns-in-Text : goal.returns-in-Text
-returns-in-Text c =
-    inr (other_end _ _ c.field-field.result c.field-field.ensures c.in-Text.is (newline_text refl refl))
+pub returns : goal.returns
+returns c =
+    let at = at_field c.requires.placed c.field-field.ensures in
+    ((_, ap numeral (sym at.field) ∙ numeral_value _ _ (sym c.numeral_of.ensures ∙ c.in-Value.is), c.narrow.ensures), at.end ∙ c.in-Newline.is, at.next)
