@@ -16,11 +16,11 @@ slice_bounds-numbers-end c =
 pub returns-in_default : goal.returns-in_default
 returns-in_default c =
     let count = c.numerals_of-count.ensures in
-    (numbers_none c.numbers-read.ensures (numerals_of c.args.heading) (places_lent _ _ count ∙ count) c.in_default.is).0
+    (numbers_none c.numbers.ensures (numerals_of c.args.heading) (places_lent _ _ count ∙ count) c.in_default.is).0
 
 pub returns : goal.returns
 returns c =
     let count = c.numerals_of-count.ensures in
-    let found = numbers_read c.numbers-read.ensures (numerals_of c.args.heading) (places_lent _ _ count ∙ count) c.requires.placed c.in-Read.is in
-    let told = header_decodes c.args.heading c.numbers-read.new.into _ _ _ _ count found.long c.index.ensures.0 c.index-2.ensures.0 c.index-3.ensures.0 in
-    (c.numbers-read.new.into, found.numbers, told, found.placed, found.line)
+    let found = numbers_read c.numbers.ensures (numerals_of c.args.heading) (places_lent _ _ count ∙ count) c.requires.placed c.in-Read.is in
+    let told = header_decodes c.args.heading c.numbers.new.into _ _ _ _ count found.long c.index.ensures.0 c.index-2.ensures.0 c.index-3.ensures.0 in
+    (c.numbers.new.into, found.numbers, told, found.placed, found.line)
