@@ -1,10 +1,10 @@
--- What the first field at a cursor says, as the answers of the readers of fields.
+-- What the field at a cursor says of the text; fields that are empty, and fields that are not.
 use Rattle.std.proofs.Common.{None}
 use mathlib.Core.Path.{◌≡◌, refl, sym, ap, ◌∙◌}
 use mathlib.Core.Logic.{inl, inr, ⊎_elim}
 use mathlib.Core.List.{List, [], ◌∷◌}
 use mathlib.Core.Bool.{false}
-use Prim.Native.Nat.{ℕ, ◌-◌, ◌≤◌}
+use Prim.Native.Nat.{ℕ, ◌-◌}
 use native.Mathlib.Omega.{arith}
 use lib.Dec.{eqb}
 use lib.ListN.{length, take, drop, length-drop}
@@ -12,37 +12,27 @@ use lib.Seq.{length-take-le}
 use Rattle.spec.specs.Text.{Field, numeral}
 use Rattle.spec.specs.Split.{post_field}
 use Rattle.spec.specs.declared.Purpose.TheVariants.{Fill}
-use Rattle.lexer.specs.Views.{end_of, first_field}
-use Rattle.lexer.specs.Cursors.{Placed, rest, behind_field, span_at}
+use Rattle.lexer.specs.Views.{first_field}
+use Rattle.lexer.specs.Cursors.{Placed, rest, span_at}
 use Rattle.lexer.specs.declared.Cursor.{Cursor}
 use Rattle.lexer.specs.declared.Span.{Span}
 use Rattle.lexer.proofs.Places.{span_field, span_le}
 use Rattle.lexer.proofs.Walks.{span_end, span_next}
 use Rattle.split_fields.specs.Answers.{LeadingAnswer, PostAnswer}
 
--- the field at a cursor, as a part of the text
-pub record AtField (text : List ℕ) (c : Cursor) (s : Span) : Type 0 where
-  pub forward : s.from ≤ s.to
-  pub in_text : s.to ≤ length text
-  pub field : take (s.to - s.from) (drop s.from text) ≡ first_field (rest text c)
-  pub end : end_of (rest text c) ≡ s.end
-  pub next : behind_field text c ≡ s.next
+-- a field is empty where it ends where it begins, and nowhere else
+module _ (text : List ℕ) (c : Cursor) (s : Span) (is : s ≡ span_at text c) where
+  pub span_empty : s.from ≡ s.to → first_field (rest text c) ≡ []
+  span_empty e = let none : s.to - s.from ≡ 0 = omega arith in sym (span_field text c s is) ∙ rw none
 
-pub at_field : {text : List ℕ} {c : Cursor} {s : Span} → Placed text c → s ≡ span_at text c → AtField text c s
-at_field {text} {c} {s} placed is =
-    let l = span_le text c s is placed in
-    record { forward = l.0; in_text = l.1; field = span_field text c s is; end = sym (span_end text c s is); next = sym (span_next text c s is) }
+  pub span_full : Placed text c → (s.from ≡ s.to → ⊥) → first_field (rest text c) ≡ [] → ⊥
+  span_full placed q z =
+      let bounds = span_le text c s is placed in
+      let none : length (take (s.to - s.from) (drop s.from text)) ≡ 0 = ap length (span_field text c s is ∙ z) in
+      let all = length-take-le (s.to - s.from) (drop s.from text) (omega (arith, length-drop s.from text)) in
+      q (omega arith)
 
--- it is empty where it ends where it begins, and nowhere else
-module _ {text : List ℕ} {c : Cursor} {s : Span} (at : AtField text c s) where
-  pub field_empty : s.from ≡ s.to → first_field (rest text c) ≡ []
-  field_empty e = let none : s.to - s.from ≡ 0 = omega arith in sym at.field ∙ rw none
-
-  pub field_full : (s.from ≡ s.to → ⊥) → first_field (rest text c) ≡ [] → ⊥
-  field_full q z =
-      let none : length (take (s.to - s.from) (drop s.from text)) ≡ 0 = ap length (at.field ∙ z) in
-      let all = length-take-le (s.to - s.from) (drop s.from text) (omega (arith, length-drop s.from text, at.forward, at.in_text)) in
-      q (omega (arith, at.forward))
+pub ruleset fields = (span_le, span_field, span_end, span_next, span_empty, span_full)
 
 -- the m of a row to fill: what is not empty is as it stands
 as_it_stands : (m : Field) → (m ≡ [] → ⊥) → post_field Fill m ≡ m

@@ -18,6 +18,7 @@ use Rattle.lexer.proofs.Fields.{line_comma}
 use Rattle.lexer.proofs.Places.{next_rest, next_placed, line_kept}
 use Rattle.lexer.proofs.Sheets.{next_at_none, passed_at, end_at_none, end_at_some}
 use Rattle.lexer.proofs.Walks.{left_none, left_some}
+use Rattle.split_fields.specs.Answers.{SplitCursor}
 
 -- ------------------------------------------------------------------ none, and none left
 
@@ -61,6 +62,9 @@ module _ (text : List ℕ) (c d : Cursor) (p : Placed text c) (comma : end_of (r
 
   pub comma_kept : d.line ≡ c.line
   comma_kept = ap (λ (x : Cursor). x.line) (sym is) ∙ line_kept text c comma
+
+pub comma_cursor : (text : List ℕ) (c d : Cursor) → SplitCursor text c → end_of (rest text c) ≡ Comma → behind_field text c ≡ d → SplitCursor text d
+comma_cursor text c d at comma is = record { placed = comma_placed text c d at.placed comma is; fits = at.fits }
 
 -- ------------------------------------------------------------------ the exit of a `?`
 

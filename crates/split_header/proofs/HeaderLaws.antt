@@ -33,7 +33,7 @@ use Rattle.lexer.proofs.Sheets.{next_at}
 use Rattle.workspace.specs.Sheets.{Small}
 use Rattle.split_header.specs.Header.{numerals_of, header_fits}
 use Rattle.split_fields.proofs.Tests.{range_parts}
-use Rattle.split_fields.proofs.LineLaws.{shows_range, shows_entry, comma_line, comma_kept}
+use Rattle.split_fields.proofs.LineLaws.{shows_range, shows_entry, comma_line, comma_kept, exit}
 
 -- ------------------------------------------------------------------ the heading
 
@@ -63,7 +63,9 @@ unfolding headings look_up
 other_heading f Check e e' e'' = sym (rw (e refl, e', e''))
 other_heading f Fill e e' e'' = sym (rw (e', e''))
 
--- ------------------------------------------------------------------ the numerals behind it
+pub ruleset heading = (first_heading, second_heading, third_heading, other_heading)
+
+-- ------------------------------------------------------------------ the numerals after it
 
 pub few_numerals : (h : Heading) → numerals_of h ≤ 5
 unfolding numerals_of header_ranges
@@ -263,3 +265,5 @@ module _ (purpose : Purpose) (text : List ℕ) (c : Cursor) (some : text_ended (
               next_at split_sheet text (header_line purpose) c ∙ reads.0
               ∙ shows_entry text c e H (ap (seen (header_of h)) (judged_as q) ∙ ap good told)
               (l ∙ ap (λ (k : ℕ). k + 1) (comma_kept text c d p comma is))
+
+pub ruleset line = (header_small, no_comma, no_header, header_form, header_range, header_on, exit)

@@ -9,7 +9,7 @@ ghost use Rattle.lexer.specs.Cursors.{place_at};
 ghost use Rattle.split_fields.specs.Answers.{SplitCursor};
 ghost use Rattle.split_header.specs.Header.{numerals_of, header_fits, AtHeader, NumbersAnswer, HeaderAnswer};
 
-use lexer::{Cursor, Numbers};
+use lexer::Cursor;
 use spec::{Header, Heading, MapNumber, Purpose, Refusal};
 use split_fields::{LARGEST, first_field};
 
@@ -21,6 +21,7 @@ const MOST_TYPES: usize = 64;
 const MOST_MAPS: usize = 512;
 
 // The heading that a field spells in a sheet that is read for this purpose: when filling, "A `C` header is 21".
+#[tactic(auto, using(crate::proofs::HeaderLaws::heading), unfolding(spec::specs::Text::bytes))]
 fn heading_of(field: &[u8], purpose: Purpose) -> Option<Heading>
     ensures { result ≡ look_up (headings purpose) field.now }
 {
@@ -54,9 +55,7 @@ fn header_numbers(text: &[u8], cursor: Cursor, heading: Heading) -> Option<(Head
 {
     let mut found = [0u32; 5];
     let count = numerals_of(heading);
-    let Numbers::Read(next) = cursor.numbers(text, &mut found[..count]) else {
-        return None;
-    };
+    let next = cursor.numbers(text, &mut found[..count])?;
     let [denominator, locations, types, maps, start] = found;
     let header = Header {
         heading,
@@ -82,6 +81,7 @@ fn header_fits(header: Header) -> bool
 }
 
 // The header at a cursor.
+#[tactic(auto, using(crate::proofs::HeaderLaws::line))]
 pub fn header_line(
     text: &[u8],
     cursor: Cursor,
