@@ -8,9 +8,7 @@ use Rattle.spec.specs.Reading.{◌>>=◌}
 use Rattle.spec.specs.Conditions.{Condition, T}
 use Rattle.spec.specs.StepContexts.{judge, numbered, first_false}
 use Rattle.spec.specs.declared.Refusal.{Refusal}
-use Rattle.conditions.specs.Outcome.{outcome, both, first_false_from}
-use Rattle.workspace.specs.declared.Ruling.{Ruling}
-use Rattle.workspace.specs.declared.Ruling.TheVariants.{Holds, Refused}
+use Rattle.conditions.specs.Outcome.{both, first_false_from}
 
 pub both_met : (a : Result (Unit {0}) Refusal) → both a (Ok tt) ≡ a
 unfolding both ◌>>=◌
@@ -21,6 +19,15 @@ pub both_assoc : (a b c : Result (Unit {0}) Refusal) → both (both a b) c ≡ b
 unfolding both ◌>>=◌
 both_assoc (Err r) b c = refl
 both_assoc (Ok a) b c = refl
+
+-- an outcome that refuses is the first refusal of two, and behind one that does not the second decides
+pub both_stops : (a b : Result (Unit {0}) Refusal) {r : Refusal} → a ≡ Err r → both a b ≡ Err r
+unfolding both ◌>>=◌
+both_stops a b e = rw e
+
+pub both_goes_on : (a b : Result (Unit {0}) Refusal) → a ≡ Ok tt → both a b ≡ b
+unfolding both ◌>>=◌
+both_goes_on a b e = rw e
 
 module _ (line i : ℕ) where
   pub first_false_cons : (c : Condition) (cs : List Condition)
@@ -33,10 +40,13 @@ module _ (line i : ℕ) where
   unfolding first_false_from numbered first_false
   last c e = e ∙ sym (both_met (judge line i c)) ∙ sym (first_false_cons c [])
 
-  -- a condition and those after it, as `also` joins them
-  pub next : (c : Condition) (cs : List Condition) {v : Result (Unit {0}) Refusal} (a b : Result (Unit {0}) Refusal)
-      → v ≡ both a b → a ≡ judge line i c → b ≡ first_false_from line (i + 1) cs → v ≡ first_false_from line i (c ∷ cs)
-  next c cs a b e p q = e ∙ rw (p, q) (sym (first_false_cons c cs))
+  -- a condition that refuses is the first false one, and behind one that holds the others decide
+  pub stops : (c : Condition) (cs : List Condition) {r : Refusal} → Err r ≡ judge line i c → Err r ≡ first_false_from line i (c ∷ cs)
+  stops c cs e = rw (first_false_cons c cs, ← e) (sym (both_stops _ _ refl))
+
+  pub goes_on : (c : Condition) (cs : List Condition) {v : Result (Unit {0}) Refusal}
+      → Ok tt ≡ judge line i c → v ≡ first_false_from line (i + 1) cs → v ≡ first_false_from line i (c ∷ cs)
+  goes_on c cs e p = rw (first_false_cons c cs, ← e) (p ∙ sym (both_goes_on _ _ refl))
 
   -- one that holds, one that fails
   pub pass : (b : Bool) (cs : List Condition) {v : Result (Unit {0}) Refusal} → b ≡ true → v ≡ first_false_from line (i + 1) cs
@@ -48,12 +58,3 @@ module _ (line i : ℕ) where
       → v ≡ first_false_from line i (T b ∷ cs)
   unfolding first_false_from numbered first_false judge ◌>>=◌
   fail b cs e p = rw e p
-
--- a ruling that refuses is the first of two, one that is met is not
-pub refused_stops : (r : Ruling) {x : Refusal} (b : Result (Unit {0}) Refusal) → r ≡ Refused x → both (outcome r) b ≡ outcome r
-unfolding both outcome ◌>>=◌
-refused_stops r b e = rw e
-
-pub met_goes_on : (r : Ruling) (b : Result (Unit {0}) Refusal) → r ≡ Holds → both (outcome r) b ≡ b
-unfolding both outcome ◌>>=◌
-met_goes_on r b e = rw e
