@@ -1,5 +1,6 @@
 -- The first false one of a step's conditions, one condition at a time, as the code of a word goes through them.
-use Rattle.std.proofs.Common.{Result, Ok, Err}
+use Rattle.std.proofs.Common.{Result, Ok, Err, ap}
+use Rattle.std.specs.Result.{IsErrAnd}
 use mathlib.Core.Path.{◌≡◌, refl, sym, ◌∙◌}
 use mathlib.Core.Bool.{Bool, true, false}
 use mathlib.Core.List.{List, [], ◌∷◌}
@@ -29,32 +30,31 @@ pub both_goes_on : (a b : Result (Unit {0}) Refusal) → a ≡ Ok tt → both a 
 unfolding both ◌>>=◌
 both_goes_on a b e = rw e
 
-module _ (line i : ℕ) where
-  pub first_false_cons : (c : Condition) (cs : List Condition)
-      → first_false_from line i (c ∷ cs) ≡ both (judge line i c) (first_false_from line (i + 1) cs)
+module _ (line i : ℕ) (c : Condition) where
+  pub first_false_cons : (cs : List Condition) → first_false_from line i (c ∷ cs) ≡ both (judge line i c) (first_false_from line (i + 1) cs)
   unfolding first_false_from numbered first_false both
-  first_false_cons c cs = refl
+  first_false_cons cs = refl
 
-  -- the last condition
-  pub last : (c : Condition) {v : Result (Unit {0}) Refusal} → v ≡ judge line i c → v ≡ first_false_from line i (c ∷ [])
+  -- one condition alone; a condition that refuses and a condition that holds, with others behind it
+  pub last : first_false_from line i (c ∷ []) ≡ judge line i c
   unfolding first_false_from numbered first_false
-  last c e = e ∙ sym (both_met (judge line i c)) ∙ sym (first_false_cons c [])
+  last = first_false_cons [] ∙ both_met (judge line i c)
 
-  -- a condition that refuses is the first false one, and behind one that holds the others decide
-  pub stops : (c : Condition) (cs : List Condition) {r : Refusal} → Err r ≡ judge line i c → Err r ≡ first_false_from line i (c ∷ cs)
-  stops c cs e = rw (first_false_cons c cs, ← e) (sym (both_stops _ _ refl))
+  pub stops : (cs : List Condition) {r : Refusal} → judge line i c ≡ Err r → first_false_from line i (c ∷ cs) ≡ Err r
+  stops cs e = first_false_cons cs ∙ both_stops _ _ e
 
-  pub goes_on : (c : Condition) (cs : List Condition) {v : Result (Unit {0}) Refusal}
-      → Ok tt ≡ judge line i c → v ≡ first_false_from line (i + 1) cs → v ≡ first_false_from line i (c ∷ cs)
-  goes_on c cs e p = rw (first_false_cons c cs, ← e) (p ∙ sym (both_goes_on _ _ refl))
+  pub goes_on : (cs : List Condition) → judge line i c ≡ Ok tt → first_false_from line i (c ∷ cs) ≡ first_false_from line (i + 1) cs
+  goes_on cs e = first_false_cons cs ∙ both_goes_on _ _ e
 
-  -- one that holds, one that fails
-  pub pass : (b : Bool) (cs : List Condition) {v : Result (Unit {0}) Refusal} → b ≡ true → v ≡ first_false_from line (i + 1) cs
-      → v ≡ first_false_from line i (T b ∷ cs)
-  unfolding first_false_from numbered first_false judge ◌>>=◌
-  pass b cs e p = rw e p
+  pub exit : (cs : List Condition) (v : Result (Unit {0}) Refusal) {r : Refusal} → IsErrAnd v (λ s. s ≡ r) → Err r ≡ judge line i c
+      → v ≡ first_false_from line i (c ∷ cs)
+  exit cs (Err s) h e = ap Err h ∙ sym (stops cs (sym e))
+  exit cs (Ok x) h e = absurd h
 
-  pub fail : (b : Bool) (cs : List Condition) {v : Result (Unit {0}) Refusal} → b ≡ false → v ≡ judge line i (T false)
-      → v ≡ first_false_from line i (T b ∷ cs)
-  unfolding first_false_from numbered first_false judge ◌>>=◌
-  fail b cs e p = rw e p
+  pub later : (cs : List Condition) {v : Result (Unit {0}) Refusal} → Ok tt ≡ judge line i c → v ≡ first_false_from line (i + 1) cs → v ≡ first_false_from line i (c ∷ cs)
+  later cs e p = p ∙ sym (goes_on cs (sym e))
+
+  pub only : {v : Result (Unit {0}) Refusal} → v ≡ judge line i c → v ≡ first_false_from line i (c ∷ [])
+  only p = p ∙ sym last
+
+pub ruleset in_turn = (last, stops, goes_on)

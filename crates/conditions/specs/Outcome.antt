@@ -11,4 +11,5 @@ both a b = a >>= λ holds. b
 
 -- the first false one of a step's conditions, which are numbered from i on
 unfoldable pub first_false_from : (line i : ℕ) → List Condition → Result (Unit {0}) Refusal
+unfolding numbered first_false ◌>>=◌
 first_false_from line i cs = first_false (numbered line i cs)
