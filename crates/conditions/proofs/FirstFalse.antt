@@ -1,5 +1,6 @@
 -- The first false one of a step's conditions, one condition at a time, as the code of a word goes through them.
-use Rattle.std.proofs.Common.{Result, Ok, Err}
+use Rattle.std.proofs.Common.{Result, Ok, Err, ap}
+use Rattle.std.specs.Result.{IsErrAnd}
 use mathlib.Core.Path.{◌≡◌, refl, sym, ◌∙◌}
 use mathlib.Core.Bool.{Bool, true, false}
 use mathlib.Core.List.{List, [], ◌∷◌}
@@ -8,9 +9,7 @@ use Rattle.spec.specs.Reading.{◌>>=◌}
 use Rattle.spec.specs.Conditions.{Condition, T}
 use Rattle.spec.specs.StepContexts.{judge, numbered, first_false}
 use Rattle.spec.specs.declared.Refusal.{Refusal}
-use Rattle.conditions.specs.Outcome.{outcome, both, first_false_from}
-use Rattle.workspace.specs.declared.Ruling.{Ruling}
-use Rattle.workspace.specs.declared.Ruling.TheVariants.{Holds, Refused}
+use Rattle.conditions.specs.Outcome.{both, first_false_from}
 
 pub both_met : (a : Result (Unit {0}) Refusal) → both a (Ok tt) ≡ a
 unfolding both ◌>>=◌
@@ -22,38 +21,40 @@ unfolding both ◌>>=◌
 both_assoc (Err r) b c = refl
 both_assoc (Ok a) b c = refl
 
-module _ (line i : ℕ) where
-  pub first_false_cons : (c : Condition) (cs : List Condition)
-      → first_false_from line i (c ∷ cs) ≡ both (judge line i c) (first_false_from line (i + 1) cs)
+-- an outcome that refuses is the first refusal of two, and behind one that does not the second decides
+pub both_stops : (a b : Result (Unit {0}) Refusal) {r : Refusal} → a ≡ Err r → both a b ≡ Err r
+unfolding both ◌>>=◌
+both_stops a b e = rw e
+
+pub both_goes_on : (a b : Result (Unit {0}) Refusal) → a ≡ Ok tt → both a b ≡ b
+unfolding both ◌>>=◌
+both_goes_on a b e = rw e
+
+module _ (line i : ℕ) (c : Condition) where
+  pub first_false_cons : (cs : List Condition) → first_false_from line i (c ∷ cs) ≡ both (judge line i c) (first_false_from line (i + 1) cs)
   unfolding first_false_from numbered first_false both
-  first_false_cons c cs = refl
+  first_false_cons cs = refl
 
-  -- the last condition
-  pub last : (c : Condition) {v : Result (Unit {0}) Refusal} → v ≡ judge line i c → v ≡ first_false_from line i (c ∷ [])
+  -- one condition alone; a condition that refuses and a condition that holds, with others behind it
+  pub last : first_false_from line i (c ∷ []) ≡ judge line i c
   unfolding first_false_from numbered first_false
-  last c e = e ∙ sym (both_met (judge line i c)) ∙ sym (first_false_cons c [])
+  last = first_false_cons [] ∙ both_met (judge line i c)
 
-  -- a condition and those after it, as `also` joins them
-  pub next : (c : Condition) (cs : List Condition) {v : Result (Unit {0}) Refusal} (a b : Result (Unit {0}) Refusal)
-      → v ≡ both a b → a ≡ judge line i c → b ≡ first_false_from line (i + 1) cs → v ≡ first_false_from line i (c ∷ cs)
-  next c cs a b e p q = e ∙ rw (p, q) (sym (first_false_cons c cs))
+  pub stops : (cs : List Condition) {r : Refusal} → judge line i c ≡ Err r → first_false_from line i (c ∷ cs) ≡ Err r
+  stops cs e = first_false_cons cs ∙ both_stops _ _ e
 
-  -- one that holds, one that fails
-  pub pass : (b : Bool) (cs : List Condition) {v : Result (Unit {0}) Refusal} → b ≡ true → v ≡ first_false_from line (i + 1) cs
-      → v ≡ first_false_from line i (T b ∷ cs)
-  unfolding first_false_from numbered first_false judge ◌>>=◌
-  pass b cs e p = rw e p
+  pub goes_on : (cs : List Condition) → judge line i c ≡ Ok tt → first_false_from line i (c ∷ cs) ≡ first_false_from line (i + 1) cs
+  goes_on cs e = first_false_cons cs ∙ both_goes_on _ _ e
 
-  pub fail : (b : Bool) (cs : List Condition) {v : Result (Unit {0}) Refusal} → b ≡ false → v ≡ judge line i (T false)
-      → v ≡ first_false_from line i (T b ∷ cs)
-  unfolding first_false_from numbered first_false judge ◌>>=◌
-  fail b cs e p = rw e p
+  pub exit : (cs : List Condition) (v : Result (Unit {0}) Refusal) {r : Refusal} → IsErrAnd v (λ s. s ≡ r) → Err r ≡ judge line i c
+      → v ≡ first_false_from line i (c ∷ cs)
+  exit cs (Err s) h e = ap Err h ∙ sym (stops cs (sym e))
+  exit cs (Ok x) h e = absurd h
 
--- a ruling that refuses is the first of two, one that is met is not
-pub refused_stops : (r : Ruling) {x : Refusal} (b : Result (Unit {0}) Refusal) → r ≡ Refused x → both (outcome r) b ≡ outcome r
-unfolding both outcome ◌>>=◌
-refused_stops r b e = rw e
+  pub later : (cs : List Condition) {v : Result (Unit {0}) Refusal} → Ok tt ≡ judge line i c → v ≡ first_false_from line (i + 1) cs → v ≡ first_false_from line i (c ∷ cs)
+  later cs e p = p ∙ sym (goes_on cs (sym e))
 
-pub met_goes_on : (r : Ruling) (b : Result (Unit {0}) Refusal) → r ≡ Holds → both (outcome r) b ≡ b
-unfolding both outcome ◌>>=◌
-met_goes_on r b e = rw e
+  pub only : {v : Result (Unit {0}) Refusal} → v ≡ judge line i c → v ≡ first_false_from line i (c ∷ [])
+  only p = p ∙ sym last
+
+pub ruleset in_turn = (last, stops, goes_on)
