@@ -28,12 +28,12 @@ use Rattle.fill_pass.proofs.Room.{part_upper_bound_room, last_upper_bound_room, 
 
 -- ------------------------------------------------------------------ what a step reaches
 
-module _ (w m : List ℕ) (column : Column) (k x : ℕ) where
-  pub leaf_reached : (E : Effect) → transfer_in w column k ≡ Leaf E → {r : ℕ} → r ≡ forth E x → Reached w m column k x r
+module _ {w m : List ℕ} {column : Column} {k x : ℕ} where
+  pub leaf_reached : {E : Effect} → transfer_in w column k ≡ Leaf E → {r : ℕ} → r ≡ forth E x → Reached w m column k x r
   unfolding attainable
-  leaf_reached E seen e = record { answers = λ f c S C. e ∙ ap (attainable top x c) (sym (leaf_parts w column k E f S seen)) }
+  leaf_reached {E} seen e = record { answers = λ f c S C. e ∙ ap (attainable top x c) (sym (leaf_parts w column k E f S seen)) }
 
-  module _ (transfer : UnaryTransfer) (seen : transfer_in w column k ≡ Unary transfer) {r : ℕ} where
+  module _ {transfer : UnaryTransfer} (seen : transfer_in w column k ≡ Unary transfer) {r : ℕ} where
     unary_reached : ((f : Flow) (c : ℕ) → Shows w column (k + 1) f → Region m (k + 1) (upper_bounds_of c f) → r ≡ unary_attainable transfer x (get_or m k 0) (attainable top x c f))
         → Reached w m column k x r
     unary_reached by = record {
@@ -49,19 +49,19 @@ module _ (w m : List ℕ) (column : Column) (k x : ℕ) where
     after_reached {E} is A e = unary_reached (λ f c S C. rw is (e ∙ ap (forth E) (A.answers f c S C)))
 
     -- the part of a loop is not looked at: what it can leave is in the loop's cap
-    pub loop_reached : {cap : ℕ} → transfer ≡ Loop → cap ≡ get_or m k 0 → r ≡ min x cap → Reached w m column k x r
+    pub loop_reached : transfer ≡ Loop → r ≡ min x (get_or m k 0) → Reached w m column k x r
     unfolding unary_attainable
-    loop_reached is own e = unary_reached (λ f c S C. rw is (e ∙ ap (min x) own))
+    loop_reached is e = unary_reached (λ f c S C. rw is e)
 
     -- nor is that of a call
     pub call_reached : {wanted left : ℕ} → transfer ≡ Call wanted left → r ≡ left → Reached w m column k x r
     unfolding unary_attainable
     call_reached is e = unary_reached (λ f c S C. rw is e)
 
-  pub binary_reached : (transfer : BinaryTransfer) → transfer_in w column k ≡ Binary transfer → {first second next last r : ℕ} → Reached w m column (k + 1) x first
-      → second ≡ end_in w (k + 1) → next ≡ second_pre transfer x first → Reached w m column second next last → {cap : ℕ} → cap ≡ get_or m k 0
-      → r ≡ binary_attainable transfer cap first last → Reached w m column k x r
-  binary_reached transfer seen {first} {second} {next} {last} {r} A at from D {cap} own e = record { answers = answers }
+  pub binary_reached : {transfer : BinaryTransfer} → transfer_in w column k ≡ Binary transfer → {first second next last r : ℕ} → Reached w m column (k + 1) x first
+      → second ≡ end_in w (k + 1) → next ≡ second_pre transfer x first → Reached w m column second next last
+      → r ≡ binary_attainable transfer (get_or m k 0) first last → Reached w m column k x r
+  binary_reached {transfer} seen {first} {second} {next} {last} {r} A at from D e = record { answers = answers }
     where
       answers : (f : Flow) (c : ℕ) → Shows w column k f → Region m k (upper_bounds_of c f) → r ≡ attainable top x c f
       answers f c S C =
@@ -71,42 +71,17 @@ module _ (w m : List ℕ) (column : Column) (k x : ℕ) where
           let D' : Reached w m column (k + 1 + steps B.first) next last = rw place at D in
           let b : last ≡ attainable top next (last_upper_bound transfer c) B.second = D'.answers B.second _ B.behind (last_upper_bounds c transfer B.first B.second B.is C) in
           let start : next ≡ second_pre transfer x (attainable top x (first_upper_bound_of transfer c B.second) B.first) = from ∙ ap (second_pre transfer x) a in
-          let capped : cap ≡ c = own ∙ binary_upper_bound c transfer B.first B.second B.is C in
+          let capped : get_or m k 0 ≡ c = binary_upper_bound c transfer B.first B.second B.is C in
           e ∙ rw (capped, a, b, start) refl ∙ sym (ap (attainable top x c) B.is ∙ attainable_binary c x transfer B.first B.second)
-
--- ------------------------------------------------------------------ the most that a step itself may leave
-
-module _ (w m : List ℕ) (column : Column) (k : ℕ) (transfer : UnaryTransfer) (c first : ℕ) where
-  pub after_own : {E : Effect} {r : ℕ} → transfer ≡ After E → r ≡ c → OwnUpperBound w m column k transfer c first r
-  unfolding unary_upper_bound
-  after_own is e = record { answers = λ f S C. rw is e }
-
-  pub call_own : {wanted left r : ℕ} → transfer ≡ Call wanted left → r ≡ c → OwnUpperBound w m column k transfer c first r
-  unfolding unary_upper_bound
-  call_own is e = record { answers = λ f S C. rw is e }
-
-  pub loop_own : {leaves under r : ℕ} → transfer ≡ Loop → Reached w m column (k + 1) top leaves → under ≡ min first leaves → r ≡ min c under
-      → OwnUpperBound w m column k transfer c first r
-  unfolding unary_upper_bound
-  loop_own {leaves} {under} {r} is A u e = record { answers = λ f S C. e ∙ ap (min c) u ∙ least is (A.answers f (part_upper_bound transfer c) S C) }
-    where
-      least : {x : ℕ} → transfer ≡ Loop → leaves ≡ x → min c (min first leaves) ≡ unary_upper_bound transfer c first x
-      least is e = rw (is, e)
 
 -- ------------------------------------------------------------------ what the calls of the caps are asked for
 
-module _ {w : List ℕ} {column : Column} {k c : ℕ} {m : List ℕ} (R : Cappable w column k c m) where
+module _ {w : List ℕ} {column : Column} {k c : ℕ} (R : Cappable w column k c) where
   pub cappable_inside : k < 256
   cappable_inside = omega (arith, R.inside, steps_positive R.flow)
 
-  pub cappable_stored : k < length m
-  cappable_stored = omega (arith, R.long, cappable_inside)
-
-  pub cappable_small : c < 9223372036854775808
-  cappable_small = omega (arith, R.room)
-
-  pub part_cappable : (transfer : UnaryTransfer) → transfer_in w column k ≡ Unary transfer → {part : ℕ} → part ≡ part_upper_bound transfer c → Cappable w column (k + 1) part m
-  part_cappable transfer seen e =
+  pub part_cappable : {transfer : UnaryTransfer} → transfer_in w column k ≡ Unary transfer → {part : ℕ} → part ≡ part_upper_bound transfer c → Cappable w column (k + 1) part
+  part_cappable {transfer} seen e =
       let U = unary_parts w column k transfer R.flow R.shown seen in
       let counted : steps R.flow ≡ steps U.part + 1 = ap steps U.is ∙ unary_steps transfer U.part in
       record {
@@ -115,13 +90,12 @@ module _ {w : List ℕ} {column : Column} {k c : ℕ} {m : List ℕ} (R : Cappab
         inside = omega (arith, R.inside);
         fits = R.fits;
         room = omega (arith, part_upper_bound_room transfer (steps U.part) c (transfer_light w column R.fits k seen) (omega (arith, R.inside)) (omega (arith, R.room)));
-        long = R.long;
       }
 
   -- once the caps of its part stand
-  pub part_looked_at : (transfer : UnaryTransfer) → transfer_in w column k ≡ Unary transfer → {part first : ℕ} {m₁ : List ℕ} → part ≡ part_upper_bound transfer c
+  pub part_looked_at : {transfer : UnaryTransfer} → transfer_in w column k ≡ Unary transfer → {part first : ℕ} {m m₁ : List ℕ} → part ≡ part_upper_bound transfer c
       → Capped w column (k + 1) part m m₁ first → PartBounded w m₁ column k
-  part_looked_at transfer seen {part} e A =
+  part_looked_at {transfer} seen {part} e A =
       let U = unary_parts w column k transfer R.flow R.shown seen in
       let counted : steps R.flow ≡ steps U.part + 1 = ap steps U.is ∙ unary_steps transfer U.part in
       record {
@@ -137,8 +111,8 @@ module _ {w : List ℕ} {column : Column} {k c : ℕ} {m : List ℕ} (R : Cappab
         };
       }
 
-  module _ (transfer : BinaryTransfer) (seen : transfer_in w column k ≡ Binary transfer) {second cap : ℕ} (at : second ≡ end_in w (k + 1)) (e : cap ≡ last_upper_bound transfer c) where
-    pub last_cappable : (k < second) × Cappable w column second cap m
+  module _ {transfer : BinaryTransfer} (seen : transfer_in w column k ≡ Binary transfer) {second cap : ℕ} (at : second ≡ end_in w (k + 1)) (e : cap ≡ last_upper_bound transfer c) where
+    pub last_cappable : (k < second) × Cappable w column second cap
     last_cappable =
         let B = binary_parts w column k transfer R.flow R.shown seen in
         let counted : steps R.flow ≡ steps B.first + steps B.second + 1 = ap steps B.is ∙ binary_steps transfer B.first B.second in
@@ -151,13 +125,12 @@ module _ {w : List ℕ} {column : Column} {k c : ℕ} {m : List ℕ} (R : Cappab
             inside = omega (arith, R.inside);
             fits = R.fits;
             room = omega (arith, room);
-            long = R.long;
           },
         )
 
-    pub first_cappable : {last first : ℕ} {m₁ : List ℕ} → Capped w column second cap m m₁ last → first ≡ first_upper_bound transfer c last → length m₁ ≡ length m
-        → Cappable w column (k + 1) first m₁
-    first_cappable {last} {first} {m₁} A from long =
+    pub first_cappable : {last first : ℕ} {m m₁ : List ℕ} → Capped w column second cap m m₁ last → first ≡ first_upper_bound transfer c last
+        → Cappable w column (k + 1) first
+    first_cappable {last} {first} {m} {m₁} A from =
         let B = binary_parts w column k transfer R.flow R.shown seen in
         let f = B.first in
         let g = B.second in
@@ -176,28 +149,27 @@ module _ {w : List ℕ} {column : Column} {k c : ℕ} {m : List ℕ} (R : Cappab
           inside = omega (arith, R.inside);
           fits = R.fits;
           room = omega (arith, room);
-          long = long ∙ R.long;
         }
 
 -- ------------------------------------------------------------------ the most that a step and its parts may leave
 
-module _ (w : List ℕ) (column : Column) (k c : ℕ) (m : List ℕ) where
-  own_changed : (m₁ : List ℕ) (v : ℕ) (f : Flow) → ChangedWithin k (k + steps f) m m₁ → ChangedWithin k (k + steps f) m (set m₁ k v)
-  own_changed m₁ v f h = changed_then k (k + steps f) h (changed_store k (k + steps f) m₁ k v (omega arith) (omega (arith, steps_positive f)))
+own_changed : {m : List ℕ} (k : ℕ) (m₁ : List ℕ) (v : ℕ) (f : Flow) → ChangedWithin k (k + steps f) m m₁ → ChangedWithin k (k + steps f) m (set m₁ k v)
+own_changed k m₁ v f h = changed_then k (k + steps f) h (changed_store k (k + steps f) m₁ k v (omega arith) (omega (arith, steps_positive f)))
 
-  pub leaf_capped : (E : Effect) → transfer_in w column k ≡ Leaf E → {r : ℕ} → k < length m → r ≡ back E c → Capped w column k c m (set m k c) r
+module _ {w : List ℕ} {column : Column} {k c : ℕ} {m : List ℕ} where
+  pub leaf_capped : {E : Effect} → transfer_in w column k ≡ Leaf E → {r : ℕ} → k < length m → r ≡ back E c → Capped w column k c m (set m k c) r
   unfolding ceiling upper_bounds_of
-  leaf_capped E seen l e = record {
+  leaf_capped {E} seen l e = record {
     answers = λ f S.
         let is = leaf_parts w column k E f S seen in
         (e ∙ ap (ceiling top c) (sym is), rw is (region_front m [] k c l (region_empty m (k + 1) (omega arith))));
     changed = λ f S. changed_store k (k + steps f) m k c (omega arith) (omega (arith, steps_positive f));
   }
 
-  pub unary_capped : (transfer : UnaryTransfer) → transfer_in w column k ≡ Unary transfer → {part first own r : ℕ} {m₁ : List ℕ} → part ≡ part_upper_bound transfer c
+  pub unary_capped : {transfer : UnaryTransfer} → transfer_in w column k ≡ Unary transfer → {part first own r : ℕ} {m₁ : List ℕ} → part ≡ part_upper_bound transfer c
       → Capped w column (k + 1) part m m₁ first → OwnUpperBound w m₁ column k transfer c first own → k < length m₁ → r ≡ unary_ceiling transfer first
       → Capped w column k c m (set m₁ k own) r
-  unary_capped transfer seen {part} {first} {own} {r} {m₁} at A O l e = record { answers = answers; changed = changed }
+  unary_capped {transfer} seen {part} {first} {own} {r} {m₁} at A O l e = record { answers = answers; changed = changed }
     where
       B : Capped w column (k + 1) (part_upper_bound transfer c) m m₁ first
       B = rw at at A
@@ -216,12 +188,12 @@ module _ (w : List ℕ) (column : Column) (k c : ℕ) (m : List ℕ) where
       changed f S =
           let U = unary_parts w column k transfer f S seen in
           let counted : steps f ≡ steps U.part + 1 = ap steps U.is ∙ unary_steps transfer U.part in
-          own_changed m₁ own f (changed_wider k (k + steps f) (omega arith) (omega arith) (B.changed U.part U.shown))
+          own_changed k m₁ own f (changed_wider k (k + steps f) (omega arith) (omega arith) (B.changed U.part U.shown))
 
-  pub binary_capped : (transfer : BinaryTransfer) → transfer_in w column k ≡ Binary transfer → {second cap last part first r : ℕ} {m₁ m₂ : List ℕ} → second ≡ end_in w (k + 1)
+  pub binary_capped : {transfer : BinaryTransfer} → transfer_in w column k ≡ Binary transfer → {second cap last part first r : ℕ} {m₁ m₂ : List ℕ} → second ≡ end_in w (k + 1)
       → cap ≡ last_upper_bound transfer c → Capped w column second cap m m₁ last → part ≡ first_upper_bound transfer c last → Capped w column (k + 1) part m₁ m₂ first
       → k < length m₂ → r ≡ binary_ceiling transfer first last → Capped w column k c m (set m₂ k c) r
-  binary_capped transfer seen {second} {cap} {last} {part} {first} {r} {m₁} {m₂} at from A by D l e = record { answers = answers; changed = changed }
+  binary_capped {transfer} seen {second} {cap} {last} {part} {first} {r} {m₁} {m₂} at from A by D l e = record { answers = answers; changed = changed }
     where
       answers : (f : Flow) → Shows w column k f → (r ≡ ceiling top c f) × Region (set m₂ k c) k (upper_bounds_of c f)
       answers f S =
@@ -246,6 +218,6 @@ module _ (w : List ℕ) (column : Column) (k c : ℕ) (m : List ℕ) where
           let counted : steps f ≡ steps B.first + steps B.second + 1 = ap steps B.is ∙ binary_steps transfer B.first B.second in
           let place : second ≡ k + 1 + steps B.first = at ∙ B.ends in
           let A' : Capped w column (k + 1 + steps B.first) cap m m₁ last = rw place at A in
-          own_changed m₂ c f (changed_then k (k + steps f)
+          own_changed k m₂ c f (changed_then k (k + steps f)
           (changed_wider k (k + steps f) (omega arith) (omega arith) (A'.changed B.second B.behind))
           (changed_wider k (k + steps f) (omega arith) (omega arith) (D.changed B.first B.shown)))

@@ -60,10 +60,10 @@ module _ (w : List ℕ) (column : Column) (given : Given) {P : Program} {S : Spl
       shown_from 0 0 P.procedures P.root (program_here H.sheets) (omega arith)
       (omega (arith, steps_sized P H.sheets.well_formed, H.sheets.in_range.rows_counted))
 
-pub fillable_ready : (w : List ℕ) (column : Column) (given : Given) (q : List ℕ) → ColumnReady w column given q → ((i : ℕ) → get_or w i 0 < 4294967296)
-    → RootsReady w column given 0 q
+pub fillable_ready : (w : List ℕ) (column : Column) (given : Given) → ColumnReady w column given → ((i : ℕ) → get_or w i 0 < 4294967296)
+    → RootsReady w column given 0
 unfolding roots_of
-fillable_ready w column given q F fits =
+fillable_ready w column given F fits =
     let (begins, shown) = roots_shown w column given F.held in
     let sheets = F.held.sheets in
     record {
@@ -78,7 +78,6 @@ fillable_ready w column given q F fits =
       );
       fits = fits;
       few = omega (arith, procedures_few F.P sheets.well_formed, sheets.procedures_counted);
-      long = F.long;
     }
 
 pub roots_filled : (w : List ℕ) (column : Column) (given : Given) {q q' : List ℕ} {r : Bool} → RootsFilled w column given 0 q q' r → FilledHere w column given q' r

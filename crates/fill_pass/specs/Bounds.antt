@@ -1,5 +1,5 @@
 -- The most that each post may be, and what the code of the bounds asks and promises.
-use Rattle.std.specs.Prelude.{◌≡◌, List, [], ◌∷◌, ◌++◌, ℕ, ◌+◌, ◌*◌, ◌≤◌, ◌<◌, min, length, get_or}
+use Rattle.std.specs.Prelude.{◌≡◌, List, [], ◌∷◌, ◌++◌, ℕ, ◌+◌, ◌*◌, ◌≤◌, ◌<◌, min, get_or}
 use Rattle.workspace.specs.Region.{Region, ChangedWithin}
 use Rattle.fill_theory.specs.Flow.{taking, Flow, alone, after, in_turn, branch, loop, fork, call, steps}
 use Rattle.fill_theory.specs.Pass.{back, ceiling, attainable}
@@ -50,14 +50,13 @@ pub record OwnUpperBound (w m : List ℕ) (column : Column) (k : ℕ) (transfer 
   pub answers : (f : Flow) → Shows w column (k + 1) f → Region m (k + 1) (upper_bounds_of (part_upper_bound transfer c) f)
       → r ≡ unary_upper_bound transfer c first (attainable top top (part_upper_bound transfer c) f)
 
--- from step k on the work space shows a flow of steps that there are, and there is room for their caps
-pub record Cappable (w : List ℕ) (column : Column) (k c : ℕ) (m : List ℕ) : Type 0 where
+-- from step k on the work space shows a flow of steps that there are
+pub record Cappable (w : List ℕ) (column : Column) (k c : ℕ) : Type 0 where
   pub flow : Flow
   pub shown : Shows w column k flow
   pub inside : k + steps flow ≤ 256
   pub fits : (i : ℕ) → get_or w i 0 < 4294967296
   pub room : Room (steps flow) c
-  pub long : length m ≡ 256
 
 -- from the caps m to m': whichever flow is shown, its caps, with its ceiling as the answer
 pub record Capped (w : List ℕ) (column : Column) (k c : ℕ) (m m' : List ℕ) (r : ℕ) : Type 0 where

@@ -1,5 +1,5 @@
 -- What `fill_location` asks and promises of the sheets that the work space holds.
-use Rattle.std.specs.Prelude.{◌≡◌, Bool, List, ℕ, ◌<◌, length}
+use Rattle.std.specs.Prelude.{Bool, List, ℕ, ◌<◌}
 use Rattle.spec.specs.Program.{Program}
 use Rattle.spec.specs.Split.{Split}
 use Rattle.workspace.specs.Sheets.{HoldsSheets}
@@ -15,12 +15,11 @@ pub record HoldsColumn (w : List ℕ) (column : Column) (given : Given) (P : Pro
   pub sheets : HoldsSheets w steps given.procedures column.denominator locations given.start.0 P S
   pub within : column.location.0 < locations
 
--- some sheets are held, and there is room for the posts
-pub record ColumnReady (w : List ℕ) (column : Column) (given : Given) (q : List ℕ) : Type 0 where
+-- some sheets are held
+pub record ColumnReady (w : List ℕ) (column : Column) (given : Given) : Type 0 where
   pub P : Program
   pub S : Split
   pub held : HoldsColumn w column given P S
-  pub long : length q ≡ 256
 
 -- whichever sheets are held, the posts at the location
 pub record FilledHere (w : List ℕ) (column : Column) (given : Given) (q : List ℕ) (r : Bool) : Type 0 where

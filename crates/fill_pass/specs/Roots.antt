@@ -1,6 +1,6 @@
 -- The roots that the work space shows at a location, procedures' bodies and the root of the program, and what filling them asks and
 -- promises.
-use Rattle.std.specs.Prelude.{◌≡◌, Bool, true, false, List, [], ◌∷◌, ℕ, ◌+◌, ◌≤◌, ◌<◌, length, get_or, Option, None, Some}
+use Rattle.std.specs.Prelude.{◌≡◌, Bool, true, false, List, [], ◌∷◌, ℕ, ◌+◌, ◌≤◌, ◌<◌, get_or, Option, None, Some}
 use Rattle.workspace.specs.Layout.{proc_firsts_at}
 use Rattle.workspace.specs.Region.{Region, ChangedWithin}
 use Rattle.fill_theory.specs.Flow.{Flow, steps, Root, steps_of}
@@ -27,14 +27,13 @@ abbrev pub Stored : Option (List ℕ) → (k : ℕ) → (q : List ℕ) → Bool 
 Stored None k q r = r ≡ false
 Stored (Some ps) k q r = (r ≡ true) × Region q k ps
 
--- some roots are shown, of steps that there are, and there is room for their posts
-pub record RootsReady (w : List ℕ) (column : Column) (given : Given) (f : ℕ) (q : List ℕ) : Type 0 where
+-- some roots are shown, of steps that there are
+pub record RootsReady (w : List ℕ) (column : Column) (given : Given) (f : ℕ) : Type 0 where
   pub shown_roots : List Root
   pub shown : RootsShown w column given f shown_roots
   pub inside : first_in w f + steps_of shown_roots ≤ 256
   pub fits : (i : ℕ) → get_or w i 0 < 4294967296
   pub few : given.procedures ≤ 16
-  pub long : length q ≡ 256
 
 -- from the posts q to q': whichever roots are shown, their greatest posts
 pub record RootsFilled (w : List ℕ) (column : Column) (given : Given) (f : ℕ) (q q' : List ℕ) (r : Bool) : Type 0 where

@@ -1,30 +1,21 @@
 // The most that the post of each step may be: parts behind a step are looked at before it, so that it calls itself for the second part
 // first.
-ghost use Rattle.std.specs.Prelude.{◌≡◌, ◌<◌, length, get_or};
 ghost use Rattle.fill_pass.specs.Bounds.{PartBounded, OwnUpperBound, Cappable, Capped};
 
 use super::attainable::attainable_step;
 use super::posts::second_in;
 use fill_theory::{Transfer, UnaryTransfer};
 use fill_transfer::steps::bounds::{
-    TOP, back, binary_ceiling, first_upper_bound, last_upper_bound, least, part_upper_bound,
-    unary_ceiling,
+    TOP, back, binary_ceiling, first_upper_bound, last_upper_bound, part_upper_bound, unary_ceiling,
 };
 use fill_transfer::{Column, transfer_in};
 
-// The most that step k may leave.
-pub(crate) fn upper_bound_at(caps: &[u64], k: usize) -> u64
-    requires { k < length caps.now }
-    ensures { result ≡ get_or caps.now k 0 }
-{
-    caps[k]
-}
-
 // The most that step k may leave, if it is to leave at most c and its part may start with at most `first`: a loop leaves no more than
 // that, and no more than its part can leave.
+#[tactic(auto, unfolding(fill_transfer::specs::Bounds::unary_upper_bound, fill_transfer::specs::Bounds::top))]
 fn own_upper_bound(
     work: &[u32],
-    caps: &[u64],
+    caps: &[u64; 256],
     column: Column,
     k: usize,
     transfer: UnaryTransfer,
@@ -35,25 +26,22 @@ fn own_upper_bound(
     ensures { OwnUpperBound work.now caps.now column k transfer c first result }
 {
     match transfer {
-        UnaryTransfer::After(_) => c,
-        UnaryTransfer::Loop => least(
-            c,
-            least(first, attainable_step(work, caps, column, k + 1, TOP)),
-        ),
-        UnaryTransfer::Call(_, _) => c,
+        UnaryTransfer::Loop => c.min(first.min(attainable_step(work, caps, column, k + 1, TOP))),
+        UnaryTransfer::After(_) | UnaryTransfer::Call(_, _) => c,
     }
 }
 
 // Stores the most that step k and all steps in it may leave, if step k is to leave at most c; the answer is the most that it may start
 // with.
+#[tactic(auto, using(fill_theory::proofs::Pass::steps_positive))]
 pub(crate) fn upper_bound_step(
     work: &[u32],
-    caps: &mut [u64],
+    caps: &mut [u64; 256],
     column: Column,
     k: usize,
     c: u64,
 ) -> u64
-    requires { Cappable work.now column k c caps.old }
+    requires { Cappable work.now column k c }
     ensures { Capped work.now column k c caps.old caps.new result }
 {
     match transfer_in(work, column, k) {
@@ -63,20 +51,14 @@ pub(crate) fn upper_bound_step(
         }
         Transfer::Unary(transfer) => {
             let first = upper_bound_step(work, caps, column, k + 1, part_upper_bound(transfer, c));
-            let own = own_upper_bound(work, caps, column, k, transfer, c, first);
-            caps[k] = own;
+            caps[k] = own_upper_bound(work, caps, column, k, transfer, c, first);
             unary_ceiling(transfer, first)
         }
         Transfer::Binary(transfer) => {
             let second = second_in(work, k);
             let last = upper_bound_step(work, caps, column, second, last_upper_bound(transfer, c));
-            let first = upper_bound_step(
-                work,
-                caps,
-                column,
-                k + 1,
-                first_upper_bound(transfer, c, last),
-            );
+            let under = first_upper_bound(transfer, c, last);
+            let first = upper_bound_step(work, caps, column, k + 1, under);
             caps[k] = c;
             binary_ceiling(transfer, first, last)
         }

@@ -4,7 +4,7 @@
 
 // What a step does to the number at one location once its parts are done: it takes some, it gives some, so much must be there
 // afterwards, and what it lends in all may be no more than what it takes.
-#[derive(Clone, Copy)]
+#[derive(Clone, Copy, PartialEq, Eq)]
 pub struct Effect {
     pub takes: u32,
     pub gives: u32,
@@ -13,7 +13,7 @@ pub struct Effect {
 }
 
 // The transfer function of a step, by the number of its parts.
-#[derive(Drop)]
+#[derive(Clone, Copy, PartialEq, Eq)]
 pub enum Transfer {
     Leaf(Effect),
     Unary(UnaryTransfer),
@@ -21,7 +21,7 @@ pub enum Transfer {
 }
 
 // With one part: after it; around it, again and again; or with exact numbers before and after the procedure that the step calls.
-#[derive(Clone, Copy)]
+#[derive(Clone, Copy, PartialEq, Eq)]
 pub enum UnaryTransfer {
     After(Effect),
     Loop,
@@ -30,7 +30,7 @@ pub enum UnaryTransfer {
 
 // With two parts: after both, the second after the first; through one or the other; or to both at once. A fork has the start of its
 // second part and what that must leave.
-#[derive(Clone, Copy)]
+#[derive(Clone, Copy, PartialEq, Eq)]
 pub enum BinaryTransfer {
     InTurn(Effect),
     Branch,

@@ -1,5 +1,4 @@
 pub mod AfterParts
-pub mod Accesses
-pub mod Calling
 pub mod Held
 pub mod Light
+pub mod Row

@@ -1,5 +1,5 @@
 -- The number after a step, by its transfer function, from those that its parts leave.
-use Rattle.std.specs.Prelude.{ℕ, min, leb, eqb, Option, None, Some}
+use Rattle.std.specs.Prelude.{ℕ, min, leb, eqb, Option, Some}
 use Rattle.fill_theory.specs.Found.{◌>>=◌, require}
 use Rattle.fill_theory.specs.Flow.{taking}
 use Rattle.fill_theory.specs.Pass.{apply}
@@ -7,12 +7,6 @@ use Rattle.fill_theory.specs.declared.UnaryTransfer.{UnaryTransfer}
 use Rattle.fill_theory.specs.declared.UnaryTransfer.TheVariants.{After, Loop, Call}
 use Rattle.fill_theory.specs.declared.BinaryTransfer.{BinaryTransfer}
 use Rattle.fill_theory.specs.declared.BinaryTransfer.TheVariants.{InTurn, Branch, Fork}
-use Rattle.fill_transfer.specs.declared.steps.Found.{Found}
-use Rattle.fill_transfer.specs.declared.steps.Found.TheVariants.{Number, Nothing}
-
-abbrev pub as_found : Option ℕ → Found
-as_found None = Nothing
-as_found (Some p) = Number p
 
 -- ------------------------------------------------------------------ a step after its parts
 

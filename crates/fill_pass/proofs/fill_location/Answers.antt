@@ -5,7 +5,7 @@ use Rattle.fill_pass.proofs.fill_location.Goals as goal
 
 pub fill_roots-requires : goal.fill_roots-requires
 fill_roots-requires c =
-    fillable_ready _ _ _ _ c.requires (λ i. omega (arith, c.type_inv.work i))
+    fillable_ready _ _ _ c.requires (λ i. omega (arith, c.type_inv.work i))
 
 pub returns : goal.returns
 returns c = roots_filled _ _ _ c.fill_roots.ensures

@@ -1,24 +1,12 @@
--- A row for each transfer function; a call tests for the exact number.
+-- A loop and a call test what their part leaves.
 use Rattle.fill_transfer.specs.AfterSteps.{after_unary}
-use Rattle.fill_transfer.proofs.AfterParts.{loop_kept, loop_lost, call_exact, call_missed}
+use Rattle.fill_transfer.proofs.AfterParts.{if_met}
 use Rattle.fill_transfer.proofs.steps.after_unary.Goals as goal
 
-pub returns-then-before-first : goal.returns-then-before-first
+pub returns-in-Loop : goal.returns-in-Loop
 unfolding after_unary
-returns-then-before-first c = loop_kept _ _ _ c.in-Loop.is c.if-before-first.true
+returns-in-Loop c = rw (c.in-Loop.is, c.then_some.ensures) (if_met _ _)
 
-pub returns-then-first-wanted : goal.returns-then-first-wanted
+pub returns-in-Call : goal.returns-in-Call
 unfolding after_unary
-returns-then-first-wanted c = call_exact _ _ _ c.in-Call.is c.if-first-wanted.true
-
-pub returns-in-After : goal.returns-in-After
-unfolding after_unary
-returns-in-After c = rw c.in-After.is c.apply.ensures
-
-pub returns-else-before-first : goal.returns-else-before-first
-unfolding after_unary
-returns-else-before-first c = loop_lost _ _ _ c.in-Loop.is c.if-before-first.false
-
-pub returns-else-first-wanted : goal.returns-else-first-wanted
-unfolding after_unary
-returns-else-first-wanted c = call_missed _ _ _ c.in-Call.is c.if-first-wanted.false
+returns-in-Call c = rw (c.in-Call.is, c.then_some-in-Call.ensures) (if_met _ _)
