@@ -10,7 +10,7 @@ use lib.ListN.{length, set, drop, length-set, length-append}
 use lib.Seq.{sets, sets-eq, set_out, set_comm}
 use borrow.Author.Tests.{leb-true, leb-false}
 use Rattle.writer.specs.declared.Writer.{Writer}
-use Rattle.writer.specs.Buffer.{overwrite, counted, Writes}
+use Rattle.writer.specs.Buffer.{overwrite, counted, WrittenAt, Writes}
 
 infixr 5 ◌then◌
 -- ------------------------------------------------------------------ a buffer that bytes are put into
@@ -61,30 +61,36 @@ overwrite_counted d at s h = either (leb at 18446744073709551615) refl
 
 module _ {a b : Writer} where
   -- the same text, said in another way
-  pub said : {s t : List ℕ} → s ≡ t → Writes a b s → Writes a b t
-  said e = subst (Writes a b) e
+  pub said : {s t : List ℕ} → t ≡ s → Writes a b s → Writes a b t
+  said e = subst (Writes a b) (sym e)
 
   -- a text, and one behind it
   pub ◌then◌ : {c : Writer} {s t : List ℕ} → Writes a b s → Writes b c t → Writes a c (s ++ t)
-  ◌then◌ {c} {s} {t} w v =
-      let d = a.buffer.now in
-      let l = length-append s t in
-      record {
-        same = v.same ∙ w.same;
-        short = w.short;
-        written = record {
-          holds =
-              v.written.holds
-              ∙ rw (w.written.holds, w.written.moved)
-              (overwrite_counted (overwrite d a.at s) (a.at + length s) t (rw overwrite_length w.short) ∙ sym (overwrite_append d a.at s t));
-          moved = omega (arith, w.written.moved, v.written.moved);
+  ◌then◌ {c} {s} {t} w v = record {
+    same = v.same ∙ w.same;
+    written = λ f.
+        let d = a.buffer.now in
+        let first = w.written f in
+        let long : length (overwrite d a.at s) < 18446744073709551616 = rw overwrite_length f.length_fits in
+        let second = v.written (record { length_fits = rw first.holds long; place_fits = omega (arith, first.moved) }) in
+        let l = length-append s t in
+        record {
+          holds = second.holds ∙ rw (first.holds, first.moved) (overwrite_counted (overwrite d a.at s) (a.at + length s) t long ∙ sym (overwrite_append d a.at s t));
+          moved = omega (arith, first.moved, second.moved);
         };
-      }
+  }
 
 -- no text
-pub nothing : (a : Writer) → length a.buffer.now < 18446744073709551616 → a.at < 18446744073709551616 → Writes a a []
+pub nothing : {a : Writer} → Writes a a []
 unfolding overwrite
-nothing a h k = record { same = refl; short = h; written = record { holds = refl; moved = omega arith } }
+nothing = record { same = refl; written = λ f. record { holds = refl; moved = omega (arith, f.place_fits) } }
+
+-- a text at the front of a buffer
+pub at_front : {a b : Writer} {d d' s : List ℕ} {n : ℕ} → a.buffer.now ≡ d → a.at ≡ 0 → length d < 18446744073709551616
+    → Writes a b s → d' ≡ b.buffer.now → n ≡ b.at → WrittenAt d d' 0 s n
+at_front {b = b} {s = s} e k h w left m =
+    let whole = w.written (record { length_fits = rw e h; place_fits = omega arith }) in
+    record { holds = left ∙ rw (e, k) at whole.holds; moved = m ∙ rw k at whole.moved }
 
 -- ------------------------------------------------------------------ part by part
 
@@ -98,4 +104,4 @@ all_remains = record { finish = λ w. w }
 
 -- a part is written
 pub onward : {a b c : Writer} {whole rest s t : List ℕ} → rest ≡ s ++ t → Remains a b whole rest → Writes b c s → Remains a c whole t
-onward e r w = record { finish = λ v. r.finish (said (sym e) (w then v)) }
+onward e r w = record { finish = λ v. r.finish (said e (w then v)) }
