@@ -105,3 +105,7 @@ all_remains = record { finish = λ w. w }
 -- a part is written
 pub onward : {a b c : Writer} {whole rest s t : List ℕ} → rest ≡ s ++ t → Remains a b whole rest → Writes b c s → Remains a c whole t
 onward e r w = record { finish = λ v. r.finish (said e (w then v)) }
+
+-- nothing remains
+pub done : {a b : Writer} {whole rest : List ℕ} → rest ≡ [] → Remains a b whole rest → Writes a b whole
+done e r = r.finish (said e nothing)
