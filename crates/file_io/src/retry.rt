@@ -12,11 +12,10 @@ const TRIES: u32 = 1_000_000;
 // Whether a call that failed is not to be made again: it failed for good. A signal that interrupted it passes, and so does a full pipe
 // that is set not to wait.
 fn is_over(error: &Error) -> bool {
-    match error.kind() {
-        ErrorKind::Interrupted => false,
-        ErrorKind::WouldBlock => false,
-        _ => true,
-    }
+    !matches!(
+        error.kind(),
+        ErrorKind::Interrupted | ErrorKind::WouldBlock
+    )
 }
 
 // Opens a file as it is asked, and hands it back, or why it can't be opened.
@@ -108,13 +107,10 @@ pub fn write_all<W: Write>(out: &mut W, bytes: &[u8]) -> usize
 {
     let mut n: usize = 0;
     while n < bytes.len() {
-        let Some(more) = write(out, &bytes[n..]) else {
-            return n;
-        };
-        if more == 0 {
-            return n;
+        match write(out, &bytes[n..]) {
+            None | Some(0) => return n,
+            Some(more) => n += more,
         }
-        n += more;
     }
     n
 }
