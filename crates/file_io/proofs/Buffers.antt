@@ -1,6 +1,6 @@
 -- The bytes of a file that was read, and of a line that was written, are a part of their buffer.
 use Rattle.std.proofs.Common.{Option, Some}
-use mathlib.Core.Path.{◌≡◌, sym, ap, subst, ◌∙◌}
+use mathlib.Core.Path.{◌≡◌, sym, ap, ◌∙◌}
 use mathlib.Core.List.{List, ◌++◌}
 use Prim.Native.Nat.{ℕ, ◌≤◌, ◌<◌}
 use native.Mathlib.Omega.{arith}
