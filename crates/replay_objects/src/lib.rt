@@ -28,7 +28,7 @@ const RWLOCK: u32 = 5;
 const RWLOCK_WRITTEN: u32 = 6;
 
 // What a name names: its kind, and two numbers of it.
-#[derive(Drop)]
+#[derive(Clone, Copy, PartialEq, Eq)]
 pub struct Slot {
     pub kind: u32,
     pub first: u32,
@@ -37,7 +37,7 @@ pub struct Slot {
 
 // The word becomes a value; or it becomes 0 and leaves this where it was; or it becomes the name of a new thing; or it spawns, or
 // joins, a thread with that identifier; or it cannot step.
-#[derive(Drop)]
+#[derive(Clone, Copy, PartialEq, Eq)]
 pub enum StepEffect {
     Returns(u32),
     Updates(Slot),
@@ -47,224 +47,202 @@ pub enum StepEffect {
     Stuck,
 }
 
-const LARGEST: u32 = 4294967295;
-
 // A new thing of that kind.
+#[tactic(auto, unfolding(crate::specs::Uses::made_of))]
 fn made(kind: u32, first: u32) -> StepEffect
     ensures { result ≡ made_of kind first }
 {
-    let next = Slot {
+    StepEffect::Makes(Slot {
         kind,
         first,
         second: 0,
-    };
-    StepEffect::Makes(next)
+    })
 }
 
+#[tactic(auto, unfolding(crate::specs::Uses::spawned_of))]
 fn spawned(x: Slot) -> StepEffect
     ensures { result ≡ spawned_of x }
 {
     if x.kind == IDENTIFIER {
-        return StepEffect::Spawns;
+        StepEffect::Spawns
+    } else {
+        StepEffect::Stuck
     }
-    StepEffect::Stuck
 }
 
+#[tactic(auto, unfolding(crate::specs::Uses::joined_of))]
 fn joined(x: Slot) -> StepEffect
     ensures { result ≡ joined_of x }
 {
     if x.kind == IDENTIFIER {
-        return StepEffect::Joins;
+        StepEffect::Joins
+    } else {
+        StepEffect::Stuck
     }
-    StepEffect::Stuck
 }
 
+#[tactic(auto, unfolding(crate::specs::Uses::read_of))]
 fn read(x: Slot) -> StepEffect
     ensures { result ≡ read_of x }
 {
     if x.kind == CELL {
-        return StepEffect::Returns(x.first);
+        StepEffect::Returns(x.first)
+    } else {
+        StepEffect::Stuck
     }
-    StepEffect::Stuck
 }
 
+#[tactic(auto, unfolding(crate::specs::Uses::written_of))]
 fn written(x: Slot, v: u32) -> StepEffect
     ensures { result ≡ written_of x v }
 {
     if x.kind == CELL {
-        let next = Slot {
+        StepEffect::Updates(Slot {
             kind: CELL,
             first: v,
             second: 0,
-        };
-        return StepEffect::Updates(next);
+        })
+    } else {
+        StepEffect::Stuck
     }
-    StepEffect::Stuck
 }
 
+#[tactic(auto, unfolding(crate::specs::Uses::locked_of))]
 fn locked(x: Slot) -> StepEffect
     ensures { result ≡ locked_of x }
 {
-    if x.kind == LOCK {
-        if x.first == 0 {
-            let next = Slot {
-                kind: LOCK,
-                first: 1,
-                second: 0,
-            };
-            return StepEffect::Updates(next);
-        }
+    if x.kind == LOCK && x.first == 0 {
+        StepEffect::Updates(Slot {
+            kind: LOCK,
+            first: 1,
+            second: 0,
+        })
+    } else {
+        StepEffect::Stuck
     }
-    StepEffect::Stuck
 }
 
 // An open lock stays open.
+#[tactic(auto, unfolding(crate::specs::Uses::unlocked_of))]
 fn unlocked(x: Slot) -> StepEffect
     ensures { result ≡ unlocked_of x }
 {
     if x.kind == LOCK {
-        let next = Slot {
+        StepEffect::Updates(Slot {
             kind: LOCK,
             first: 0,
             second: 0,
-        };
-        return StepEffect::Updates(next);
+        })
+    } else {
+        StepEffect::Stuck
     }
-    StepEffect::Stuck
 }
 
 // A count of all ones is never reached: it would take as many lines.
+#[tactic(auto, unfolding(crate::specs::Uses::posted_of))]
 fn posted(x: Slot) -> StepEffect
     ensures { result ≡ posted_of x }
 {
-    let low = x.first;
-    let high = x.second;
-    if x.kind == SEMAPHORE {
-        if low < LARGEST {
-            let next = Slot {
-                kind: SEMAPHORE,
-                first: low + 1,
-                second: high,
-            };
-            return StepEffect::Updates(next);
-        }
-        if high < LARGEST {
-            let next = Slot {
-                kind: SEMAPHORE,
-                first: 0,
-                second: high + 1,
-            };
-            return StepEffect::Updates(next);
-        }
+    if x.kind == SEMAPHORE && x.first < u32::MAX {
+        StepEffect::Updates(Slot {
+            first: x.first + 1,
+            ..x
+        })
+    } else if x.kind == SEMAPHORE && x.second < u32::MAX {
+        StepEffect::Updates(Slot {
+            first: 0,
+            second: x.second + 1,
+            ..x
+        })
+    } else {
+        StepEffect::Stuck
     }
-    StepEffect::Stuck
 }
 
+#[tactic(auto, unfolding(crate::specs::Uses::waited_of))]
 fn waited(x: Slot) -> StepEffect
     ensures { result ≡ waited_of x }
 {
-    let low = x.first;
-    let high = x.second;
-    if x.kind == SEMAPHORE {
-        if 0 < low {
-            let next = Slot {
-                kind: SEMAPHORE,
-                first: low - 1,
-                second: high,
-            };
-            return StepEffect::Updates(next);
-        }
-        if 0 < high {
-            let next = Slot {
-                kind: SEMAPHORE,
-                first: LARGEST,
-                second: high - 1,
-            };
-            return StepEffect::Updates(next);
-        }
+    if x.kind == SEMAPHORE && 0 < x.first {
+        StepEffect::Updates(Slot {
+            first: x.first - 1,
+            ..x
+        })
+    } else if x.kind == SEMAPHORE && 0 < x.second {
+        StepEffect::Updates(Slot {
+            first: u32::MAX,
+            second: x.second - 1,
+            ..x
+        })
+    } else {
+        StepEffect::Stuck
     }
-    StepEffect::Stuck
 }
 
+#[tactic(auto, unfolding(crate::specs::Uses::rdlocked_of))]
 fn rdlocked(x: Slot) -> StepEffect
     ensures { result ≡ rdlocked_of x }
 {
-    let places = x.first;
-    let readers = x.second;
-    if x.kind == RWLOCK {
-        if readers < places {
-            let next = Slot {
-                kind: RWLOCK,
-                first: places,
-                second: readers + 1,
-            };
-            return StepEffect::Updates(next);
-        }
+    if x.kind == RWLOCK && x.second < x.first {
+        StepEffect::Updates(Slot {
+            second: x.second + 1,
+            ..x
+        })
+    } else {
+        StepEffect::Stuck
     }
-    StepEffect::Stuck
 }
 
+#[tactic(auto, unfolding(crate::specs::Uses::rdunlocked_of))]
 fn rdunlocked(x: Slot) -> StepEffect
     ensures { result ≡ rdunlocked_of x }
 {
-    let places = x.first;
-    let readers = x.second;
-    if x.kind == RWLOCK {
-        if 0 < readers {
-            let next = Slot {
-                kind: RWLOCK,
-                first: places,
-                second: readers - 1,
-            };
-            return StepEffect::Updates(next);
-        }
+    if x.kind == RWLOCK && 0 < x.second {
+        StepEffect::Updates(Slot {
+            second: x.second - 1,
+            ..x
+        })
+    } else {
+        StepEffect::Stuck
     }
-    StepEffect::Stuck
 }
 
+#[tactic(auto, unfolding(crate::specs::Uses::wrlocked_of))]
 fn wrlocked(x: Slot) -> StepEffect
     ensures { result ≡ wrlocked_of x }
 {
-    let places = x.first;
-    if x.kind == RWLOCK {
-        if x.second == 0 {
-            let next = Slot {
-                kind: RWLOCK_WRITTEN,
-                first: places,
-                second: 0,
-            };
-            return StepEffect::Updates(next);
-        }
+    if x.kind == RWLOCK && x.second == 0 {
+        StepEffect::Updates(Slot {
+            kind: RWLOCK_WRITTEN,
+            ..x
+        })
+    } else {
+        StepEffect::Stuck
     }
-    StepEffect::Stuck
 }
 
+#[tactic(auto, unfolding(crate::specs::Uses::wrunlocked_of))]
 fn wrunlocked(x: Slot) -> StepEffect
     ensures { result ≡ wrunlocked_of x }
 {
-    let places = x.first;
     if x.kind == RWLOCK_WRITTEN {
-        let next = Slot {
+        StepEffect::Updates(Slot {
             kind: RWLOCK,
-            first: places,
             second: 0,
-        };
-        return StepEffect::Updates(next);
+            ..x
+        })
+    } else {
+        StepEffect::Stuck
     }
-    StepEffect::Stuck
 }
 
 // The word of that rule: x is what it is about, v the value that it stores, or the reading places of a new read-write lock. The words
 // of a thread alone use nothing.
+#[tactic(auto, unfolding(crate::specs::Uses::effect_of))]
 pub fn effect_of(r: Rule, x: Slot, v: u32) -> StepEffect
     ensures { result ≡ effect_of r x v }
 {
     match r {
-        Rule::VAR => StepEffect::Stuck,
-        Rule::INT => StepEffect::Stuck,
-        Rule::LET => StepEffect::Stuck,
-        Rule::IF => StepEffect::Stuck,
-        Rule::WHILE => StepEffect::Stuck,
         Rule::NEWT => made(IDENTIFIER, 0),
         Rule::SPAWN => spawned(x),
         Rule::JOIN => joined(x),
@@ -282,6 +260,8 @@ pub fn effect_of(r: Rule, x: Slot, v: u32) -> StepEffect
         Rule::RDUNLOCK => rdunlocked(x),
         Rule::WRLOCK => wrlocked(x),
         Rule::WRUNLOCK => wrunlocked(x),
-        Rule::CALL => StepEffect::Stuck,
+        Rule::VAR | Rule::INT | Rule::LET | Rule::IF | Rule::WHILE | Rule::CALL => {
+            StepEffect::Stuck
+        }
     }
 }
