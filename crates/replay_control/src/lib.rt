@@ -17,7 +17,7 @@ use layout::{
 use workspace::{Shape, at, index, rule_of, shape_of};
 
 // Where a thread is, while its next word is looked for and once it is found; its variables stand in that row.
-#[derive(Clone, Copy)]
+#[derive(Clone, Copy, PartialEq, Eq)]
 pub struct ControlPoint {
     pub mode: u32,
     pub at: u32,

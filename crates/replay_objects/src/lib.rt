@@ -36,7 +36,7 @@ pub struct Slot {
 }
 
 // The word becomes a value; or it becomes 0 and leaves this where it was; or it becomes the name of a new thing; or it spawns, or
-// joins, a thread with that identifier; or it cannot step.
+// joins, a thread with that identifier.
 #[derive(Clone, Copy, PartialEq, Eq)]
 pub enum StepEffect {
     Returns(u32),
@@ -44,7 +44,6 @@ pub enum StepEffect {
     Makes(Slot),
     Spawns,
     Joins,
-    Stuck,
 }
 
 // A new thing of that kind.
@@ -60,208 +59,194 @@ fn made(kind: u32, first: u32) -> StepEffect
 }
 
 #[tactic(auto, unfolding(crate::specs::Uses::spawned_of))]
-fn spawned(x: Slot) -> StepEffect
+fn spawned(x: Slot) -> Option<StepEffect>
     ensures { result ≡ spawned_of x }
 {
-    if x.kind == IDENTIFIER {
-        StepEffect::Spawns
-    } else {
-        StepEffect::Stuck
-    }
+    (x.kind == IDENTIFIER).then_some(StepEffect::Spawns)
 }
 
 #[tactic(auto, unfolding(crate::specs::Uses::joined_of))]
-fn joined(x: Slot) -> StepEffect
+fn joined(x: Slot) -> Option<StepEffect>
     ensures { result ≡ joined_of x }
 {
-    if x.kind == IDENTIFIER {
-        StepEffect::Joins
-    } else {
-        StepEffect::Stuck
-    }
+    (x.kind == IDENTIFIER).then_some(StepEffect::Joins)
 }
 
 #[tactic(auto, unfolding(crate::specs::Uses::read_of))]
-fn read(x: Slot) -> StepEffect
+fn read(x: Slot) -> Option<StepEffect>
     ensures { result ≡ read_of x }
 {
-    if x.kind == CELL {
-        StepEffect::Returns(x.first)
-    } else {
-        StepEffect::Stuck
-    }
+    (x.kind == CELL).then_some(StepEffect::Returns(x.first))
 }
 
 #[tactic(auto, unfolding(crate::specs::Uses::written_of))]
-fn written(x: Slot, v: u32) -> StepEffect
+fn written(x: Slot, v: u32) -> Option<StepEffect>
     ensures { result ≡ written_of x v }
 {
     if x.kind == CELL {
-        StepEffect::Updates(Slot {
+        Some(StepEffect::Updates(Slot {
             kind: CELL,
             first: v,
             second: 0,
-        })
+        }))
     } else {
-        StepEffect::Stuck
+        None
     }
 }
 
 #[tactic(auto, unfolding(crate::specs::Uses::locked_of))]
-fn locked(x: Slot) -> StepEffect
+fn locked(x: Slot) -> Option<StepEffect>
     ensures { result ≡ locked_of x }
 {
     if x.kind == LOCK && x.first == 0 {
-        StepEffect::Updates(Slot {
+        Some(StepEffect::Updates(Slot {
             kind: LOCK,
             first: 1,
             second: 0,
-        })
+        }))
     } else {
-        StepEffect::Stuck
+        None
     }
 }
 
 // An open lock stays open.
 #[tactic(auto, unfolding(crate::specs::Uses::unlocked_of))]
-fn unlocked(x: Slot) -> StepEffect
+fn unlocked(x: Slot) -> Option<StepEffect>
     ensures { result ≡ unlocked_of x }
 {
     if x.kind == LOCK {
-        StepEffect::Updates(Slot {
+        Some(StepEffect::Updates(Slot {
             kind: LOCK,
             first: 0,
             second: 0,
-        })
+        }))
     } else {
-        StepEffect::Stuck
+        None
     }
 }
 
 // A count of all ones is never reached: it would take as many lines.
 #[tactic(auto, unfolding(crate::specs::Uses::posted_of))]
-fn posted(x: Slot) -> StepEffect
+fn posted(x: Slot) -> Option<StepEffect>
     ensures { result ≡ posted_of x }
 {
     if x.kind == SEMAPHORE && x.first < u32::MAX {
-        StepEffect::Updates(Slot {
+        Some(StepEffect::Updates(Slot {
             first: x.first + 1,
             ..x
-        })
+        }))
     } else if x.kind == SEMAPHORE && x.second < u32::MAX {
-        StepEffect::Updates(Slot {
+        Some(StepEffect::Updates(Slot {
             first: 0,
             second: x.second + 1,
             ..x
-        })
+        }))
     } else {
-        StepEffect::Stuck
+        None
     }
 }
 
 #[tactic(auto, unfolding(crate::specs::Uses::waited_of))]
-fn waited(x: Slot) -> StepEffect
+fn waited(x: Slot) -> Option<StepEffect>
     ensures { result ≡ waited_of x }
 {
     if x.kind == SEMAPHORE && 0 < x.first {
-        StepEffect::Updates(Slot {
+        Some(StepEffect::Updates(Slot {
             first: x.first - 1,
             ..x
-        })
+        }))
     } else if x.kind == SEMAPHORE && 0 < x.second {
-        StepEffect::Updates(Slot {
+        Some(StepEffect::Updates(Slot {
             first: u32::MAX,
             second: x.second - 1,
             ..x
-        })
+        }))
     } else {
-        StepEffect::Stuck
+        None
     }
 }
 
 #[tactic(auto, unfolding(crate::specs::Uses::rdlocked_of))]
-fn rdlocked(x: Slot) -> StepEffect
+fn rdlocked(x: Slot) -> Option<StepEffect>
     ensures { result ≡ rdlocked_of x }
 {
     if x.kind == RWLOCK && x.second < x.first {
-        StepEffect::Updates(Slot {
+        Some(StepEffect::Updates(Slot {
             second: x.second + 1,
             ..x
-        })
+        }))
     } else {
-        StepEffect::Stuck
+        None
     }
 }
 
 #[tactic(auto, unfolding(crate::specs::Uses::rdunlocked_of))]
-fn rdunlocked(x: Slot) -> StepEffect
+fn rdunlocked(x: Slot) -> Option<StepEffect>
     ensures { result ≡ rdunlocked_of x }
 {
     if x.kind == RWLOCK && 0 < x.second {
-        StepEffect::Updates(Slot {
+        Some(StepEffect::Updates(Slot {
             second: x.second - 1,
             ..x
-        })
+        }))
     } else {
-        StepEffect::Stuck
+        None
     }
 }
 
 #[tactic(auto, unfolding(crate::specs::Uses::wrlocked_of))]
-fn wrlocked(x: Slot) -> StepEffect
+fn wrlocked(x: Slot) -> Option<StepEffect>
     ensures { result ≡ wrlocked_of x }
 {
     if x.kind == RWLOCK && x.second == 0 {
-        StepEffect::Updates(Slot {
+        Some(StepEffect::Updates(Slot {
             kind: RWLOCK_WRITTEN,
             ..x
-        })
+        }))
     } else {
-        StepEffect::Stuck
+        None
     }
 }
 
 #[tactic(auto, unfolding(crate::specs::Uses::wrunlocked_of))]
-fn wrunlocked(x: Slot) -> StepEffect
+fn wrunlocked(x: Slot) -> Option<StepEffect>
     ensures { result ≡ wrunlocked_of x }
 {
     if x.kind == RWLOCK_WRITTEN {
-        StepEffect::Updates(Slot {
+        Some(StepEffect::Updates(Slot {
             kind: RWLOCK,
             second: 0,
             ..x
-        })
+        }))
     } else {
-        StepEffect::Stuck
+        None
     }
 }
 
-// The word of that rule: x is what it is about, v the value that it stores, or the reading places of a new read-write lock. The words
+// The word of that rule, if it can step: x is what it is about, v the value that it stores, or the reading places of a new read-write lock. The words
 // of a thread alone use nothing.
 #[tactic(auto, unfolding(crate::specs::Uses::effect_of))]
-pub fn effect_of(r: Rule, x: Slot, v: u32) -> StepEffect
+pub fn effect_of(r: Rule, x: Slot, v: u32) -> Option<StepEffect>
     ensures { result ≡ effect_of r x v }
 {
     match r {
-        Rule::NEWT => made(IDENTIFIER, 0),
+        Rule::NEWT => Some(made(IDENTIFIER, 0)),
         Rule::SPAWN => spawned(x),
         Rule::JOIN => joined(x),
-        Rule::REF => made(CELL, v),
+        Rule::REF => Some(made(CELL, v)),
         Rule::WRITE => written(x, v),
         Rule::READ => read(x),
-        Rule::NEWL => made(LOCK, 0),
+        Rule::NEWL => Some(made(LOCK, 0)),
         Rule::LCK => locked(x),
         Rule::ULCK => unlocked(x),
-        Rule::NEWSEM => made(SEMAPHORE, 0),
+        Rule::NEWSEM => Some(made(SEMAPHORE, 0)),
         Rule::POST => posted(x),
         Rule::WAIT => waited(x),
-        Rule::NEWRWLOCK => made(RWLOCK, v),
+        Rule::NEWRWLOCK => Some(made(RWLOCK, v)),
         Rule::RDLOCK => rdlocked(x),
         Rule::RDUNLOCK => rdunlocked(x),
         Rule::WRLOCK => wrlocked(x),
         Rule::WRUNLOCK => wrunlocked(x),
-        Rule::VAR | Rule::INT | Rule::LET | Rule::IF | Rule::WHILE | Rule::CALL => {
-            StepEffect::Stuck
-        }
+        Rule::VAR | Rule::INT | Rule::LET | Rule::IF | Rule::WHILE | Rule::CALL => { None }
     }
 }
