@@ -8,6 +8,7 @@ use replay_control::layout::{
 use replay_control::{ControlPoint, put};
 use workspace::{at, index};
 
+#[tactic(auto, unfolding(crate::specs::ControlPoints::control_point_at))]
 pub(crate) fn control_point_at(space: &[u32], t: u32) -> ControlPoint
     ensures { result ≡ control_point_at space.now t }
 {
@@ -20,6 +21,7 @@ pub(crate) fn control_point_at(space: &[u32], t: u32) -> ControlPoint
     }
 }
 
+#[tactic(auto, unfolding(crate::specs::ControlPoints::control_point_put))]
 fn put_control_point(space: &mut [u32], t: u32, f: ControlPoint)
     ensures { space.new ≡ control_point_put space.old t f }
 {
@@ -31,6 +33,7 @@ fn put_control_point(space: &mut [u32], t: u32, f: ControlPoint)
 }
 
 // Thread t goes on from there to its next word; whether it has finished.
+#[tactic(auto, unfolding(crate::specs::ControlPoints::went_on, crate::specs::ControlPoints::settled))]
 pub(crate) fn go_on(program: &[u32], space: &mut [u32], t: u32, f: ControlPoint) -> bool
     ensures { went_on program.now space.old t f ≡ (result, space.new) }
 {
