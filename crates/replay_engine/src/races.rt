@@ -10,7 +10,7 @@ use workspace::{Touch, at, index, rule_of, touch_of};
 
 // The cell that a thread is about to use, by the value that names it.
 #[derive(Clone, Copy, PartialEq, Eq)]
-enum Access {
+pub enum Access {
     Read(u32),
     Write(u32),
 }

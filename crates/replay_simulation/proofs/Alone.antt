@@ -1,4 +1,5 @@
 -- The words of a thread alone are the machine's: let, if, while.
+use Rattle.std.proofs.Common.{Ok}
 use Prim.Native.Nat.{ℕ, ◌+◌, ◌*◌, ◌<◌, ◌≤◌}
 use mathlib.Core.Path.{◌≡◌, refl, sym, ◌∙◌, ap, subst}
 use mathlib.Core.Logic.{◌≢◌}
@@ -39,15 +40,15 @@ use Rattle.replay_simulation.proofs.AtWord.{AtWord, Goes, by_act, pausing, goes,
 
 module _ (p s : List ℕ) (row c : ℕ) {q : Position} where
   let_acts : {x : ℕ} (v : ℕ) → RowOf p q (Binary Let) x →
-      acted p s (ready_at row q.index v) c ≡ (Go (entering row (second p q.index)), set s (0 + 256 * row + x) v)
+      acted p s (ready_at row q.index v) c ≡ (Ok (Go (entering row (second p q.index))), set s (0 + 256 * row + x) v)
   unfolding acted acted_by bound shape_at rule_of printed
   let_acts v r = rw (r.code, r.number)
 
-  if_acts : {n : ℕ} → RowOf p q (Binary If) n → acted p s (stopped_at row q.index) c ≡ (Go (branched p row q.index c), s)
+  if_acts : {n : ℕ} → RowOf p q (Binary If) n → acted p s (stopped_at row q.index) c ≡ (Ok (Go (branched p row q.index c)), s)
   unfolding acted acted_by shape_at rule_of printed
   if_acts r = rw r.code
 
-  while_acts : {n : ℕ} (f : ControlPoint) → f.at ≡ q.index → RowOf p q (Unary While) n → acted p s f c ≡ (Go (looped p f c), s)
+  while_acts : {n : ℕ} (f : ControlPoint) → f.at ≡ q.index → RowOf p q (Unary While) n → acted p s f c ≡ (Ok (Go (looped p f c)), s)
   unfolding acted acted_by shape_at rule_of printed
   while_acts f e r = rw (e, r.code)
 
@@ -123,7 +124,7 @@ module _ {p s : List ℕ} {T : Threads} {R : Replay} {t row tid : ℕ} {σ : Env
   pub if_first : Stands p (continuation p q.index) (q.index + 1) e₁ → Goes A first word 0
   unfolding branched
   if_first S =
-      by_act A first word 0 (if_acts p s row 0 r ∙ ap (λ (k : ℕ). (Go (entering row k), s)) (behind_is q.index r.below))
+      by_act A first word 0 (if_acts p s row 0 r ∙ ap (λ (k : ℕ). (Ok (Go (entering row k)), s)) (behind_is q.index r.below))
       (goes A word (entering row (q.index + 1)) (enter σ e₁ K) (enters_word (ready A (q.index + 1) (omega arith)) e₁ S))
 
   pub if_second : Stands p (continuation p q.index) (second p q.index) e₂ → Goes A second_of_two word 1
@@ -160,7 +161,7 @@ module _ {p s : List ℕ} {T : Threads} {R : Replay} {t row tid : ℕ} {σ : Env
   unfolding looped
   unrolled_first A =
       by_act A first (unrolled_at row q.index) 0
-      (while_acts p s row 0 (unrolled_at row q.index) refl r ∙ ap (λ (k : ℕ). (Go (entering row k), s)) (behind_is q.index r.below))
+      (while_acts p s row 0 (unrolled_at row q.index) refl r ∙ ap (λ (k : ℕ). (Ok (Go (entering row k)), s)) (behind_is q.index r.below))
       (goes A (unrolled_at row q.index) (entering row (q.index + 1)) (run_part σ q e K) (runs_part (ready A q.index (omega arith)) e r S))
 
   pub unrolled_second : (A : AtWord p s T R t row tid σ (unrolled_word q e) K) → Goes A second_of_two (unrolled_at row q.index) 1

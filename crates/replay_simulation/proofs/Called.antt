@@ -1,6 +1,6 @@
 -- A call on numbers is the machine's: the body of the procedure is entered in the next row, which holds its argument alone and the step
 -- of the call.
-use Rattle.std.proofs.Common.{Some, slice_get}
+use Rattle.std.proofs.Common.{Some, slice_get, Ok}
 use Prim.Native.Nat.{ℕ, zero, suc, ◌+◌, ◌*◌, ◌-◌, ◌<◌, ◌≤◌}
 use mathlib.Core.Path.{◌≡◌, refl, sym, ◌∙◌, ap, subst}
 use mathlib.Core.Logic.{◌≢◌, ◌⊎◌, inl, inr}
@@ -195,7 +195,7 @@ module _ {p s : List ℕ} {T : Threads} {R : Replay} {t row tid : ℕ} {σ : Env
     abbrev entered : Control
     entered = enter (update zeros body.parameter v) body.body (mark_frame σ ∷ K)
 
-    acts : acted p s word 0 ≡ (Go (entering (row + 1) (first_of p g)), after)
+    acts : acted p s word 0 ≡ (Ok (Go (entering (row + 1) (first_of p g))), after)
     unfolding acted acted_by call_entered called_space argument_put row_cleared callee_of above shape_at rule_of printed
     acts = rw (r.code, r.number, is, lt-ltb row 1056 (let l = new_low in omega arith), B.parameter)
 
