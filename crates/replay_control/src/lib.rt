@@ -7,6 +7,7 @@ pub mod layout;
 
 ghost use Rattle.std.specs.Prelude.{◌≡◌, ◌<◌, ◌-◌, set};
 ghost use Rattle.replay_control.specs.Shapes.{shape_at};
+ghost use Rattle.replay_control.specs.Modes.{mode_number, mode_of};
 ghost use Rattle.replay_control.specs.Control.{variable as variable_of, kept, behind as behind_of, second as second_of, first_of, root_of, entering as entering_at, returning as returning_to, stopped_at, ready_at, unrolled_at, done_with, entered_by, entered, half_written, left, returned, returned_space, advanced, advanced_space, found};
 
 pub use continuations::link;
@@ -16,32 +17,63 @@ use layout::{
 };
 use workspace::{Shape, at, index, rule_of, shape_of};
 
+// Where a thread is: on its way to its next word, at it, or at its end.
+#[derive(Clone, Copy, PartialEq, Eq)]
+pub enum Mode {
+    // Step `at` is evaluated.
+    Enter,
+    // `value` goes to the continuation `at`.
+    Return,
+    // At the word of step `at`, which reduces with its parts as they are.
+    Stopped,
+    // At the word of step `at`, whose last part gave `value`.
+    Ready,
+    // At the `if` that the `while` of step `at` became.
+    Unrolled,
+    // The thread has finished with `value`.
+    Done,
+}
+
+impl Mode {
+    // The number that stands for it in the lent space.
+    #[tactic(auto, unfolding(crate::specs::Modes::mode_number))]
+    pub fn number(self) -> u32
+        ensures { result ≡ mode_number self }
+    {
+        match self {
+            Mode::Enter => 0,
+            Mode::Return => 1,
+            Mode::Stopped => 2,
+            Mode::Ready => 3,
+            Mode::Unrolled => 4,
+            Mode::Done => 5,
+        }
+    }
+
+    // The mode of a number; of one that stands for none, the last.
+    #[tactic(auto, unfolding(crate::specs::Modes::mode_of))]
+    pub fn of(number: u32) -> Mode
+        ensures { result ≡ mode_of number }
+    {
+        match number {
+            0 => Mode::Enter,
+            1 => Mode::Return,
+            2 => Mode::Stopped,
+            3 => Mode::Ready,
+            4 => Mode::Unrolled,
+            _ => Mode::Done,
+        }
+    }
+}
+
 // Where a thread is, while its next word is looked for and once it is found; its variables stand in that row.
 #[derive(Clone, Copy, PartialEq, Eq)]
 pub struct ControlPoint {
-    pub mode: u32,
+    pub mode: Mode,
     pub at: u32,
     pub value: u32,
     pub row: u32,
 }
-
-// Step `at` is evaluated.
-pub const ENTER: u32 = 0;
-
-// `value` goes to the continuation `at`.
-pub const RETURN: u32 = 1;
-
-// At the word of step `at`, which reduces with its parts as they are.
-pub const STOPPED: u32 = 2;
-
-// At the word of step `at`, whose last part gave `value`.
-pub const READY: u32 = 3;
-
-// At the `if` that the `while` of step `at` became.
-pub const UNROLLED: u32 = 4;
-
-// The thread has finished with `value`.
-pub const DONE: u32 = 5;
 
 // The fuel of that loop, more than the steps of a program can take.
 const FUEL: u32 = 2048;
@@ -52,7 +84,7 @@ impl ControlPoint {
         ensures { result ≡ entering_at row k }
     {
         ControlPoint {
-            mode: ENTER,
+            mode: Mode::Enter,
             at: k,
             value: 0,
             row,
@@ -64,7 +96,7 @@ impl ControlPoint {
         ensures { result ≡ returning_to row c value }
     {
         ControlPoint {
-            mode: RETURN,
+            mode: Mode::Return,
             at: c,
             value,
             row,
@@ -76,7 +108,7 @@ impl ControlPoint {
         ensures { result ≡ stopped_at row k }
     {
         ControlPoint {
-            mode: STOPPED,
+            mode: Mode::Stopped,
             at: k,
             value: 0,
             row,
@@ -88,7 +120,7 @@ impl ControlPoint {
         ensures { result ≡ ready_at row k value }
     {
         ControlPoint {
-            mode: READY,
+            mode: Mode::Ready,
             at: k,
             value,
             row,
@@ -100,7 +132,7 @@ impl ControlPoint {
         ensures { result ≡ unrolled_at row k }
     {
         ControlPoint {
-            mode: UNROLLED,
+            mode: Mode::Unrolled,
             at: k,
             value: 0,
             row,
@@ -112,7 +144,7 @@ impl ControlPoint {
         ensures { result ≡ done_with row value }
     {
         ControlPoint {
-            mode: DONE,
+            mode: Mode::Done,
             at: 0,
             value,
             row,
@@ -264,7 +296,7 @@ fn keep(program: &[u32], space: &mut [u32], row: u32, c: u32, v: u32)
 fn advance(program: &[u32], space: &mut [u32], f: ControlPoint) -> ControlPoint
     ensures { (result ≡ advanced program.now space.old f) × (space.new ≡ advanced_space program.now space.old f) }
 {
-    if f.mode == ENTER {
+    if f.mode == Mode::Enter {
         return enter(program, space, f.row, f.at);
     }
     let next = return_to(program, space, f.row, f.at, f.value);
@@ -279,7 +311,7 @@ pub fn next_redex(program: &[u32], space: &mut [u32], f: ControlPoint) -> Contro
 {
     let mut g = f;
     for _ in 0..FUEL {
-        if STOPPED <= g.mode {
+        if !matches!(g.mode, Mode::Enter | Mode::Return) {
             return g;
         }
         g = advance(program, space, g);

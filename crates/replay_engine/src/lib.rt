@@ -10,7 +10,7 @@ ghost use Rattle.replay_engine.specs.Steps.{may_choose as may_choose_of, proceed
 
 use control_points::{control_point_at, go_on};
 pub use races::lowest_pair;
-use replay_control::{ControlPoint, UNROLLED, layout, put, second, shape_at, variable};
+use replay_control::{ControlPoint, Mode, layout, put, second, shape_at, variable};
 pub use replay_step::Halt;
 use replay_step::{Act, gives};
 use threads::Threads;
@@ -23,7 +23,7 @@ fn may_choose(program: &[u32], f: ControlPoint, choice: u32) -> bool
 {
     match choice {
         0 => true,
-        1 => f.mode == UNROLLED || shape_at(program, f.at) == Shape::If,
+        1 => f.mode == Mode::Unrolled || shape_at(program, f.at) == Shape::If,
         _ => false,
     }
 }

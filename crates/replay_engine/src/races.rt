@@ -3,7 +3,7 @@ ghost use Rattle.std.specs.Prelude.{◌≡◌, ◌≤◌};
 ghost use Rattle.replay_engine.specs.Races.{names_cell, access_by, access_of, clash as clash_of, partner_from, is_write, any_writes, lowest_pair};
 
 use crate::control_points::control_point_at;
-use replay_control::{ControlPoint, READY, kept_value};
+use replay_control::{ControlPoint, Mode, kept_value};
 use replay_objects::CELL;
 use replay_step::slot_at;
 use workspace::{Touch, at, index, rule_of, touch_of};
@@ -44,7 +44,7 @@ fn access_of(program: &[u32], space: &[u32], t: u32) -> Option<Access>
     ensures { result ≡ access_of program.now space.now t }
 {
     let f = control_point_at(space, t);
-    if f.mode == READY {
+    if f.mode == Mode::Ready {
         let r = rule_of(at(program, workspace::WORDS + index(f.at)));
         access_by(space, touch_of(r), f)
     } else {

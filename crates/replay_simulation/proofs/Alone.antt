@@ -3,6 +3,7 @@ use Rattle.std.proofs.Common.{Ok}
 use Prim.Native.Nat.{ℕ, ◌+◌, ◌*◌, ◌<◌, ◌≤◌}
 use mathlib.Core.Path.{◌≡◌, refl, sym, ◌∙◌, ap, subst}
 use mathlib.Core.Logic.{◌≢◌}
+use mathlib.Core.Bool.{false}
 use mathlib.Core.List.{List}
 use native.Mathlib.Omega.{arith}
 use native.Mathlib.Decide.{ℕ_discrete}
@@ -21,6 +22,7 @@ use Rattle.replay_control.specs.Layout.{kept_values_at, open_calls_at, space_siz
 use Rattle.replay_control.specs.declared.ControlPoint.{ControlPoint}
 use Rattle.replay_control.specs.Shapes.{shape_at}
 use Rattle.replay_control.specs.Control.{variable, kept, called_from, continuation, second, entering, stopped_at, ready_at, unrolled_at, found}
+use Rattle.replay_control.specs.Modes.{on_its_way}
 use Rattle.replay_control.proofs.Advances.{found_stop}
 use Rattle.replay_step.specs.declared.words.Act.TheVariants.{Go}
 use Rattle.replay_step.specs.Words.{given, branched, looped, bound, acted_by, acted}
@@ -53,7 +55,7 @@ module _ (p s : List ℕ) (row c : ℕ) {q : Position} where
   while_acts f e r = rw (e, r.code)
 
 -- the thread stands there at once
-stays : (p s : List ℕ) (t : ℕ) (g : ControlPoint) (d : Control) → 2 ≤ g.mode → ControlAt p s t g d → Finds p t s d (found 2048 p s g)
+stays : (p s : List ℕ) (t : ℕ) (g : ControlPoint) (d : Control) → on_its_way g.mode ≡ false → ControlAt p s t g d → Finds p t s d (found 2048 p s g)
 stays p s t g d h C = subst (Finds p t s d) (sym (found_stop p s g 2048 h)) (C, same_all t s)
 
 -- ------------------------------------------------------------------ let
@@ -143,7 +145,7 @@ module _ {p s : List ℕ} {T : Threads} {R : Replay} {t row tid : ℕ} {σ : Env
   while_goes A =
       by_act A first (stopped_at row q.index) 0 (while_acts p s row 0 (stopped_at row q.index) refl r)
       (goes A (stopped_at row q.index) (unrolled_at row q.index) (at σ (unrolled_word q e) K)
-      (stays p s t (unrolled_at row q.index) (at σ (unrolled_word q e) K) (omega arith) (A.values, (refl, n, r, S), A.frames)))
+      (stays p s t (unrolled_at row q.index) (at σ (unrolled_word q e) K) refl (A.values, (refl, n, r, S), A.frames)))
 
   -- its part has given its value
   pub again_goes : {v : Value} (A : AtWord p s T R t row tid σ (again_word q v e) K) → Goes A first (ready_at row q.index (code_value v)) 0
@@ -151,7 +153,7 @@ module _ {p s : List ℕ} {T : Threads} {R : Replay} {t row tid : ℕ} {σ : Env
   again_goes {v} A =
       by_act A first word 0 (while_acts p s row 0 word refl r)
       (goes A word (stopped_at row q.index) (at σ (while_word q e) K)
-      (stays p s t (stopped_at row q.index) (at σ (while_word q e) K) (omega arith) (A.values, (refl, n, r, S), A.frames)))
+      (stays p s t (stopped_at row q.index) (at σ (while_word q e) K) refl (A.values, (refl, n, r, S), A.frames)))
     where
       word : ControlPoint
       word = ready_at row q.index (code_value v)

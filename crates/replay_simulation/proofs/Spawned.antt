@@ -23,6 +23,7 @@ use Rattle.threads.specs.declared.Threads.{Threads}
 use Rattle.threads.specs.Records.{no_record}
 use Rattle.threads.specs.Threads.{spawned}
 use Rattle.replay_control.specs.Layout.{finish, kept_values_at, open_calls_at, control_point_modes_at, control_point_places_at, control_point_values_at, control_point_rows_at, space_size}
+use Rattle.replay_control.specs.Modes.{mode_of}
 use Rattle.replay_control.specs.declared.ControlPoint.{ControlPoint}
 use Rattle.replay_control.specs.Control.{variable, kept, called_from, continuation, second, control_point, entering, returning, ready_at}
 use Rattle.replay_engine.specs.ControlPoints.{control_point_at}
@@ -96,7 +97,7 @@ module _ (s : List ℕ) (a b : ℕ) (apart : a ≢ b) (u : ℕ) (is : b ≡ 66 *
       calls = λ r in_row. copied_outside a b apart 256 s 0 (open_calls_at + r) (inr (omega (arith, low, is)));
     };
     focused = λ z. control_point
-        (copied_outside a b apart 256 s 0 (control_point_modes_at + i) (inr (omega (arith, low, is))) z)
+        (mode_of (copied_outside a b apart 256 s 0 (control_point_modes_at + i) (inr (omega (arith, low, is))) z))
         (copied_outside a b apart 256 s 0 (control_point_places_at + i) (inr (omega (arith, low, is))) z)
         (copied_outside a b apart 256 s 0 (control_point_values_at + i) (inr (omega (arith, low, is))) z)
         (copied_outside a b apart 256 s 0 (control_point_rows_at + i) (inr (omega (arith, low, is))) z);

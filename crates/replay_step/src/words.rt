@@ -5,7 +5,7 @@ ghost use Rattle.replay_step.specs.declared.words.Act.TheVariants.{Go};
 
 use crate::calls::call;
 use crate::slots::{put_slot, slot_at};
-use replay_control::{ControlPoint, READY, STOPPED, behind, layout, put, second};
+use replay_control::{ControlPoint, Mode, behind, layout, put, second};
 use replay_objects::{Slot, StepEffect, effect_of};
 use workspace::{Shape, at, index, rule_of};
 
@@ -55,14 +55,16 @@ fn branch(program: &[u32], f: ControlPoint, choice: u32) -> ControlPoint
 fn around(program: &[u32], f: ControlPoint, choice: u32) -> ControlPoint
     ensures { result ≡ looped program.now f choice }
 {
-    if f.mode == STOPPED {
-        ControlPoint::unrolled_at(f.row, f.at)
-    } else if f.mode == READY {
-        ControlPoint::stopped_at(f.row, f.at)
-    } else if choice == 0 {
-        ControlPoint::entering(f.row, behind(f.at))
-    } else {
-        gives(program, f, 0)
+    match f.mode {
+        Mode::Stopped => ControlPoint::unrolled_at(f.row, f.at),
+        Mode::Ready => ControlPoint::stopped_at(f.row, f.at),
+        Mode::Enter | Mode::Return | Mode::Unrolled | Mode::Done => {
+            if choice == 0 {
+                ControlPoint::entering(f.row, behind(f.at))
+            } else {
+                gives(program, f, 0)
+            }
+        }
     }
 }
 
@@ -111,7 +113,7 @@ fn subject(program: &[u32], space: &[u32], f: ControlPoint) -> u32
 fn operand(program: &[u32], f: ControlPoint) -> u32
     ensures { result ≡ operand_of program.now f }
 {
-    if f.mode == STOPPED {
+    if f.mode == Mode::Stopped {
         at(program, workspace::VALUES + index(f.at))
     } else {
         f.value
