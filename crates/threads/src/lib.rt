@@ -16,65 +16,32 @@ pub struct Record {
     pub tid: u32,
 }
 
-// The place of a record, or that there is none.
-#[derive(Drop)]
-pub enum Found {
-    At(usize),
-    Nothing,
-}
-
-fn is_running(s: Status) -> bool
-    ensures { result ≡ is_running s }
-{
-    match s {
-        Status::Running => true,
-        Status::Finished => false,
-        Status::Joined => false,
-    }
-}
-
 // Whether a record is of a finished thread with that identifier.
+#[tactic(auto, unfolding(crate::specs::Records::matching, crate::specs::Records::if_finished))]
 fn matching(r: Record, tid: u32) -> bool
     ensures { result ≡ matching r tid }
 {
-    let s = r.state;
-    match s {
-        Status::Running => false,
-        Status::Finished => r.tid == tid,
-        Status::Joined => false,
-    }
+    r.state == Status::Finished && r.tid == tid
 }
 
 // "Among several finished threads a join takes the lowest": the lowest finished one with that identifier.
-pub fn lowest_finished(rs: &[Record], tid: u32) -> Found
+#[tactic(auto, unfolding(crate::specs::Records::lowest))]
+pub fn lowest_finished(rs: &[Record], tid: u32) -> Option<usize>
     ensures { result ≡ lowest rs.now tid }
 {
-    let mut i: usize = 0;
-    while i < rs.len() {
-        if matching(rs[i], tid) {
-            return Found::At(i);
-        }
-        i = i + 1;
-    }
-    Found::Nothing
-}
-
-// The same of records held by value: the one function that lends them.
-fn lowest_of(rs: [Record; 16], tid: u32) -> Found
-    ensures { result ≡ lowest rs tid }
-{
-    lowest_finished(&rs, tid)
+    rs.iter().position(|r| matching(*r, tid))
 }
 
 // The records of a run in spawn order, and how many of them are threads.
 #[derive(Clone, Copy)]
 pub struct Threads {
-    pub records: [Record; 16],
+    pub records: [Record; LIMIT],
     pub count: usize,
 }
 
 impl Threads {
     // One thread, with that identifier.
+    #[tactic(auto, unfolding(crate::specs::Threads::started))]
     pub fn start(tid: u32) -> Threads
         ensures { result ≡ started tid }
     {
@@ -82,40 +49,39 @@ impl Threads {
             records: [Record {
                 state: Status::Running,
                 tid,
-            }; 16],
+            }; LIMIT],
             count: 1,
         }
     }
 
     // One more thread, running, if there is room for it.
-    pub fn spawned(self, tid: u32) -> Threads
+    #[tactic(auto, unfolding(crate::specs::Threads::spawned))]
+    pub fn spawned(mut self, tid: u32) -> Threads
         ensures { result ≡ spawned_of self tid }
     {
-        let at = self.count;
-        let mut next = self;
-        if at < LIMIT {
-            next.records[at] = Record {
+        if self.count < LIMIT {
+            self.records[self.count] = Record {
                 state: Status::Running,
                 tid,
             };
-            next.count = at + 1;
+            self.count += 1;
         }
-        next
+        self
     }
 
     // The record of thread t says so from now on; the thread keeps its identifier.
-    fn turned(self, t: usize, state: Status) -> Threads
+    #[tactic(auto, unfolding(crate::specs::Threads::turned, crate::specs::Records::no_record))]
+    fn turned(mut self, t: usize, state: Status) -> Threads
         ensures { result ≡ turned state self t }
     {
-        let mut next = self;
         if t < LIMIT {
-            let r = next.records[t];
-            next.records[t] = Record { state, tid: r.tid };
+            self.records[t].state = state;
         }
-        next
+        self
     }
 
     // Thread t has finished.
+    #[tactic(auto, unfolding(crate::specs::Threads::finished))]
     pub fn finished(self, t: usize) -> Threads
         ensures { result ≡ finished_of self t }
     {
@@ -130,25 +96,17 @@ impl Threads {
     }
 
     // Whether t is a thread that is running.
+    #[tactic(auto, unfolding(crate::specs::Threads::runs, crate::specs::Threads::is_running, crate::specs::Records::no_record))]
     pub fn runs(self, t: usize) -> bool
         ensures { result ≡ runs_of self t }
     {
-        if self.count <= t {
-            return false;
-        }
-        if LIMIT <= t {
-            return false;
-        }
-        let r = self.records[t];
-        let s = r.state;
-        is_running(s)
+        t < self.count && t < LIMIT && self.records[t].state == Status::Running
     }
 
     // The lowest finished thread with that identifier.
-    pub fn lowest(self, tid: u32) -> Found
+    pub fn lowest(self, tid: u32) -> Option<usize>
         ensures { result ≡ lowest self.records tid }
     {
-        let rs = self.records;
-        lowest_of(rs, tid)
+        lowest_finished(&self.records, tid)
     }
 }

@@ -75,7 +75,7 @@ pub const EMPTY_ROW: usize = 12288;
 pub fn at(work: &[u32], i: usize) -> u32
     ensures { result ≡ get_or work.now i 0 }
 {
-    if i < work.len() { work[i] } else { 0 }
+    work.get(i).copied().unwrap_or(0)
 }
 
 // A number of the work space as an index.
@@ -93,7 +93,7 @@ pub fn wide(x: u32) -> u64
 }
 
 // What one of the stages of an answer says: nothing is to be refused, or the first thing that is.
-#[derive(Clone, Copy)]
+#[derive(Clone, Copy, PartialEq, Eq)]
 pub enum Ruling {
     Holds,
     Refused(Refusal),
@@ -101,7 +101,7 @@ pub enum Ruling {
 
 // The rules, one a word: those of Figure 5 in the printed order, behind them those of section 3.1.4, those of read-write
 // locks and that of calls.
-#[derive(Drop)]
+#[derive(Clone, Copy, PartialEq, Eq)]
 pub enum Rule {
     VAR,
     INT,
@@ -130,7 +130,7 @@ pub enum Rule {
 
 // How a word is evaluated, one shape for each form of expression of the calculus; of the words with one part, a call by itself, since its
 // step enters a body.
-#[derive(Drop)]
+#[derive(Clone, Copy, PartialEq, Eq)]
 pub enum Shape {
     Variable,
     Constant,
@@ -145,7 +145,7 @@ pub enum Shape {
 }
 
 // What a word does with the cell that it is about, if it is about one.
-#[derive(Drop)]
+#[derive(Clone, Copy, PartialEq, Eq)]
 pub enum Touch {
     Nothing,
     Reads,
@@ -153,7 +153,7 @@ pub enum Touch {
 }
 
 // What is known of a rule: the word that it is for, how that is evaluated, and what it does with a cell.
-#[derive(Drop)]
+#[derive(Clone, Copy, PartialEq, Eq)]
 struct Traits {
     word: Word,
     shape: Shape,
@@ -216,6 +216,7 @@ pub fn code_of(w: Word) -> u32
 }
 
 // The rule at a place.
+#[tactic(auto, unfolding(crate::specs::Layout::rule_of, crate::specs::Layout::printed))]
 pub fn rule_of(code: u32) -> Rule
     ensures { result ≡ rule_of code }
 {
@@ -293,24 +294,22 @@ fn traits_of(r: Rule) -> Traits
 pub fn shape_of(r: Rule) -> Shape
     ensures { result ≡ shape_of r }
 {
-    let t = traits_of(r);
-    t.shape
+    traits_of(r).shape
 }
 
 // What the word of a rule does with a cell.
 pub fn touch_of(r: Rule) -> Touch
     ensures { result ≡ touch_of r }
 {
-    let t = traits_of(r);
-    t.touch
+    traits_of(r).touch
 }
 
 // The word that a number stands for.
+#[tactic(auto, unfolding(crate::specs::Layout::word_of))]
 pub fn word_of(code: u32) -> Word
     ensures { result ≡ word_of code }
 {
-    let t = traits_of(rule_of(code));
-    t.word
+    traits_of(rule_of(code)).word
 }
 
 // The number that stands for a type line's kind, and the line's two numbers.
@@ -333,10 +332,7 @@ pub fn first_of(t: TypeLine) -> u32
     match t {
         TypeLine::Int => 0,
         TypeLine::Ref(p, _) => p.0,
-        TypeLine::Lock(i, _) => i.0,
-        TypeLine::Tid(k) => k.0,
-        TypeLine::Sem(k) => k.0,
-        TypeLine::Rwlock(r, _) => r.0,
+        TypeLine::Lock(m, _) | TypeLine::Tid(m) | TypeLine::Sem(m) | TypeLine::Rwlock(m, _) => m.0,
     }
 }
 
@@ -344,16 +340,14 @@ pub fn second_of(t: TypeLine) -> u32
     ensures { result ≡ second_of t }
 {
     match t {
-        TypeLine::Int => 0,
+        TypeLine::Int | TypeLine::Tid(_) | TypeLine::Sem(_) => 0,
         TypeLine::Ref(_, c) => c.0,
-        TypeLine::Lock(_, o) => o.0,
-        TypeLine::Tid(_) => 0,
-        TypeLine::Sem(_) => 0,
-        TypeLine::Rwlock(_, w) => w.0,
+        TypeLine::Lock(_, m) | TypeLine::Rwlock(_, m) => m.0,
     }
 }
 
 // The type line that a kind and two numbers stand for.
+#[tactic(auto, unfolding(crate::specs::Layout::type_of))]
 fn type_of(kind: u32, first: u32, second: u32) -> TypeLine
     ensures { result ≡ type_of kind first second }
 {
@@ -369,6 +363,7 @@ fn type_of(kind: u32, first: u32, second: u32) -> TypeLine
 
 // The type line with a number. The three columns stand one behind the other, so where the last of its numbers is in the work space
 // the others are, and none is looked for by itself.
+#[tactic(auto, unfolding(crate::specs::Layout::type_at))]
 pub fn type_at(work: &[u32], t: TypeNumber) -> TypeLine
     ensures { result ≡ type_at work.now t }
 {
@@ -384,6 +379,7 @@ pub fn type_at(work: &[u32], t: TypeNumber) -> TypeLine
 }
 
 // What map m has at location l.
+#[tactic(auto, unfolding(crate::specs::Layout::map_cell))]
 pub fn map_cell(work: &[u32], m: MapNumber, l: usize) -> u32
     requires { l < 4294967296 }
     ensures { result ≡ map_cell work.now m l }
@@ -395,9 +391,5 @@ pub fn map_cell(work: &[u32], m: MapNumber, l: usize) -> u32
 pub fn clear(s: &mut [u32])
     ensures { s.new ≡ replicate (length s.old) 0 }
 {
-    let mut i = 0;
-    while i < s.len() {
-        s[i] = 0;
-        i += 1;
-    }
+    s.fill(0);
 }
