@@ -21,20 +21,22 @@ pub struct RaceNumbers {
 }
 
 #[tactic(auto, unfolding(crate::specs::Numbers::race_numbers))]
-pub fn race_numbers(race: Option<Race>) -> RaceNumbers
-    ensures { result ≡ race_numbers race }
-{
-    match race {
-        None => RaceNumbers {
-            state: usize::MAX,
-            first: u32::MAX,
-            second: u32::MAX,
-        },
-        Some(race) => RaceNumbers {
-            state: race.state,
-            first: race.lower,
-            second: race.other,
-        },
+impl From<Option<Race>> for RaceNumbers {
+    ghost from_gives = { λ race numbers. numbers ≡ race_numbers race };
+
+    fn from(race: Option<Race>) -> RaceNumbers {
+        match race {
+            None => RaceNumbers {
+                state: usize::MAX,
+                first: u32::MAX,
+                second: u32::MAX,
+            },
+            Some(race) => RaceNumbers {
+                state: race.state,
+                first: race.lower,
+                second: race.other,
+            },
+        }
     }
 }
 
