@@ -1,7 +1,8 @@
 -- The line of a replay: its parts, and its length.
+use Rattle.std.proofs.Common.{Option, None, Some}
 use mathlib.Core.Path.{◌≡◌, refl, sym, ap, ◌∙◌, subst}
 use mathlib.Core.List.{List, [], ◌∷◌, ◌++◌, append_assoc}
-use mathlib.Core.Bool.{true, false}
+use mathlib.Core.Bool.{false}
 use Prim.Native.Nat.{ℕ, ◌+◌, ◌≤◌, ◌<◌}
 use native.Mathlib.Omega.{arith}
 use lib.ListN.{length, length-append}
@@ -10,13 +11,12 @@ use Rattle.text_theory.specs.Text.{decimal, line}
 use Rattle.writer.specs.Buffer.{WrittenAt}
 use Rattle.text_theory.proofs.Decimal.{decimal_length}
 use Rattle.replay_theory.specs.Replay.{returned_for}
-use Rattle.replay_theory.specs.declared.FirstRace.{FirstRace}
-use Rattle.replay_theory.specs.declared.FirstRace.TheVariants.{None, Found}
+use Rattle.replay_theory.specs.declared.Race.{Race}
+use Rattle.replay_theory.specs.declared.Ending.{Ending}
+use Rattle.replay_theory.specs.declared.Ending.TheVariants.{Done, Refused, TraceForm, NoStep, PastLimit}
 use Rattle.replay_theory.specs.declared.Numbers.{Numbers}
 use Rattle.replay_theory.specs.declared.Replayed.{Replayed}
 use Rattle.replay_answers.specs.Line.{race_fields, number_fields, ran_with, ran_fields, race_after, refused_fields, is_done, replayed_fields, output_line, opened}
-use Rattle.replay_answers.specs.declared.line.Outcome.{Outcome}
-use Rattle.replay_answers.specs.declared.line.Outcome.TheVariants.{Ran, Unread}
 
 -- ------------------------------------------------------------------ fields in front of others
 
@@ -35,29 +35,29 @@ opened_line (f ∷ h ∷ hs) g gs =
 
 -- ------------------------------------------------------------------ the parts of a line, as they are written
 
-pub race_parts : (n i j : ℕ) → line (race_fields n i j) []
-    ≡ (decimal n ++ (44 ∷ [])) ++ ((decimal i ++ (44 ∷ [])) ++ (decimal j ++ (10 ∷ [])))
+pub race_parts : (race : Race) → line (race_fields race) []
+    ≡ (decimal race.state ++ (44 ∷ [])) ++ ((decimal race.lower ++ (44 ∷ [])) ++ (decimal race.other ++ (10 ∷ [])))
 unfolding line race_fields
-race_parts n i j =
-    next_field (decimal n) (decimal i) (decimal j ∷ [])
-    ∙ ap (λ (l : List ℕ). (decimal n ++ (44 ∷ [])) ++ l) (next_field (decimal i) (decimal j) [])
+race_parts race =
+    next_field (decimal race.state) (decimal race.lower) (decimal race.other ∷ [])
+    ∙ ap (λ (l : List ℕ). (decimal race.state ++ (44 ∷ [])) ++ l) (next_field (decimal race.lower) (decimal race.other) [])
 
 pub four_parts : (x : Numbers) → opened (number_fields x)
     ≡ (decimal x.number ++ (44 ∷ [])) ++ ((decimal x.line ++ (44 ∷ [])) ++ ((decimal x.condition ++ (44 ∷ [])) ++ ((decimal x.location ++ (44 ∷ [])) ++ [])))
 unfolding opened number_fields
 four_parts x = refl
 
-module _ (steps : ℕ) {race : FirstRace} where
-  pub ran_parts : race ≡ None → line (ran_with steps race) [] ≡ bytes "RAN," ++ (decimal steps ++ (10 ∷ []))
+module _ (steps : ℕ) {found : Option Race} where
+  pub ran_parts : found ≡ None → line (ran_with steps found) [] ≡ bytes "RAN," ++ (decimal steps ++ (10 ∷ []))
   unfolding bytes line ran_with
-  ran_parts e = ap (λ (r : FirstRace). line (ran_with steps r) []) e
+  ran_parts e = ap (λ (r : Option Race). line (ran_with steps r) []) e
 
-  pub raced_parts : {n i j : ℕ} → race ≡ Found n i j
-      → line (ran_with steps race) [] ≡ bytes "RACE," ++ ((decimal steps ++ (44 ∷ [])) ++ line (race_fields n i j) [])
+  pub raced_parts : {race : Race} → found ≡ Some race
+      → line (ran_with steps found) [] ≡ bytes "RACE," ++ ((decimal steps ++ (44 ∷ [])) ++ line (race_fields race) [])
   unfolding bytes line ran_with race_fields
-  raced_parts {n} {i} {j} e =
-      ap (λ (r : FirstRace). line (ran_with steps r) []) e
-      ∙ ap (λ (l : List ℕ). bytes "RACE," ++ l) (next_field (decimal steps) (decimal n) (decimal i ∷ decimal j ∷ []))
+  raced_parts {race} e =
+      ap (λ (r : Option Race). line (ran_with steps r) []) e
+      ∙ ap (λ (l : List ℕ). bytes "RACE," ++ l) (next_field (decimal steps) (decimal race.state) (decimal race.lower ∷ decimal race.other ∷ []))
 
 -- a refusal up to its steps
 refused_headed : (x : Numbers) (g : Field) (gs : List Field) → line (bytes "REFUSE" ∷ (number_fields x ++ (g ∷ gs))) []
@@ -65,23 +65,23 @@ refused_headed : (x : Numbers) (g : Field) (gs : List Field) → line (bytes "RE
 unfolding bytes line number_fields
 refused_headed x g gs = ap (λ (l : List ℕ). bytes "REFUSE," ++ l) (opened_line (number_fields x) g gs)
 
-module _ (x : Numbers) (steps : ℕ) {race : FirstRace} where
-  pub refused_parts : race ≡ None
-      → line (bytes "REFUSE" ∷ (number_fields x ++ (decimal steps ∷ race_after race))) []
+module _ (x : Numbers) (steps : ℕ) {found : Option Race} where
+  pub refused_parts : found ≡ None
+      → line (bytes "REFUSE" ∷ (number_fields x ++ (decimal steps ∷ race_after found))) []
       ≡ bytes "REFUSE," ++ (opened (number_fields x) ++ (decimal steps ++ (10 ∷ [])))
   unfolding line race_after
   refused_parts e =
-      refused_headed x (decimal steps) (race_after race)
-      ∙ ap (λ (r : FirstRace). bytes "REFUSE," ++ (opened (number_fields x) ++ line (decimal steps ∷ race_after r) [])) e
+      refused_headed x (decimal steps) (race_after found)
+      ∙ ap (λ (r : Option Race). bytes "REFUSE," ++ (opened (number_fields x) ++ line (decimal steps ∷ race_after r) [])) e
 
-  pub refused_raced_parts : {n i j : ℕ} → race ≡ Found n i j
-      → line (bytes "REFUSE" ∷ (number_fields x ++ (decimal steps ∷ race_after race))) []
-      ≡ bytes "REFUSE," ++ (opened (number_fields x) ++ ((decimal steps ++ (44 ∷ [])) ++ (bytes "RACE," ++ line (race_fields n i j) [])))
+  pub refused_raced_parts : {race : Race} → found ≡ Some race
+      → line (bytes "REFUSE" ∷ (number_fields x ++ (decimal steps ∷ race_after found))) []
+      ≡ bytes "REFUSE," ++ (opened (number_fields x) ++ ((decimal steps ++ (44 ∷ [])) ++ (bytes "RACE," ++ line (race_fields race) [])))
   unfolding bytes line race_after race_fields
-  refused_raced_parts {n} {i} {j} e =
-      refused_headed x (decimal steps) (race_after race)
-      ∙ ap (λ (r : FirstRace). bytes "REFUSE," ++ (opened (number_fields x) ++ line (decimal steps ∷ race_after r) [])) e
-      ∙ ap (λ (l : List ℕ). bytes "REFUSE," ++ (opened (number_fields x) ++ l)) (next_field (decimal steps) (bytes "RACE") (race_fields n i j))
+  refused_raced_parts {race} e =
+      refused_headed x (decimal steps) (race_after found)
+      ∙ ap (λ (r : Option Race). bytes "REFUSE," ++ (opened (number_fields x) ++ line (decimal steps ∷ race_after r) [])) e
+      ∙ ap (λ (l : List ℕ). bytes "REFUSE," ++ (opened (number_fields x) ++ l)) (next_field (decimal steps) (bytes "RACE") (race_fields race))
 
 -- ------------------------------------------------------------------ lengths
 
@@ -92,15 +92,16 @@ short_number n h = decimal_length 10 n (omega arith) (omega arith)
 pub long_number : (n : ℕ) → n < 18446744073709551616 → length (decimal n) ≤ 20
 long_number n h = decimal_length 20 n (omega arith) (omega arith)
 
-race_long : (n i j : ℕ) → length (line (race_fields n i j) []) ≡ length (decimal n) + length (decimal i) + length (decimal j) + 3
-race_long n i j =
+race_long : (race : Race) → length (line (race_fields race) [])
+    ≡ length (decimal race.state) + length (decimal race.lower) + length (decimal race.other) + 3
+race_long race =
     rw (
       race_parts,
-      length-append (decimal n ++ (44 ∷ [])),
-      length-append (decimal n),
-      length-append (decimal i ++ (44 ∷ [])),
-      length-append (decimal i),
-      length-append (decimal j),
+      length-append (decimal race.state ++ (44 ∷ [])),
+      length-append (decimal race.state),
+      length-append (decimal race.lower ++ (44 ∷ [])),
+      length-append (decimal race.lower),
+      length-append (decimal race.other),
     )
     (omega arith)
 
@@ -120,22 +121,31 @@ four_long x =
     )
     (omega arith)
 
-module _ (steps : ℕ) {race : FirstRace} (h : steps < 18446744073709551616) where
-  pub ran_short : race ≡ None → length (line (ran_with steps race) []) ≤ 69
+-- a state of 64 bits, and threads of 32
+pub record SmallRace (race : Race) : Type 0 where
+  pub state : race.state < 18446744073709551616
+  pub lower : race.lower < 4294967296
+  pub other : race.other < 4294967296
+
+race_short : (race : Race) → SmallRace race → length (line (race_fields race) []) ≤ 43
+race_short race k =
+    let ln = long_number race.state k.state in
+    let li = short_number race.lower k.lower in
+    let lj = short_number race.other k.other in
+    omega (arith, race_long race)
+
+module _ (steps : ℕ) {found : Option Race} (h : steps < 18446744073709551616) where
+  pub ran_short : found ≡ None → length (line (ran_with steps found) []) ≤ 69
   unfolding bytes
   ran_short e =
       let l = long_number steps h in
       rw (ran_parts steps e, length-append (decimal steps)) (omega arith)
 
-  pub raced_short : {n i j : ℕ} → race ≡ Found n i j → n < 18446744073709551616 → i < 4294967296 → j < 4294967296
-      → length (line (ran_with steps race) []) ≤ 69
+  pub raced_short : {race : Race} → found ≡ Some race → SmallRace race → length (line (ran_with steps found) []) ≤ 69
   unfolding bytes
-  raced_short {n} {i} {j} e hn hi hj =
+  raced_short {race} e k =
       let l = long_number steps h in
-      let ln = long_number n hn in
-      let li = short_number i hi in
-      let lj = short_number j hj in
-      rw (raced_parts steps e, length-append (decimal steps ++ (44 ∷ [])), length-append (decimal steps)) (omega (arith, race_long n i j))
+      rw (raced_parts steps e, length-append (decimal steps ++ (44 ∷ [])), length-append (decimal steps)) (omega (arith, race_short race k))
 
 -- four numbers of that many bits
 pub record Small (x : Numbers) : Type 0 where
@@ -152,25 +162,30 @@ four_short x k =
     let lp = short_number x.location k.location in
     omega (arith, four_long x)
 
-module _ (x : Numbers) (steps : ℕ) {race : FirstRace} (k : Small x) (h : steps < 18446744073709551616) where
-  pub refused_short : race ≡ None → length (line (bytes "REFUSE" ∷ (number_fields x ++ (decimal steps ∷ race_after race))) []) ≤ 130
+module _ (x : Numbers) (steps : ℕ) {found : Option Race} (k : Small x) (h : steps < 18446744073709551616) where
+  pub refused_short : found ≡ None → length (line (bytes "REFUSE" ∷ (number_fields x ++ (decimal steps ∷ race_after found))) []) ≤ 130
   unfolding bytes
   refused_short e =
       let l = long_number steps h in
       rw (refused_parts x steps e, length-append (opened (number_fields x)), length-append (decimal steps)) (omega (arith, four_short x k))
 
-  pub refused_raced_short : {n i j : ℕ} → race ≡ Found n i j → n < 18446744073709551616 → i < 4294967296 → j < 4294967296
-      → length (line (bytes "REFUSE" ∷ (number_fields x ++ (decimal steps ∷ race_after race))) []) ≤ 130
+  pub refused_raced_short : {race : Race} → found ≡ Some race → SmallRace race
+      → length (line (bytes "REFUSE" ∷ (number_fields x ++ (decimal steps ∷ race_after found))) []) ≤ 130
   unfolding bytes
-  refused_raced_short {n} {i} {j} e hn hi hj =
+  refused_raced_short {race} e r =
       let l = long_number steps h in
-      let ln = long_number n hn in
-      let li = short_number i hi in
-      let lj = short_number j hj in
       rw (refused_raced_parts x steps e, length-append (opened (number_fields x)), length-append (decimal steps ++ (44 ∷ [])), length-append (decimal steps))
-      (omega (arith, four_short x k, race_long n i j))
+      (omega (arith, four_short x k, race_short race r))
 
 -- ------------------------------------------------------------------ what is written is the line
+
+not_done : (ending : Ending) → (ending ≡ Done → ⊥) → is_done ending ≡ false
+unfolding is_done
+not_done Done h = absurd (h refl)
+not_done (Refused r) h = refl
+not_done (TraceForm k) h = refl
+not_done (NoStep k) h = refl
+not_done (PastLimit k) h = refl
 
 module _ {d d' : List ℕ} {n : ℕ} where
   pub written_short : {s : List ℕ} {most : ℕ} → length s ≤ most → WrittenAt d d' 0 s n → n ≤ most
@@ -180,16 +195,16 @@ module _ {d d' : List ℕ} {n : ℕ} where
   reworded : {s t : List ℕ} → s ≡ t → WrittenAt d d' 0 s n → WrittenAt d d' 0 t n
   reworded e w = subst (λ (s : List ℕ). WrittenAt d d' 0 s n) e w
 
-  pub ran_written : {o : Outcome} {r : Replayed} → o ≡ Ran r → is_done r.ending ≡ true
+  pub ran_written : {o : Option Replayed} {r : Replayed} → o ≡ Some r → r.ending ≡ Done
       → WrittenAt d d' 0 (line (ran_fields r.report) []) n → WrittenAt d d' 0 (output_line o) n
-  unfolding replayed_fields output_line
+  unfolding replayed_fields output_line is_done
   ran_written e h w = reworded (sym (ap output_line e ∙ rw h)) w
 
-  pub refused_written : {o : Outcome} {r : Replayed} {x : Numbers} → o ≡ Ran r → is_done r.ending ≡ false → x ≡ returned_for r.ending
+  pub refused_written : {o : Option Replayed} {r : Replayed} {x : Numbers} → o ≡ Some r → (r.ending ≡ Done → ⊥) → x ≡ returned_for r.ending
       → WrittenAt d d' 0 (line (refused_fields x r.report) []) n → WrittenAt d d' 0 (output_line o) n
   unfolding replayed_fields output_line
-  refused_written {r = r} e h f w = reworded (ap (λ (y : Numbers). line (refused_fields y r.report) []) f ∙ sym (ap output_line e ∙ rw h)) w
+  refused_written {r = r} e h f w = reworded (ap (λ (y : Numbers). line (refused_fields y r.report) []) f ∙ sym (ap output_line e ∙ rw (not_done r.ending h))) w
 
-  pub unread_written : {o : Outcome} → o ≡ Unread → WrittenAt d d' 0 (bytes "UNREAD" ++ (10 ∷ [])) n → WrittenAt d d' 0 (output_line o) n × (n ≤ 130)
+  pub unread_written : {o : Option Replayed} → o ≡ None → WrittenAt d d' 0 (bytes "UNREAD" ++ (10 ∷ [])) n → WrittenAt d d' 0 (output_line o) n
   unfolding bytes line output_line
-  unread_written e w = (reworded (sym (ap output_line e)) w, omega (arith, w.moved))
+  unread_written e w = reworded (sym (ap output_line e)) w

@@ -8,8 +8,8 @@ ghost use Rattle.replay_theory.specs.Replay.{line_numbers, returned_for};
 ghost use Rattle.replay_theory.specs.declared.Ending.TheVariants.{Refused as EndsRefused};
 ghost use Rattle.replay_answers.specs.Numbers.{race_numbers};
 
-pub use line::{Outcome, write_line};
-use replay_theory::{Ending, FirstRace, Numbers};
+pub use line::write_line;
+use replay_theory::{Ending, Numbers, Race};
 use spec::{Answer, Refusal};
 
 // The state and the threads of a race in numbers; without one, the largest number of each kind.
@@ -20,27 +20,27 @@ pub struct RaceNumbers {
     pub second: u32,
 }
 
-pub fn race_numbers(race: FirstRace) -> RaceNumbers
-    ensures { result ≡ race_numbers race }
-{
-    match race {
-        FirstRace::None => RaceNumbers {
-            state: 18446744073709551615,
-            first: 4294967295,
-            second: 4294967295,
-        },
-        FirstRace::Found {
-            state: n,
-            lower: i,
-            other: j,
-        } => RaceNumbers {
-            state: n,
-            first: i,
-            second: j,
-        },
+#[tactic(auto, unfolding(crate::specs::Numbers::race_numbers))]
+impl From<Option<Race>> for RaceNumbers {
+    ghost from_gives = { λ race numbers. numbers ≡ race_numbers race };
+
+    fn from(race: Option<Race>) -> RaceNumbers {
+        match race {
+            None => RaceNumbers {
+                state: usize::MAX,
+                first: u32::MAX,
+                second: u32::MAX,
+            },
+            Some(race) => RaceNumbers {
+                state: race.state,
+                first: race.lower,
+                second: race.other,
+            },
+        }
     }
 }
 
+#[tactic(auto, unfolding(replay_theory::specs::Replay::line_numbers))]
 fn line_numbers(number: u32, line: usize) -> Numbers
     ensures { result ≡ line_numbers number line }
 {
@@ -52,20 +52,21 @@ fn line_numbers(number: u32, line: usize) -> Numbers
     }
 }
 
+#[tactic(auto, unfolding(replay_theory::specs::Replay::returned_for, replay_theory::specs::Replay::sheet_numbers))]
 fn sheet_numbers(r: Refusal) -> Numbers
     ensures { result ≡ returned_for (EndsRefused r) }
 {
     let four = answers::numbers_of(Answer::Refuse(r));
-    let line = workspace::index(four.line);
     Numbers {
         number: four.number,
-        line,
+        line: four.line as usize,
         condition: four.condition,
         location: four.location,
     }
 }
 
 // The four numbers of an ending.
+#[tactic(auto, unfolding(replay_theory::specs::Replay::returned_for))]
 pub fn ending_numbers(ending: Ending) -> Numbers
     ensures { result ≡ returned_for ending }
 {

@@ -2,26 +2,19 @@
 ghost use Rattle.std.specs.Prelude.{◌≡◌, [], ◌≤◌};
 ghost use Rattle.text_theory.specs.Text.{line};
 ghost use Rattle.writer.specs.Buffer.{WrittenAt};
-ghost use Rattle.replay_answers.specs.Line.{race_fields, ran_fields, number_fields, refused_fields, opened, is_done, output_line};
+ghost use Rattle.replay_answers.specs.Line.{race_fields, ran_fields, number_fields, refused_fields, opened, output_line};
 
 use crate::ending_numbers;
-use replay_theory::{Ending, FirstRace, Numbers, Replayed, Report};
+use replay_theory::{Ending, Numbers, Race, Replayed, Report};
 use writer::{write_bytes, write_field};
 
-// What a run comes to: the replay of the program and the trace, or that they can't be read.
-#[derive(Clone, Copy)]
-pub enum Outcome {
-    Ran(Replayed),
-    Unread,
-}
-
 // The state of a race and its two threads, which close a line.
-fn write_race(buffer: &mut [u8], at: usize, state: usize, lower: u32, other: u32) -> usize
-    ensures { WrittenAt buffer.old buffer.new at (line (race_fields state lower other) []) result }
+fn write_race(buffer: &mut [u8], at: usize, race: Race) -> usize
+    ensures { WrittenAt buffer.old buffer.new at (line (race_fields race) []) result }
 {
-    let counted = write_field(buffer, at, state as u64, b',');
-    let first = write_field(buffer, counted, lower as u64, b',');
-    write_field(buffer, first, other as u64, b'\n')
+    let counted = write_field(buffer, at, race.state as u64, b',');
+    let first = write_field(buffer, counted, race.lower as u64, b',');
+    write_field(buffer, first, race.other as u64, b'\n')
 }
 
 // The line of a trace that is done.
@@ -30,20 +23,15 @@ fn write_ran(buffer: &mut [u8], report: Report) -> usize
     ensures upper_bound { result ≤ 69 }
 {
     let steps = report.steps as u64;
-    let race = report.race;
-    match race {
-        FirstRace::None => {
+    match report.race {
+        None => {
             let headed = write_bytes(buffer, 0, b"RAN,");
             write_field(buffer, headed, steps, b'\n')
         }
-        FirstRace::Found {
-            state: n,
-            lower: i,
-            other: j,
-        } => {
+        Some(race) => {
             let headed = write_bytes(buffer, 0, b"RACE,");
             let counted = write_field(buffer, headed, steps, b',');
-            write_race(buffer, counted, n, i, j)
+            write_race(buffer, counted, race)
         }
     }
 }
@@ -64,49 +52,28 @@ fn write_refused(buffer: &mut [u8], x: Numbers, report: Report) -> usize
     ensures upper_bound { result ≤ 130 }
 {
     let steps = report.steps as u64;
-    let race = report.race;
     let headed = write_bytes(buffer, 0, b"REFUSE,");
     let told = write_four(buffer, headed, x);
-    match race {
-        FirstRace::None => write_field(buffer, told, steps, b'\n'),
-        FirstRace::Found {
-            state: n,
-            lower: i,
-            other: j,
-        } => {
+    match report.race {
+        None => write_field(buffer, told, steps, b'\n'),
+        Some(race) => {
             let counted = write_field(buffer, told, steps, b',');
             let named = write_bytes(buffer, counted, b"RACE,");
-            write_race(buffer, named, n, i, j)
+            write_race(buffer, named, race)
         }
     }
 }
 
-fn is_done(ending: Ending) -> bool
-    ensures { result ≡ is_done ending }
-{
-    match ending {
-        Ending::Done => true,
-        Ending::Refused(_) => false,
-        Ending::TraceForm(_) => false,
-        Ending::NoStep(_) => false,
-        Ending::PastLimit(_) => false,
-    }
-}
-
-// Writes the line in front of a buffer, and hands back its length.
-pub fn write_line(buffer: &mut [u8], outcome: Outcome) -> usize
+// Writes the line of a replay at the front of a buffer, or of a program and a trace that can't be read; returns its length.
+pub fn write_line(buffer: &mut [u8], outcome: Option<Replayed>) -> usize
     ensures line { WrittenAt buffer.old buffer.new 0 (output_line outcome) result }
     ensures short { result ≤ 130 }
 {
-    match outcome {
-        Outcome::Unread => write_bytes(buffer, 0, b"UNREAD\n"),
-        Outcome::Ran(replayed) => {
-            let ending = replayed.ending;
-            let report = replayed.report;
-            if is_done(ending) {
-                return write_ran(buffer, report);
-            }
-            write_refused(buffer, ending_numbers(ending), report)
-        }
+    let Some(Replayed { ending, report }) = outcome else {
+        return write_bytes(buffer, 0, b"UNREAD\n");
+    };
+    match ending {
+        Ending::Done => write_ran(buffer, report),
+        _ => write_refused(buffer, ending_numbers(ending), report),
     }
 }

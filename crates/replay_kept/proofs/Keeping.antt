@@ -1,7 +1,9 @@
 -- Numbers that keep a run: the records, thread by thread, then the numbers in front of them.
 use Prim.Native.Nat.{ℕ, ◌+◌, ◌<◌, ◌≤◌}
 use mathlib.Core.Path.{◌≡◌, refl, sym, ◌∙◌, ap}
+use mathlib.Core.Bool.{Bool}
 use mathlib.Core.List.{List, [], ◌∷◌}
+use Rattle.std.specs.Int.{from_bool}
 use native.Mathlib.Omega.{arith}
 use native.Mathlib.Decide.{ℕ_discrete}
 use lib.ListN.{length, get_or, set, take, drop, length-set}
@@ -84,25 +86,38 @@ keep_all t rs w₀ w h K = (λ i l. K.kept i (omega (arith, h, l)), K.front)
 
 -- ------------------------------------------------------------------ the numbers in front of them
 
-module _ (w : List ℕ) (long : length w ≡ kept_size) (goes : ℕ) (t : Told) (raced count : ℕ) where
-  abbrev front : (number condition location first second : ℕ) → List ℕ
-  front n c p i j = goes ∷ n ∷ t.ending.line ∷ c ∷ p ∷ t.steps ∷ raced ∷ t.race.state ∷ i ∷ j ∷ count ∷ []
+-- the numbers of 32 bits of what a run tells
+pub record Small (t : Told) : Type 0 where
+  pub number : t.ending.number < 4294967296
+  pub condition : t.ending.condition < 4294967296
+  pub location : t.ending.location < 4294967296
+  pub first : t.race.first < 4294967296
+  pub second : t.race.second < 4294967296
 
-  pub front_kept : {n c p i j : ℕ} → (n ≡ t.ending.number) × (n < 4294967296) → (c ≡ t.ending.condition) × (c < 4294967296) → (p ≡ t.ending.location) × (p < 4294967296) →
-      (i ≡ t.race.first) × (i < 4294967296) → (j ≡ t.race.second) × (j < 4294967296) → FrontKept goes t raced count w (sets w 0 (front n c p i j))
+module _ (w : List ℕ) (goes : Bool) (t : Told) (raced : Bool) (count : ℕ) where
+  abbrev front : List ℕ
+  front =
+      from_bool goes ∷ t.ending.number ∷ t.ending.line ∷ t.ending.condition ∷ t.ending.location ∷ t.steps
+      ∷ from_bool raced ∷ t.race.state ∷ t.race.first ∷ t.race.second ∷ count ∷ []
+
+  pub front_kept : length w ≡ kept_size → Small t → FrontKept goes t raced count w (sets w 0 front)
   unfolding told_in race_in
-  front_kept {n} {c} {p} {i} {j} (n_is, n_low) (c_is, c_low) (p_is, p_low) (i_is, i_low) (j_is, j_low) =
-      rw (sets-eq (front n c p i j) w 0 (omega (arith, long))) (record {
-        is_going = refl;
-        told = λ k. record {
-          ending = record { number = (small_stays n n_low ∙ n_is) k; line = t.ending.line; condition = (small_stays c c_low ∙ c_is) k; location = (small_stays p p_low ∙ p_is) k };
-          steps = t.steps;
-          race = record { state = t.race.state; first = (small_stays i i_low ∙ i_is) k; second = (small_stays j j_low ∙ j_is) k };
-        };
-        is_raced = refl;
-        counted = refl;
-        behind = refl;
-      })
+  front_kept long small = rw (sets-eq front w 0 (omega (arith, long))) (record {
+    is_going = refl;
+    told = λ k. record {
+      ending = record {
+        number = small_stays t.ending.number small.number k;
+        line = t.ending.line;
+        condition = small_stays t.ending.condition small.condition k;
+        location = small_stays t.ending.location small.location k;
+      };
+      steps = t.steps;
+      race = record { state = t.race.state; first = small_stays t.race.first small.first k; second = small_stays t.race.second small.second k };
+    };
+    is_raced = refl;
+    counted = refl;
+    behind = refl;
+  })
 
 -- ------------------------------------------------------------------ the records behind them
 

@@ -1,20 +1,20 @@
 -- A run as numbers: what they say of it, and what it is for them to keep the parts of one.
-use Rattle.std.specs.Prelude.{ℕ, ◌+◌, ◌<◌, ◌≡◌, List, eqb, get_or, drop}
+use Rattle.std.specs.Prelude.{ℕ, ◌+◌, ◌<◌, ◌≡◌, List, Bool, eqb, get_or, drop, Option, is_some}
+use Rattle.std.specs.Int.{from_bool}
 use Rattle.spec.specs.Choice.{when◌then◌else◌}
 use Rattle.lexer.specs.Numbers.{stored}
 use Rattle.threads.specs.declared.Record.{Record}
 use Rattle.threads.specs.Records.{no_record}
 use Rattle.replay_theory.specs.declared.Status.{Status}
 use Rattle.replay_theory.specs.declared.Status.TheVariants.{Running, Finished, Joined}
-use Rattle.replay_theory.specs.declared.FirstRace.{FirstRace}
-use Rattle.replay_theory.specs.declared.FirstRace.TheVariants.{None, Found}
+use Rattle.replay_theory.specs.declared.Race.{Race}
 use Rattle.replay_theory.specs.declared.Replayed.{Replayed}
 use Rattle.replay_theory.specs.Replay.{returned_for}
 use Rattle.replay_answers.specs.declared.RaceNumbers.{RaceNumbers}
 use Rattle.replay_answers.specs.Numbers.{answer_told, race_told, race_numbers}
 use Rattle.replay_kept.specs.declared.numbers.Told.{Told}
 
--- so many numbers keep a run
+-- how many numbers keep a run
 abbrev pub kept_size : ℕ
 kept_size = 43
 
@@ -22,10 +22,6 @@ kept_size = 43
 
 unfoldable pub told_numbers : Replayed → Told
 told_numbers r = record { ending = returned_for r.ending; steps = r.report.steps; race = race_numbers r.report.race }
-
-unfoldable pub raced_number : FirstRace → ℕ
-raced_number None = 0
-raced_number (Found n i j) = 1
 
 unfoldable pub status_number : Status → ℕ
 status_number Running = 0
@@ -51,14 +47,14 @@ told_in w = record { ending = answer_told (stored (get_or w 1 0)) (get_or w 2 0)
 abbrev pub RecordsKept : List Record → List ℕ → Type 0
 RecordsKept rs w = (t : ℕ) → t < 16 → record_in w t ≡ get_or rs t no_record
 
-pub record RaceKept (race : FirstRace) (w : List ℕ) : Type 0 where
-  pub raced : get_or w 6 0 ≡ raced_number race
+pub record RaceKept (race : Option Race) (w : List ℕ) : Type 0 where
+  pub raced : get_or w 6 0 ≡ from_bool (is_some race)
   pub told : race_in w ≡ race_numbers race
 
 -- the numbers in front of the records, and that the records are as they were
-pub record FrontKept (goes : ℕ) (t : Told) (raced count : ℕ) (w w' : List ℕ) : Type 0 where
-  pub is_going : get_or w' 0 0 ≡ goes
+pub record FrontKept (goes : Bool) (t : Told) (raced : Bool) (count : ℕ) (w w' : List ℕ) : Type 0 where
+  pub is_going : get_or w' 0 0 ≡ from_bool goes
   pub told : told_in w' ≡ t
-  pub is_raced : get_or w' 6 0 ≡ raced
+  pub is_raced : get_or w' 6 0 ≡ from_bool raced
   pub counted : get_or w' 10 0 ≡ count
   pub behind : drop 11 w' ≡ drop 11 w

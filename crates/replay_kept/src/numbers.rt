@@ -4,8 +4,8 @@ ghost use Rattle.spec.specs.declared.Refusal.TheVariants.{ShortWorkspace};
 ghost use Rattle.replay_theory.specs.Replay.{refused as refused_by};
 ghost use Rattle.replay_kept.specs.Kept.{told_numbers};
 
-use replay_answers::RaceNumbers;
-use replay_theory::{Ending, FirstRace, Numbers, Replayed, Report};
+use replay_answers::{RaceNumbers, ending_numbers};
+use replay_theory::{Ending, Numbers, Replayed, Report};
 use spec::Refusal;
 
 #[derive(Clone, Copy)]
@@ -15,30 +15,29 @@ pub struct Told {
     pub race: RaceNumbers,
 }
 
-pub fn numbers_told(r: Replayed) -> Told
-    ensures { result ≡ told_numbers r }
-{
-    let end = r.ending;
-    let report = r.report;
-    let steps = report.steps;
-    let first = report.race;
-    let ending = replay_answers::ending_numbers(end);
-    let race = replay_answers::race_numbers(first);
-    Told {
-        ending,
-        steps,
-        race,
+#[tactic(auto, unfolding(crate::specs::Kept::told_numbers))]
+impl From<Replayed> for Told {
+    ghost from_gives = { λ r told. told ≡ told_numbers r };
+
+    fn from(r: Replayed) -> Told {
+        Told {
+            ending: ending_numbers(r.ending),
+            steps: r.report.steps,
+            race: RaceNumbers::from(r.report.race),
+        }
     }
 }
 
 // What is told of buffers that are too short.
+#[tactic(auto, unfolding(replay_theory::specs::Replay::refused))]
 pub fn short_told() -> Told
     ensures { result ≡ told_numbers (refused_by ShortWorkspace) }
 {
-    let ending = Ending::Refused(Refusal::ShortWorkspace);
-    let report = Report {
-        steps: 0,
-        race: FirstRace::None,
-    };
-    numbers_told(Replayed { ending, report })
+    Told::from(Replayed {
+        ending: Ending::Refused(Refusal::ShortWorkspace),
+        report: Report {
+            steps: 0,
+            race: None,
+        },
+    })
 }

@@ -1,5 +1,5 @@
 -- The replay on the machine is the replay of crates/replay_theory, for every space, program and trace.
-use Rattle.std.proofs.Common.{Option, None as none, Some as some, option_map as map, Result, Ok, Err}
+use Rattle.std.proofs.Common.{Option, None, Some, option_map as map, Result, Ok, Err}
 use Prim.Native.Nat.{ℕ, suc, ◌+◌}
 use mathlib.Core.Path.{◌≡◌, refl, sym, ◌∙◌, ap}
 use mathlib.Core.Bool.{Bool, true, false, ◌&&◌}
@@ -22,8 +22,7 @@ use Rattle.replay_theory.specs.LowestPair.{lowest_among}
 use Rattle.replay_theory.specs.Replay as answer
 use Rattle.replay_theory.specs.Replay.{Outcome, past_limit, step as step_of, check_limits, line_outcome, continue, execution, race_or, first_race, judged}
 use Rattle.replay_theory.specs.declared.Ending.{Ending}
-use Rattle.replay_theory.specs.declared.FirstRace.{FirstRace}
-use Rattle.replay_theory.specs.declared.FirstRace.TheVariants.{None, Found}
+use Rattle.replay_theory.specs.declared.Race.{Race}
 use Rattle.replay_theory.specs.declared.Replayed.{Replayed}
 use Rattle.replay_theory.proofs.Answer.{judged_well_formed}
 use Rattle.replay_machine.specs.Environment.{zeros}
@@ -62,36 +61,36 @@ within_alike R = ap (λ (b : Bool). run.within_limits (length R.machine.threads)
 -- ---- The first race
 
 -- The race found before, or else the first of those behind.
-abbrev then_race : FirstRace → FirstRace → FirstRace
+abbrev then_race : Option Race → Option Race → Option Race
 then_race None later = later
-then_race (Found k i j) later = Found k i j
+then_race (Some race) later = Some race
 
-race_moves_on : (race : FirstRace) (k : ℕ) (pair : Option (ℕ × ℕ)) (later : FirstRace) →
+race_moves_on : (race : Option Race) (k : ℕ) (pair : Option (ℕ × ℕ)) (later : Option Race) →
     then_race (or_race race k pair) later ≡ then_race race (race_or k pair later)
 unfolding or_race race_or
-race_moves_on None k none later = refl
-race_moves_on None k (some p) later = refl
-race_moves_on (Found n i j) k pair later = refl
+race_moves_on None k None later = refl
+race_moves_on None k (Some p) later = refl
+race_moves_on (Some race) k pair later = refl
 
-no_race_behind : (race : FirstRace) → then_race race None ≡ race
+no_race_behind : (race : Option Race) → then_race race None ≡ race
 no_race_behind None = refl
-no_race_behind (Found k i j) = refl
+no_race_behind (Some race) = refl
 
 -- ---- Lines in turn
 
 -- What is reported at the end, after k steps with that race so far.
-abbrev at_end : ℕ → FirstRace → List Run × Ending → Replayed
+abbrev at_end : ℕ → Option Race → List Run × Ending → Replayed
 at_end k race w = ended w.1 (k + length w.0) (then_race race (first_race (k + 1) w.0))
 
-ends : (ending : Ending) (k : ℕ) (race : FirstRace) → ended ending k race ≡ at_end k race ([], ending)
+ends : (ending : Ending) (k : ℕ) (race : Option Race) → ended ending k race ≡ at_end k race ([], ending)
 unfolding first_race
-ends ending k race = let None-more : k ≡ k + 0 = omega arith in λ i. ended ending (None-more i) (sym (no_race_behind race) i)
+ends ending k race = let none-more : k ≡ k + 0 = omega arith in λ i. ended ending (none-more i) (sym (no_race_behind race) i)
 
 abbrev Alike : List Line → Type 0
-Alike ls = (k : ℕ) (race : FirstRace) (R : Replay) → Counted R → play_from k race R ls ≡ at_end k race (execution (k + 1) (run_of R) ls)
+Alike ls = (k : ℕ) (race : Option Race) (R : Replay) → Counted R → play_from k race R ls ≡ at_end k race (execution (k + 1) (run_of R) ls)
 
 -- A step is done, and the rest goes on from there.
-step_alike : (ls : List Line) (k : ℕ) (race : FirstRace) (R : Replay) → Alike ls → Counted R →
+step_alike : (ls : List Line) (k : ℕ) (race : Option Race) (R : Replay) → Alike ls → Counted R →
     play_from (k + 1) (or_race race (k + 1) (lowest_pair R)) R ls ≡ at_end k race (continue (k + 1) (step_of (run_of R)) (λ r. execution (k + 1 + 1) r ls))
 unfolding continue first_race
 step_alike ls k race R alike C =
@@ -110,7 +109,7 @@ step_alike ls k race R alike C =
         race_moves_on race (k + 1) (lowest_pair R) (first_race (k + 1 + 1) rest.0)
         ∙ ap (λ (p : Option (ℕ × ℕ)). then_race race (race_or (k + 1) p (first_race (k + 1 + 1) rest.0))) (sym (pair_alike R))
 
-module _ (ls : List Line) (k : ℕ) (race : FirstRace) (R : Replay) (alike : Alike ls) (C : Counted R) where
+module _ (ls : List Line) (k : ℕ) (race : Option Race) (R : Replay) (alike : Alike ls) (C : Counted R) where
   abbrev playing : Outcome Replay → Replayed
   playing o = play_on k race o (λ R'. play_from (k + 1) (or_race race (k + 1) (lowest_pair R')) R' ls)
 
@@ -120,8 +119,8 @@ module _ (ls : List Line) (k : ℕ) (race : FirstRace) (R : Replay) (alike : Ali
   stepped_alike : (l : TraceLine) (o : Option Replay) → stepped R l ≡ o →
       playing (check_limits within o) ≡ at_end k race (going (check_limits run.within (map run_of o)))
   unfolding check_limits play_on continue
-  stepped_alike l none q = ends _ k race
-  stepped_alike l (some R') q =
+  stepped_alike l None q = ends _ k race
+  stepped_alike l (Some R') q =
       by_limit (within R') refl ∙ ap (λ (b : Bool). at_end k race (going (when b then step_of (run_of R') else past_limit))) (sym (within_alike R'))
     where
       by_limit : (b : Bool) → within R' ≡ b → playing (when b then step_of R' else past_limit) ≡ at_end k race (going (when b then step_of (run_of R') else past_limit))
@@ -130,8 +129,8 @@ module _ (ls : List Line) (k : ℕ) (race : FirstRace) (R : Replay) (alike : Ali
 
   line_goes_on : (o : Option TraceLine) → playing (line_outcome (stepped R) within o) ≡ at_end k race (going (line_outcome (run.stepped (run_of R)) run.within o))
   unfolding line_outcome play_on continue
-  line_goes_on none = ends _ k race
-  line_goes_on (some l) =
+  line_goes_on None = ends _ k race
+  line_goes_on (Some l) =
       stepped_alike l (stepped R l) refl ∙ ap (λ (o : Option Run). at_end k race (going (check_limits run.within o))) (sym (line_alike R C.kept C.named l))
 
 trace_alike : (ls : List Line) → Alike ls

@@ -1,6 +1,6 @@
 -- A replay on the machine, with its counts and what it has found so far: what the code runs. proofs/Replay shows that it is the replay of
 -- crates/replay_theory.
-use Rattle.std.specs.Prelude.{ℕ, ◌+◌, Bool, true, false, ◌&&◌, List, [], ◌∷◌, leb, length, Option, None as none, Some as some, Result, Ok, Err, slice_get}
+use Rattle.std.specs.Prelude.{ℕ, ◌+◌, Bool, true, false, ◌&&◌, List, [], ◌∷◌, leb, length, Option, None, Some, Result, Ok, Err, slice_get}
 use Rattle.spec.specs.declared.Refusal.{Refusal}
 use Rattle.spec.specs.Text.{Line, lines}
 use Rattle.spec.specs.Program.{Program}
@@ -14,8 +14,7 @@ use Rattle.replay_theory.specs.declared.Status.{Status}
 use Rattle.replay_theory.specs.declared.Status.TheVariants.{Running, Finished, Joined}
 use Rattle.replay_theory.specs.declared.Ending.{Ending}
 use Rattle.replay_theory.specs.declared.Ending.TheVariants.{Done, TraceForm, NoStep, PastLimit}
-use Rattle.replay_theory.specs.declared.FirstRace.{FirstRace}
-use Rattle.replay_theory.specs.declared.FirstRace.TheVariants.{None, Found}
+use Rattle.replay_theory.specs.declared.Race.{Race}
 use Rattle.replay_theory.specs.declared.Replayed.{Replayed}
 use Rattle.replay_machine.specs.Control.{Control, done, at, next_redex, open_calls}
 use Rattle.replay_machine.specs.State.{MachineThread, Machine, of_live, start_machine}
@@ -39,7 +38,7 @@ status_of false (at σ w K) = Running
 
 -- The word that a thread can do next; a joined thread has none.
 unfoldable pub word_of : (joined : Bool) → MachineThread → Option Redex
-word_of true t = none
+word_of true t = None
 word_of false t = next_redex t.control
 
 unfoldable pub stepped : Replay → TraceLine → Option Replay
@@ -48,7 +47,7 @@ stepped R l = do
   w ← word_of t.joined t
   c ← part_chosen w l.choice
   M ← step R.machine l.thread c
-  some (record { machine = M; things = things_after (effect w) R.things })
+  Some (record { machine = M; things = things_after (effect w) R.things })
 
 -- The open calls of each thread that is not joined.
 unfoldable pub calls_in : Machine → List ℕ
@@ -70,23 +69,23 @@ unfoldable pub lowest_pair : Replay → Option (ℕ × ℕ)
 lowest_pair R = lowest_among (uses_in R.machine)
 
 -- The race found before, or else one of this state.
-unfoldable pub or_race : FirstRace → (state : ℕ) → Option (ℕ × ℕ) → FirstRace
+unfoldable pub or_race : Option Race → (state : ℕ) → Option (ℕ × ℕ) → Option Race
 or_race None k pair = race_or k pair None
-or_race (Found n i j) k pair = Found n i j
+or_race (Some race) k pair = Some race
 
 -- ---- Lines in turn
 
-unfoldable pub ended : Ending → (steps : ℕ) → FirstRace → Replayed
+unfoldable pub ended : Ending → (steps : ℕ) → Option Race → Replayed
 ended ending k race = record { ending = ending; report = record { steps = k; race = race } }
 
 -- After k steps, with the first race so far; the next line is line k + 1.
-unfoldable pub play_on : (k : ℕ) → FirstRace → Outcome Replay → (Replay → Replayed) → Replayed
+unfoldable pub play_on : (k : ℕ) → Option Race → Outcome Replay → (Replay → Replayed) → Replayed
 play_on k race bad_form rest = ended (TraceForm (k + 1)) k race
 play_on k race no_step rest = ended (NoStep (k + 1)) k race
 play_on k race past_limit rest = ended (PastLimit (k + 1)) k race
 play_on k race (step_of R) rest = rest R
 
-unfoldable pub play_from : (k : ℕ) → FirstRace → Replay → List Line → Replayed
+unfoldable pub play_from : (k : ℕ) → Option Race → Replay → List Line → Replayed
 play_from k race R [] = ended Done k race
 play_from k race R (l ∷ ls) =
     play_on k race (line_outcome (stepped R) within (trace_line l)) (λ R'. play_from (k + 1) (or_race race (k + 1) (lowest_pair R')) R' ls)

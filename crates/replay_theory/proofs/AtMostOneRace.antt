@@ -1,5 +1,5 @@
 -- At most one report fits the runs of a replay.
-use Rattle.std.proofs.Common.{slice_get}
+use Rattle.std.proofs.Common.{None, Some, slice_get}
 use Prim.Native.Nat.{ℕ, ◌≤◌, ◌<◌}
 use mathlib.Core.Path.{◌≡◌, refl, sym, ◌∙◌, ap, subst}
 use mathlib.Core.Logic.{◌⊎◌, inl, inr}
@@ -11,7 +11,6 @@ use Rattle.calculus.proofs.Laws.Maps.{some_injective}
 use Rattle.replay_theory.specs.Run.{Run}
 use Rattle.replay_theory.specs.Claim.{Racing, FirstRaceIs, RaceReported}
 use Rattle.replay_theory.specs.Exact.{OneRace}
-use Rattle.replay_theory.specs.declared.FirstRace.TheVariants.{None, Found}
 use Rattle.replay_theory.proofs.Lists.{every_at}
 use Rattle.replay_theory.proofs.Pairs.{racing_is_race}
 
@@ -47,7 +46,7 @@ no_race_beside {rs} {n} free F = every_at (λ r. RaceFree r.state) rs n F.run fr
 
 pub one_race : OneRace
 one_race rs None None a b = refl
-one_race rs None (Found n i j) a b = absurd (no_race_beside a b)
-one_race rs (Found n i j) None a b = absurd (no_race_beside b a)
-one_race rs (Found n i j) (Found m k l) a b =
-    let state = one_state a b in let (lower, other) = one_pair a b in λ z. Found (state z) (lower z) (other z)
+one_race rs None (Some y) a b = absurd (no_race_beside a b)
+one_race rs (Some x) None a b = absurd (no_race_beside b a)
+one_race rs (Some x) (Some y) a b =
+    let state = one_state a b in let (lower, other) = one_pair a b in λ z. Some (record { state = state z; lower = lower z; other = other z })

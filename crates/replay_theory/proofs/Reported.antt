@@ -1,5 +1,5 @@
 -- What a report says: the first state with a race of the calculus, with its lowest pair; and none for a job that is accepted.
-use Rattle.std.proofs.Common.{None as none, Result, Ok, Err, slice_get}
+use Rattle.std.proofs.Common.{Option, None, Some, Result, Ok, Err, slice_get}
 use Prim.Native.Nat.{ℕ}
 use mathlib.Core.Path.{◌≡◌, refl, sym, ◌∙◌, ap, subst}
 use mathlib.Core.List.{List, [], ◌∷◌}
@@ -20,8 +20,7 @@ use Rattle.replay_theory.specs.Run.{Run, start_run}
 use Rattle.replay_theory.specs.LowestPair.{uses_in, clashing, pair_or, lowest_among, lowest_pair}
 use Rattle.replay_theory.specs.Replay.{execution, reported, refused, judged, replayed, replay, returned_for}
 use Rattle.replay_theory.specs.Claim.{runs_along, runs_of, Follows, FirstRaceIs, RaceReported, TraceFollowed, RaceFound, NoneIfAccepted}
-use Rattle.replay_theory.specs.declared.FirstRace.{FirstRace}
-use Rattle.replay_theory.specs.declared.FirstRace.TheVariants.{None, Found}
+use Rattle.replay_theory.specs.declared.Race.{Race}
 use Rattle.replay_theory.proofs.Lists.{every_at, every_both}
 use Rattle.replay_theory.specs.declared.Replayed.{Replayed}
 use Rattle.replay_theory.proofs.Proper.{Proper, start_is_proper}
@@ -36,14 +35,14 @@ module _ (r : Run) (proper : Proper r) (ls : List Line) where
   all_proper : Every Proper (runs_along r ls)
   all_proper = (proper, execution_is_proper ls 1 r proper)
 
-  reported_race_is_first : (n i j : ℕ) → (reported r (execution 1 r ls)).report.race ≡ Found n i j → FirstRaceIs (runs_along r ls) n i j
+  reported_race_is_first : (race : Race) → (reported r (execution 1 r ls)).report.race ≡ Some race → FirstRaceIs (runs_along r ls) race.state race.lower race.other
   unfolding reported
-  reported_race_is_first n i j h =
-      let F = race_is_first (runs_along r ls) 0 n i j h in
+  reported_race_is_first race h =
+      let F = race_is_first (runs_along r ls) 0 race h in
       let at_n = F.counted in
-      let index_is : F.index ≡ n = omega (arith, at_n) in
+      let index_is : F.index ≡ race.state = omega (arith, at_n) in
       let proper_there = every_at Proper (runs_along r ls) F.index F.run all_proper F.there in
-      let (in_order, racing, lowest) = pair_is_lowest F.run proper_there i j F.pair in
+      let (in_order, racing, lowest) = pair_is_lowest F.run proper_there race.lower race.other F.pair in
       record {
         run = F.run;
         there = ap (slice_get (runs_along r ls)) (sym index_is) ∙ F.there;
@@ -61,9 +60,9 @@ module _ (r : Run) (proper : Proper r) (ls : List Line) where
   pub reported_race_complete : RaceReported (runs_along r ls) (reported r (execution 1 r ls)).report.race
   reported_race_complete = by_cases (reported r (execution 1 r ls)).report.race refl
     where
-      by_cases : (f : FirstRace) → (reported r (execution 1 r ls)).report.race ≡ f → RaceReported (runs_along r ls) f
+      by_cases : (f : Option Race) → (reported r (execution 1 r ls)).report.race ≡ f → RaceReported (runs_along r ls) f
       by_cases None h = no_race_reported_is_none h
-      by_cases (Found n i j) h = reported_race_is_first n i j h
+      by_cases (Some race) h = reported_race_is_first race h
 
 -- ---- Of two texts
 
@@ -97,7 +96,7 @@ module _ (room : ℕ) (program_text trace_text : List ℕ) where
   race_is_found = race_is_first_of_all room program_text trace_text
 
 -- The start has one thread, so no race is ever found in state 0.
-pub start_has_no_pair : (p : Job) → lowest_pair (start_run p) ≡ none
+pub start_has_no_pair : (p : Job) → lowest_pair (start_run p) ≡ None
 unfolding lowest_pair start_run start_state uses_in lowest_among clashing pair_or
 start_has_no_pair p = refl
 
@@ -119,10 +118,10 @@ safe_replay_has_no_race p safe ls =
       each (execution 1 (start_run p) ls).0 (execution_is_in_runs RaceFree ls 1 (start_run p) (race_free_states p safe)),
     )
   where
-    no_pair : (r : Run) → FromHere RaceFree r → lowest_pair r ≡ none
+    no_pair : (r : Run) → FromHere RaceFree r → lowest_pair r ≡ None
     no_pair r h = race_free_has_no_pair r (h []).0
 
-    each : (rs : List Run) → Every (FromHere RaceFree) rs → Every (λ r. lowest_pair r ≡ none) rs
+    each : (rs : List Run) → Every (FromHere RaceFree) rs → Every (λ r. lowest_pair r ≡ None) rs
     each [] h = tt
     each (r ∷ rs) h = (no_pair r h.0, each rs h.1)
 

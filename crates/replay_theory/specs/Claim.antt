@@ -4,7 +4,7 @@
 -- threads' numbers and how many threads there have been, and they say how each goes on. They are proved in proofs/Followed, proofs/Calls and
 -- proofs/Reported, and fit one report, one answer and one list of runs alone (Exact). Three parts are implied by the others of their record and
 -- are told for the reader: `running` and `puts_body` of a step (proofs/Implied), `races` of the first race (`told_is_race`, proofs/AtMostOneRace).
-use Rattle.std.specs.Prelude.{ℕ, suc, ◌+◌, ◌≤◌, ◌<◌, ◌≡◌, Bool, true, false, ◌&&◌, ◌⊎◌, List, [], ◌∷◌, ◌++◌, eqb, length, take, Option, None as none, Some as some, Ok, slice_get}
+use Rattle.std.specs.Prelude.{ℕ, suc, ◌+◌, ◌≤◌, ◌<◌, ◌≡◌, Bool, true, false, ◌&&◌, ◌⊎◌, List, [], ◌∷◌, ◌++◌, eqb, length, take, Option, None, Some, Ok, slice_get}
 use Rattle.spec.specs.Choice.{when◌then◌else◌}
 use Rattle.spec.specs.Text.{Line, lines}
 use Rattle.spec.specs.Program.{Program}
@@ -20,8 +20,7 @@ use Rattle.replay_theory.specs.Paths.{Path, next_path, part_at}
 use Rattle.replay_theory.specs.Run.{ObjectKind, same_kind, Run, start_run, place_of, record_of, has_finished, part_chosen, is_open, Effect, spawns, opens, makes, same_effect, effect, numbers_after, one_more_if, thread_limit, thing_limit, call_limit}
 use Rattle.replay_theory.specs.Replay.{execution, judged, line_numbers}
 use Rattle.replay_theory.specs.declared.Status.TheVariants.{Running}
-use Rattle.replay_theory.specs.declared.FirstRace.{FirstRace}
-use Rattle.replay_theory.specs.declared.FirstRace.TheVariants.{None, Found}
+use Rattle.replay_theory.specs.declared.Race.{Race as FoundRace}
 use Rattle.replay_theory.specs.declared.Numbers.{Numbers}
 
 -- The runs of a replay, the start first: state n is that of run n.
@@ -33,16 +32,16 @@ runs_of P trace_text = runs_along (start_run (erase_program P)) (lines trace_tex
 
 -- Thread i, by its number, is t and stands at that place.
 pub record Numbered (r : Run) (i place : ℕ) (t : Thread) : Type 0 where
-  pub number : slice_get r.numbers place ≡ some i
+  pub number : slice_get r.numbers place ≡ Some i
   pub thread : ThreadAt r.state place t
 
 -- ------------------------------------------------------------------ its steps
 
 -- m is a move of the thread of line l with the part that the line chooses, whatever finished thread and whatever name it lists.
 pub record MoveOf (r : Run) (l : TraceLine) (m : Move) : Type 0 where
-  pub place : place_of l.thread r.numbers ≡ some m.thread
-  pub chosen : (t : Thread) (w : Redex) → ThreadAt r.state m.thread t → word_of (next_word t.body) ≡ some w →
-      part_chosen w l.choice ≡ some m.part
+  pub place : place_of l.thread r.numbers ≡ Some m.thread
+  pub chosen : (t : Thread) (w : Redex) → ThreadAt r.state m.thread t → word_of (next_word t.body) ≡ Some w →
+      part_chosen w l.choice ≡ Some m.part
 
 -- "Among several finished threads a join takes the lowest": the thread at that place has finished, with the identifier n, and every such
 -- thread has a number at least as large.
@@ -69,23 +68,23 @@ pub record Reduced : Type 0 where
 pub record LanguageStep (r : Run) (l : TraceLine) (d : Reduced) (r' : Run) : Type 0 where
   pub move : Move
   pub listed : MoveOf r l move
-  pub running : record_of r l.thread ≡ some Running
+  pub running : record_of r l.thread ≡ Some Running
   pub thread : Thread
   pub there : ThreadAt r.state move.thread thread
   pub taker : d.thread ≡ l.thread
   pub next : next_word thread.body ≡ at_word d.word
   pub path : next_path thread.body ≡ d.path
-  pub reduces : reduce r.procedures r.state move ≡ some r'.state
+  pub reduces : reduce r.procedures r.state move ≡ Some r'.state
   pub joins_lowest : (n : ℕ) → d.word ≡ unary_redex join (name n) → LowestFinished r n move.finished
-  pub puts_body : (f : ℕ) (v : Value) (p : Procedure) → d.word ≡ unary_redex (call f) v → slice_get r.procedures f ≡ some p →
-      part_in r' d.thread d.path ≡ some (substitute p.parameter v p.body)
+  pub puts_body : (f : ℕ) (v : Value) (p : Procedure) → d.word ≡ unary_redex (call f) v → slice_get r.procedures f ≡ Some p →
+      part_in r' d.thread d.path ≡ Some (substitute p.parameter v p.body)
   pub same_procedures : r'.procedures ≡ r.procedures
   pub numbered : r'.numbers ≡ numbers_after r move (effect d.word)
   pub counted : r'.threads ≡ one_more_if spawns (effect d.word) r.threads
 
 -- The line l is no step of the language in the run r: no move of its thread with its choice is a reduction.
 abbrev pub NoStepOf : Run → TraceLine → Type 0
-NoStepOf r l = (m : Move) → MoveOf r l m → reduce r.procedures r.state m ≡ none
+NoStepOf r l = (m : Move) → MoveOf r l m → reduce r.procedures r.state m ≡ None
 
 -- ------------------------------------------------------------------ its open calls
 
@@ -107,7 +106,7 @@ open_calls_of i (d ∷ ds) (r ∷ rs) = open_calls_of i ds rs ++ (when takes_cal
 
 -- What e does next, d does, which stands at the path p in e and is no value.
 pub record Runs (e : Exp) (p : Path) (d : Exp) : Type 0 where
-  pub there : part_at p e ≡ some d
+  pub there : part_at p e ≡ Some d
   pub going : has_finished (next_word d) ≡ false
   pub next : next_word e ≡ next_word d
   pub path : next_path e ≡ p ++ next_path d
@@ -115,7 +114,7 @@ pub record Runs (e : Exp) (p : Path) (d : Exp) : Type 0 where
 -- Then, when b takes the place of the next word, d with b in it stands there, and unless that is a value, it is what runs.
 abbrev pub BodyGoesOn : Type 0
 BodyGoesOn = (b e : Exp) (p : Path) (d : Exp) (w : Redex) → next_word e ≡ at_word w → Runs e p d →
-    (part_at p (plug e b) ≡ some (plug d b)) × (has_finished (next_word (plug d b)) ≡ false → Runs (plug e b) p (plug d b))
+    (part_at p (plug e b) ≡ Some (plug d b)) × (has_finished (next_word (plug d b)) ≡ false → Runs (plug e b) p (plug d b))
 
 -- ------------------------------------------------------------------ its limits
 
@@ -136,25 +135,25 @@ pub record Within (rs : List Run) (ds : List Reduced) : Type 0 where
 -- Line n + 1 is the step from run n to run n + 1, and what is reduced is counted from 0.
 pub record StepDone (rs : List Run) (ls : List Line) (ds : List Reduced) (n : ℕ) : Type 0 where
   pub before : Run
-  pub before_there : slice_get rs n ≡ some before
+  pub before_there : slice_get rs n ≡ Some before
   pub after : Run
-  pub after_there : slice_get rs (suc n) ≡ some after
+  pub after_there : slice_get rs (suc n) ≡ Some after
   pub line : Line
-  pub line_there : slice_get ls n ≡ some line
+  pub line_there : slice_get ls n ≡ Some line
   pub read : TraceLine
-  pub shown : trace_line line ≡ some read
+  pub shown : trace_line line ≡ Some read
   pub reduced : Reduced
-  pub reduced_there : slice_get ds n ≡ some reduced
+  pub reduced_there : slice_get ds n ≡ Some reduced
   pub step : LanguageStep before read reduced after
 
 -- Stops rs ds r l k n: the runs so far are rs, by the steps ds, and the last is r; the next line is l, which is line k, and the trace ends with
 -- the answer n.
 pub data Stops (rs : List Run) (ds : List Reduced) (r : Run) : Option Line → (k : ℕ) → Numbers → Type 0 where
-  all_done : {k : ℕ} → Stops rs ds r none k (line_numbers 0 0)
-  not_aline : {k : ℕ} (l : Line) → trace_line l ≡ none → Stops rs ds r (some l) k (line_numbers 46 k)
-  cannot_step : {k : ℕ} (l : Line) (t : TraceLine) → trace_line l ≡ some t → NoStepOf r t → Stops rs ds r (some l) k (line_numbers 47 k)
-  too_many : {k : ℕ} (l : Line) (t : TraceLine) (d : Reduced) (r' : Run) → trace_line l ≡ some t → LanguageStep r t d r' →
-      ¬ Within (rs ++ (r' ∷ [])) (ds ++ (d ∷ [])) → Stops rs ds r (some l) k (line_numbers 48 k)
+  all_done : {k : ℕ} → Stops rs ds r None k (line_numbers 0 0)
+  not_aline : {k : ℕ} (l : Line) → trace_line l ≡ None → Stops rs ds r (Some l) k (line_numbers 46 k)
+  cannot_step : {k : ℕ} (l : Line) (t : TraceLine) → trace_line l ≡ Some t → NoStepOf r t → Stops rs ds r (Some l) k (line_numbers 47 k)
+  too_many : {k : ℕ} (l : Line) (t : TraceLine) (d : Reduced) (r' : Run) → trace_line l ≡ Some t → LanguageStep r t d r' →
+      ¬ Within (rs ++ (r' ∷ [])) (ds ++ (d ∷ [])) → Stops rs ds r (Some l) k (line_numbers 48 k)
 
 -- "It then does exactly the language's step on each line and reports the steps done"; none of these passes a limit, and it stops behind them
 -- with that answer.
@@ -165,7 +164,7 @@ pub record Follows (rs : List Run) (ls : List Line) (steps : ℕ) (answer : Numb
   pub each : (n : ℕ) → n < steps → StepDone rs ls reduced n
   pub within : (n : ℕ) → n ≤ steps → Within (take (suc n) rs) (take n reduced)
   pub last : Run
-  pub last_there : slice_get rs steps ≡ some last
+  pub last_there : slice_get rs steps ≡ Some last
   pub stops : Stops rs reduced last (slice_get ls steps) (suc steps) answer
 
 -- ------------------------------------------------------------------ its race
@@ -188,17 +187,17 @@ pub record Racing (r : Run) (i j : ℕ) : Type 0 where
 -- State n is the first with a race; in it threads i and j race, i the smaller, and no lower pair does.
 pub record FirstRaceIs (rs : List Run) (n i j : ℕ) : Type 0 where
   pub run : Run
-  pub there : slice_get rs n ≡ some run
+  pub there : slice_get rs n ≡ Some run
   pub races : Race run.state
   pub in_order : i < j
   pub racing : Racing run i j
   pub lowest : (i' j' : ℕ) → i' < j' → Racing run i' j' → (i < i') ⊎ ((i ≡ i') × (j ≤ j'))
-  pub before : (m : ℕ) (r : Run) → m < n → slice_get rs m ≡ some r → RaceFree r.state
+  pub before : (m : ℕ) (r : Run) → m < n → slice_get rs m ≡ Some r → RaceFree r.state
 
 -- What a report says of the states of these runs: no race in any, or the first.
-abbrev pub RaceReported : List Run → FirstRace → Type 0
+abbrev pub RaceReported : List Run → Option FoundRace → Type 0
 RaceReported rs None = Every (λ r. RaceFree r.state) rs
-RaceReported rs (Found n i j) = FirstRaceIs rs n i j
+RaceReported rs (Some race) = FirstRaceIs rs race.state race.lower race.other
 
 -- ------------------------------------------------------------------ of two texts
 
@@ -208,9 +207,9 @@ TraceFollowed room program_text trace_text steps answer = (P : Program) → judg
     Follows (runs_of P trace_text) (lines trace_text) steps answer
 
 -- what the race tells,
-abbrev pub RaceFound : (room : ℕ) (program_text trace_text : List ℕ) → FirstRace → Type 0
+abbrev pub RaceFound : (room : ℕ) (program_text trace_text : List ℕ) → Option FoundRace → Type 0
 RaceFound room program_text trace_text race = (P : Program) → judged room program_text ≡ Ok P → RaceReported (runs_of P trace_text) race
 
 -- and "For an accepted job it never reports a race", with whatever split sheet it is accepted.
-abbrev pub NoneIfAccepted : (program_text : List ℕ) → FirstRace → Type 0
+abbrev pub NoneIfAccepted : (program_text : List ℕ) → Option FoundRace → Type 0
 NoneIfAccepted program_text race = (room : ℕ) (split_text : List ℕ) → verdict room program_text split_text ≡ Accept → race ≡ None

@@ -1,7 +1,7 @@
 -- That the claims are exact: at most one report fits given runs; one count of steps and one answer; and for a program and a trace one list of
 -- runs, in which the calls that count as open are those that run. That what is handed back fits is claimed of every replay (Claim). These are
 -- proved in proofs/AtMostOneRace, AtMostOneEnd, AtMostOneStep, AtMostOneWay and Running.
-use Rattle.std.specs.Prelude.{ℕ, suc, ◌<◌, ◌≡◌, List, length, take, Some, slice_get}
+use Rattle.std.specs.Prelude.{ℕ, suc, ◌<◌, ◌≡◌, List, length, take, Option, Some, slice_get}
 use Rattle.spec.specs.Text.{Line}
 use Rattle.calculus.specs.Expression.{Exp, Program}
 use Rattle.calculus.specs.State.{Thread}
@@ -9,12 +9,12 @@ use Rattle.calculus.specs.Claim.{Every}
 use Rattle.replay_theory.specs.Paths.{Path}
 use Rattle.replay_theory.specs.Run.{ObjectKind, Run, start_run, makes, effect}
 use Rattle.replay_theory.specs.Claim.{Numbered, LowestFinished, open_calls_of, Runs, Follows, RaceReported}
-use Rattle.replay_theory.specs.declared.FirstRace.{FirstRace}
+use Rattle.replay_theory.specs.declared.Race.{Race}
 use Rattle.replay_theory.specs.declared.Numbers.{Numbers}
 
 -- One report of given runs.
 abbrev pub OneRace : Type 0
-OneRace = (rs : List Run) (x y : FirstRace) → RaceReported rs x → RaceReported rs y → x ≡ y
+OneRace = (rs : List Run) (x y : Option Race) → RaceReported rs x → RaceReported rs y → x ≡ y
 
 -- One count of steps and one answer of given runs.
 abbrev pub OneEnd : Type 0

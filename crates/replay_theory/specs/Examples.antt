@@ -1,5 +1,5 @@
 -- Replays with what they come to, as tables; crates/replay_examples computes those that go to a limit. The bar (|) stands for byte 10.
-use Rattle.std.specs.Prelude.{ℕ, ◌≡◌, List, [], ◌∷◌, map, Option, Result, Ok, Err}
+use Rattle.std.specs.Prelude.{ℕ, ◌≡◌, List, [], ◌∷◌, map, Option, None, Some, Result, Ok, Err}
 use Prim.Native.String.{String, ◌++◌}
 use Rattle.std.proofs.Math.Decide.{ℕ_discrete, dec_lt}
 use Rattle.spec.specs.declared.Refusal.{Refusal}
@@ -15,8 +15,7 @@ use Rattle.replay_theory.specs.Trace.{two_numbers, spelled, trace_line}
 use Rattle.replay_theory.specs.Paths.{path_once, next_path, only_part, part_of, part_at}
 use Rattle.replay_theory.specs.LowestPair.{if_cell, uses_of, same_cell, clash, uses_in, clashing, pair_or, lowest_among, lowest_pair}
 use Rattle.replay_theory.specs.declared.Status.{Status}
-use Rattle.replay_theory.specs.declared.FirstRace.{FirstRace}
-use Rattle.replay_theory.specs.declared.FirstRace.TheVariants.{None, Found}
+use Rattle.replay_theory.specs.declared.Race.{Race}
 use Rattle.replay_theory.specs.declared.Numbers.{Numbers}
 use Rattle.replay_theory.specs.declared.Report.{Report}
 use Rattle.replay_theory.specs.declared.Replayed.{Replayed}
@@ -29,8 +28,12 @@ pub record Recorded : Type 0 where
   pub expected : Numbers × Report
 
 infix 2 ◌along◌is◌after◌and◌
-unfoldable pub ◌along◌is◌after◌and◌ : String → String → Numbers → ℕ → FirstRace → Recorded
+unfoldable pub ◌along◌is◌after◌and◌ : String → String → Numbers → ℕ → Option Race → Recorded
 p along t is n after k and r = record { program = p; trace = t; expected = (n, record { steps = k; race = r }) }
+
+-- a race in a state, of two threads
+abbrev pub race_in : (state lower other : ℕ) → Option Race
+race_in k i j = Some (record { state = k; lower = i; other = j })
 
 unfoldable pub numbers_and_report : Replayed → Numbers × Report
 numbers_and_report a = (returned_for a.ending, a.report)
@@ -72,13 +75,13 @@ two_readers = "P,22|let,0|ref,0|int,0|let,1|newtid,0|let,2|spawn,0|var,1|read,0|
 unfoldable pub race_rows : List Recorded
 race_rows =
     (unjoined along times 4 "0,0|" is whole after 4 and None)
-    ∷ (unjoined along times 5 "0,0|" is whole after 5 and Found 5 0 1)
+    ∷ (unjoined along times 5 "0,0|" is whole after 5 and race_in 5 0 1)
     ∷ (unjoined along (times 4 "0,0|" ++ "1,0|0,0|0,0|") is whole after 7 and None)
-    ∷ (unjoined along (times 5 "0,0|" ++ "0,0|1,0|") is whole after 7 and Found 5 0 1)
-    ∷ (unjoined along (times 5 "0,0|" ++ "0,1|") is line_numbers 47 6 after 5 and Found 5 0 1)
+    ∷ (unjoined along (times 5 "0,0|" ++ "0,0|1,0|") is whole after 7 and race_in 5 0 1)
+    ∷ (unjoined along (times 5 "0,0|" ++ "0,1|") is line_numbers 47 6 after 5 and race_in 5 0 1)
     ∷ (two_readers along times 8 "0,0|" is whole after 8 and None)
-    ∷ (two_readers along times 9 "0,0|" is whole after 9 and Found 9 1 3)
-    ∷ (two_readers along (times 9 "0,0|" ++ "1,0|2,0|3,0|") is whole after 12 and Found 9 1 3)
+    ∷ (two_readers along times 9 "0,0|" is whole after 9 and race_in 9 1 3)
+    ∷ (two_readers along (times 9 "0,0|" ++ "1,0|2,0|3,0|") is whole after 12 and race_in 9 1 3)
     ∷ []
 
 -- ------------------------------------------------------------------ choices
@@ -239,7 +242,7 @@ at_once_rows =
 unfoldable pub called_rows : List Recorded
 called_rows =
     (two_writers along times 6 "0,0|" is whole after 6 and None)
-    ∷ (two_writers along (times 6 "0,0|" ++ "1,0|") is whole after 7 and Found 7 0 1)
+    ∷ (two_writers along (times 6 "0,0|" ++ "1,0|") is whole after 7 and race_in 7 0 1)
     ∷ []
 
 -- ------------------------------------------------------------------ joins

@@ -1,5 +1,5 @@
 -- The answer of a replay, and its report, in the order 1; 10 to 15, 45 and 49; then line by line 46, 47, 48.
-use Rattle.std.specs.Prelude.{ℕ, ◌+◌, Bool, List, [], ◌∷◌, leb, length, Option, None as none, Some as some, Result, Ok, Err}
+use Rattle.std.specs.Prelude.{ℕ, ◌+◌, Bool, List, [], ◌∷◌, leb, length, Option, None, Some, Result, Ok, Err}
 use Rattle.spec.specs.Choice.{when◌then◌else◌}
 use Rattle.spec.specs.Text.{Line, lines}
 use Rattle.spec.specs.Reading.{◌>>=◌, require}
@@ -15,8 +15,7 @@ use Rattle.replay_theory.specs.Run.{Run, start_run, stepped, within}
 use Rattle.replay_theory.specs.LowestPair.{lowest_pair}
 use Rattle.replay_theory.specs.declared.Ending.{Ending}
 use Rattle.replay_theory.specs.declared.Ending.TheVariants.{Done, Refused, TraceForm, NoStep, PastLimit}
-use Rattle.replay_theory.specs.declared.FirstRace.{FirstRace}
-use Rattle.replay_theory.specs.declared.FirstRace.TheVariants.{None, Found}
+use Rattle.replay_theory.specs.declared.Race.{Race}
 use Rattle.replay_theory.specs.declared.Replayed.{Replayed}
 use Rattle.replay_theory.specs.declared.Numbers.{Numbers}
 
@@ -29,12 +28,12 @@ pub data Outcome (A : Type 0) : Type 0 where
 
 -- 48 is for a step that the language could take
 unfoldable pub check_limits : {A : Type 0} → (within : A → Bool) → Option A → Outcome A
-check_limits within none = no_step
-check_limits within (some a) = when within a then step a else past_limit
+check_limits within None = no_step
+check_limits within (Some a) = when within a then step a else past_limit
 
 unfoldable pub line_outcome : {A : Type 0} → (stepped : TraceLine → Option A) → (within : A → Bool) → Option TraceLine → Outcome A
-line_outcome stepped within none = bad_form
-line_outcome stepped within (some l) = check_limits within (stepped l)
+line_outcome stepped within None = bad_form
+line_outcome stepped within (Some l) = check_limits within (stepped l)
 
 -- the runs after each step, and how the trace ends; `line` is the number of the first line
 unfoldable pub continue : (line : ℕ) → Outcome Run → (Run → List Run × Ending) → List Run × Ending
@@ -50,11 +49,11 @@ execution k r (l ∷ ls) = continue k (line_outcome (stepped r) within (trace_li
 -- ------------------------------------------------------------------ the report
 
 -- "the first state with a race [..], with its lowest pair [..], or none"; the first of these states has the number k
-unfoldable pub race_or : (state : ℕ) → Option (ℕ × ℕ) → FirstRace → FirstRace
-race_or k none later = later
-race_or k (some (i, j)) later = Found k i j
+unfoldable pub race_or : (state : ℕ) → Option (ℕ × ℕ) → Option Race → Option Race
+race_or k None later = later
+race_or k (Some (i, j)) later = Some (record { state = k; lower = i; other = j })
 
-unfoldable pub first_race : (state : ℕ) → List Run → FirstRace
+unfoldable pub first_race : (state : ℕ) → List Run → Option Race
 first_race k [] = None
 first_race k (r ∷ rs) = race_or k (lowest_pair r) (first_race (k + 1) rs)
 

@@ -25,19 +25,16 @@ pub enum Ending {
 
 // The first state with a race, counted from 0, and its lowest pair of threads.
 #[derive(Clone, Copy, PartialEq, Eq)]
-pub enum FirstRace {
-    None,
-    Found {
-        state: usize,
-        lower: u32,
-        other: u32,
-    },
+pub struct Race {
+    pub state: usize,
+    pub lower: u32,
+    pub other: u32,
 }
 
 #[derive(Clone, Copy, PartialEq, Eq)]
 pub struct Report {
     pub steps: usize,
-    pub race: FirstRace,
+    pub race: Option<Race>,
 }
 
 // What a replay hands back.

@@ -15,10 +15,10 @@ returns-in-None c =
     let written = finish (onward _ _ r₀ c.write_bytes-headed.ensures) c.write_field.ensures in
     record { written_at = written; upper_bound = written_short (ran_short _ (search rules) e) written }
 
-pub returns-in-Found : goal.returns-in-Found
+pub returns-in-Some : goal.returns-in-Some
 unfolding bytes ran_fields
-returns-in-Found c =
-    let e = c.in-Found.is in
+returns-in-Some c =
+    let e = c.in-Some.is in
     let r₀ = parted _ _ (raced_parts _ e) c.well_formed.0.0 (lit< tt) in
-    let written = finish (onward _ _ (onward _ _ r₀ c.write_bytes-headed-in-Found.ensures) c.write_field-counted.ensures) c.write_race.ensures in
-    record { written_at = written; upper_bound = written_short (raced_short _ (search rules) e (search rules) (search rules) (search rules)) written }
+    let written = finish (onward _ _ (onward _ _ r₀ c.write_bytes-headed-in-Some.ensures) c.write_field-counted.ensures) c.write_race.ensures in
+    record { written_at = written; upper_bound = written_short (raced_short _ (search rules) e (record { state = search rules; lower = search rules; other = search rules })) written }

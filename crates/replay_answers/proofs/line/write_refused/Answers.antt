@@ -18,10 +18,10 @@ returns-in-None c =
     let written = finish (onward _ _ (onward _ _ r₀ c.write_bytes-headed.ensures) c.write_four-told.ensures) c.write_field.ensures in
     record { written_at = written; upper_bound = written_short (refused_short _ _ small steps e) written }
 
-pub returns-in-Found : goal.returns-in-Found
+pub returns-in-Some : goal.returns-in-Some
 unfolding bytes refused_fields
-returns-in-Found c =
-    let e = c.in-Found.is in
+returns-in-Some c =
+    let e = c.in-Some.is in
     let fits = c.well_formed.1.0.1.1 in
     let small : Small c.args.x = record { number = fits.0.1; line = fits.1.0.1; condition = fits.1.1.0.1; location = fits.1.1.1.0.1 } in
     let steps = c.well_formed.1.1.0.1.1.0.1 in
@@ -30,5 +30,5 @@ returns-in-Found c =
     let written = finish (onward _ _ (onward _ _ r₂ c.write_field-counted.ensures) c.write_bytes-named.ensures) c.write_race.ensures in
     record {
       written_at = written;
-      upper_bound = written_short (refused_raced_short _ _ small steps e (search rules) (search rules) (search rules)) written;
+      upper_bound = written_short (refused_raced_short _ _ small steps e (record { state = search rules; lower = search rules; other = search rules })) written;
     }
