@@ -1,8 +1,15 @@
-use Rattle.std.proofs.Common.{ℕ, ◌+◌, Option, sym, ap, ◌∙◌, arith}
+use Rattle.std.proofs.Common.{ℕ, ◌+◌, Option, sym, ap, ◌∙◌, arith, drop, length-drop}
 use Rattle.trace.specs.Lines.{closed_number}
+use Rattle.lexer.proofs.Places.{width_le}
 use Rattle.trace.proofs.Lines.{ends_at, not_closed, other_byte, closed_field}
 use Rattle.trace.proofs.number_before.Goals as goal
 use Rattle.trace.proofs.number_before.Goals.{then-text-to-via-then-text-to, then-text-to-via-else-text-to+then-text-to-2}
+
+pub overflow_add-to : goal.overflow_add-to
+overflow_add-to c =
+    let w = width_le (drop c.args.from c.args.text.now) in
+    let e = ends_at c.args.from c.field_width.result c.args.text.now c.field_width.ensures in
+    omega (arith, w, e, length-drop c.args.from c.args.text.now)
 
 pub returns-then-text-to : goal.returns-then-text-to
 returns-then-text-to c =
