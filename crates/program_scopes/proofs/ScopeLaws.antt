@@ -5,12 +5,7 @@ use mathlib.Core.Logic.{inl}
 use mathlib.Core.List.{List, [], ◌∷◌, ◌++◌, append-nil}
 use Prim.Native.Nat.{ℕ, suc, ◌+◌, ◌-◌, ◌<◌, ◌≤◌}
 use native.Mathlib.Omega.{arith}
-<<<<<<< HEAD
 use lib.ListN.{length, get_or, set, length-append}
-=======
-use native.Mathlib.Nat.{not-suc-le-zero, le_of_suc-le-suc}
-use lib.ListN.{length, get_or, set, replicate, length-set, length-append}
->>>>>>> 37b8fe734afb78720cf0a898489b90fe0d5ae74e
 use Rattle.spec.specs.declared.Refusal.{Refusal}
 use Rattle.workspace.specs.Layout.{values_at, lets_at, work_size}
 use Rattle.workspace.specs.Region.{Region, ChangedWithin}
