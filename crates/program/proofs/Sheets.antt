@@ -17,7 +17,7 @@ use Rattle.lexer.specs.Cursors.{rest, place_at}
 use Rattle.lexer.specs.declared.Cursor.{Cursor}
 use Rattle.lexer.proofs.Sheets.{end_at_none, end_at_some}
 use Rattle.lexer.proofs.Walks.{left_none, left_some}
-use Rattle.spec.proofs.Outcomes.{on_injective, bind_through}
+use Rattle.spec.proofs.Outcomes.{on_injective, bind_through, bind_bind, bind_alike}
 use Rattle.spec.proofs.Listing.{Listed, structure_lists}
 use Rattle.spec.specs.WellFormed.{listing}
 use Rattle.program_tree.specs.Items.{proc_rows}
@@ -33,30 +33,17 @@ use Rattle.program_tree.proofs.Rows.{rows_counted_lem}
 
 -- ------------------------------------------------------------------ the lines behind line 1
 
-then_then : {A B C : Type 0} (o : Result A Refusal) (f : A → Result B Refusal) (g : B → Result C Refusal) → (o >>= f >>= g) ≡ (o >>= λ a. f a >>= g)
-unfolding ◌>>=◌
-then_then (Err x) f g = refl
-then_then (Ok a) f g = refl
-
 module _ (items : List Item) where
   abbrev with_steps : List Procedure × Expr → Result Program Refusal
   with_steps t = Ok (record { steps = steps_among items; procedures = t.0; root = t.1 })
 
-  in_scope : (o : Result (List ℕ) Refusal) (t : List Procedure × Expr) → (o >>= λ bound. with_steps t) ≡ ((o >>= λ bound. Ok t) >>= with_steps)
-  unfolding ◌>>=◌
-  in_scope (Err x) t = refl
-  in_scope (Ok bound) t = refl
-
-  resolved_by : (count : ℕ) (o : Result (List Procedure × Expr) Refusal)
-      → (o >>= λ t. scopes count t.0 t.1 [] >>= λ bound. with_steps t) ≡ (o >>= (λ t. scopes count t.0 t.1 [] >>= λ bound. Ok t) >>= with_steps)
-  unfolding ◌>>=◌
-  resolved_by count (Err x) = refl
-  resolved_by count (Ok t) = in_scope (scopes count t.0 t.1 []) t
-
   from_resolved : (last count : ℕ)
       → (structure last count 0 items >>= λ t. scopes count t.0 t.1 [] >>= λ bound. with_steps t) ≡ (resolved_of last count items >>= with_steps)
-  unfolding resolved_of
-  from_resolved last count = resolved_by count (structure last count 0 items)
+  unfolding resolved_of ◌>>=◌
+  from_resolved last count =
+      let found = structure last count 0 items in
+      sym (bind_bind found (λ t. scopes count t.0 t.1 [] >>= λ bound. Ok t) with_steps
+      ∙ bind_alike found _ _ (λ t e. bind_bind (scopes count t.0 t.1 []) (λ bound. Ok t) with_steps))
 
 -- lines whose scopes are judged are those of as many procedures, and of the root
 resolved_lists : (last count : ℕ) (items : List Item) (t : List Procedure × Expr) → resolved_of last count items ≡ Ok t
@@ -90,16 +77,17 @@ module _ (text : List ℕ) (one : CountLine) {m k : ℕ} (em : m ≡ one.steps) 
     lines_listed : text_ended (rest text d) ≡ true → behind_count (counted one) (place_at text one.next) ≡ (resolved_of s.last k items >>= with_steps items)
     unfolding ◌>>=◌ place_at
     lines_listed e =
-        behind_items x.found.shown ∙ rw (end_at_none program_sheet text d (left_none (rest text d) e), x.found.last) (from_resolved items d.line k)
+        behind_items x.found.shown ∙ rw (end_at_none program_sheet text d (left_none (rest text d) e)) (from_resolved items d.line k)
+        ∙ ap (λ l. resolved_of l k items >>= with_steps items) (sym x.found.last)
 
-    module _ (few : one.steps ≤ 256) (few_procedures : one.procedures ≤ 16) (e : text_ended (rest text d) ≡ true) {w₂ : List ℕ} where
+    module _ (e : text_ended (rest text d) ≡ true) {w₂ : List ℕ} where
       pub lines_unresolved : {y : Refusal} → Resolved s k w₁ w₂ (Err y) → LinesRead text one w₂ (Err y)
       unfolding ◌>>=◌
       lines_unresolved a = rw (lines_listed e, refused _ _ (resolved_of s.last k items) (a.found x.found.stored)) refl
 
-      pub lines_read : Resolved s k w₁ w₂ (Ok tt) → LinesRead text one w₂ (Ok (record { steps = m; procedures = k }))
+      pub lines_read : one.steps ≤ 256 → one.procedures ≤ 16 → Resolved s k w₁ w₂ (Ok tt) → LinesRead text one w₂ (Ok (record { steps = m; procedures = k }))
       unfolding ◌>>=◌
-      lines_read a =
+      lines_read few few_procedures a =
           let f = found _ _ (resolved_of s.last k items) (a.found x.found.stored) in
           let t = f.value in
           let l = resolved_lists s.last k items t f.is in
@@ -127,7 +115,7 @@ module _ (text : List ℕ) (one : CountLine) {m k : ℕ} (em : m ≡ one.steps) 
 module _ (text : List ℕ) where
   by_count : program text ≡ (count_at text >>= λ r. behind_count r.0 r.1)
   unfolding program count_at behind_count
-  by_count = sym (then_then (begin program_sheet (lines text)) (λ top. read_line program_sheet count_line top) (λ r. behind_count r.0 r.1))
+  by_count = sym (bind_bind (begin program_sheet (lines text)) (λ top. read_line program_sheet count_line top) (λ r. behind_count r.0 r.1))
 
   pub sheet_refused : (w : List ℕ) {x : Refusal} → CountShown text (Err x) → ProgramIs text w w (Err x)
   unfolding ◌>>=◌

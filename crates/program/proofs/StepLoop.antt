@@ -26,7 +26,6 @@ use Rattle.program_lines.specs.Lines.{item_at, StepShown}
 use Rattle.program.specs.Lines.{items_at, StepsShown}
 use Rattle.program_tree.proofs.Limits.{limited_snoc, variables_snoc}
 use Rattle.program_lines.specs.declared.items.StepLine.TheVariants as step_line
-use Rattle.program_tree.specs.declared.Stored.{Stored}
 
 -- ------------------------------------------------------------------ one line more
 
@@ -163,12 +162,13 @@ module _ {text : List ℕ} {h : ProgramHeading} {n : ℕ} {c₀ : Cursor} {w₀ 
       let z : c₀.line + 1 + 0 ≡ c₀.line + 1 = omega arith in
       ap (λ rs. read_lines program_sheet rs (place_at text c₀)) (rw z at (items_numbered h c₀.line 0 n)) ∙ e
 
-  pub finish : n ≤ k → (r : Stored) → r.steps ≡ i → r.procs ≡ j → r.last ≡ c.line → StepsShown text h n c₀ w₀ w (Ok (r, c))
-  finish l r ei ej el = record {
+  pub finish : n ≤ k → (room : (i ≤ step_room) × (j ≤ step_room))
+      → StepsShown text h n c₀ w₀ w (Ok (record { steps = i; procs = j; last = c.line; in_room = room }, c))
+  finish l room = record {
     found = record {
-      stored = rw (ei, ej) s.stored;
-      all = omega (arith, ei, ej, s.both, s.loop_step.few);
-      last = el;
+      stored = s.stored;
+      all = omega (arith, s.both, s.loop_step.few);
+      last = refl;
       shown = all_of _ (loop_steps_done s.loop_step l);
       placed = s.loop_step.placed;
     };

@@ -19,14 +19,14 @@ pub struct Counts {
 }
 
 // What stands behind line 1.
-fn read_lines(text: &[u8], work: &mut [u32; SIZE], one: CountLine) -> Result<Counts, Refusal>
-    requires { LineOne text.now one }
-    ensures { LinesRead text.now one work.new result }
+fn read_lines(text: &[u8], work: &mut [u32; SIZE], line_one: CountLine) -> Result<Counts, Refusal>
+    requires { LineOne text.now line_one }
+    ensures { LinesRead text.now line_one work.new result }
 {
-    let steps = workspace::index(one.steps);
-    let procedures = workspace::index(one.procedures);
+    let steps = workspace::index(line_one.steps);
+    let procedures = workspace::index(line_one.procedures);
     let n = steps + procedures;
-    let (stored, end) = lines::step_lines(text, work, one.heading, n, one.next)?;
+    let (stored, end) = lines::step_lines(text, work, line_one.heading, n, line_one.next)?;
     if !end.at_end(text) {
         let spare = end.line + 1;
         return Err(Refusal::ProgramLines(spare));
@@ -40,6 +40,6 @@ pub fn read(text: &[u8], work: &mut [u32]) -> Result<Counts, Refusal>
     requires { (length work.old ≡ work_size) × (length text.now ≤ 16384) }
     ensures { ProgramIs text.now work.old work.new result }
 {
-    let one = program_lines::count_line(text)?;
-    read_lines(text, work.as_mut_array().unwrap(), one)
+    let line_one = program_lines::count_line(text)?;
+    read_lines(text, work.as_mut_array().unwrap(), line_one)
 }

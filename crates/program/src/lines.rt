@@ -25,7 +25,8 @@ pub(crate) fn step_lines(
     let mut steps = 0;
     let mut procs = 0;
     for _ in 0..n {
-        match step_line(text, heading, cursor)? {
+        let line = step_line(text, heading, cursor)?;
+        match line {
             StepLine::Step(word, v, next) => {
                 work[WORDS + steps] = workspace::code_of(word);
                 work[VALUES + steps] = v;
