@@ -1,5 +1,6 @@
 -- A line of a type and a line of a map, as their readers see them.
-use Rattle.std.specs.Prelude.{List, [], ◌∷◌, ℕ, replicate}
+use Rattle.std.specs.Prelude.{List, [], ◌∷◌, Bool, ℕ, nat_le, replicate}
+use Rattle.std.specs.List.{list_all}
 use Rattle.spec.specs.Choice.{when◌then◌else◌}
 use Rattle.spec.specs.Text.{Field}
 use Rattle.spec.specs.Reading.{LineResult, good, bad, bad_form, bad_range, Range, ◌to◌, below, all_in_range, numbers}
@@ -41,6 +42,10 @@ type_decoded type-seen.BadRange = bad bad_range
 -- the range of each number of a map
 unfoldable pub cells : ℕ → List Range
 cells n = replicate n (0 to 1000000000)
+
+-- whether no number of a map is larger than a map can have
+unfoldable pub cells_fit : List ℕ → Bool
+cells_fit m = list_all (λ cell. nat_le cell 1000000000) m
 
 -- a line of so many numbers of a map
 unfoldable pub cell_line : ℕ → List Field → LineResult Map

@@ -4,20 +4,14 @@ ghost use Rattle.spec.specs.Reading.{split_sheet, below, read_line};
 ghost use Rattle.spec.specs.Split.{type_line};
 ghost use Rattle.spec.specs.declared.Heading.TheVariants.{C2};
 ghost use Rattle.lexer.specs.Cursors.{place_at};
+ghost use Rattle.split_fields.specs.Answers.{LineAnswer};
 ghost use Rattle.split_lines.specs.TypeLines.{ranged_type, lock_seen, type_seen};
-ghost use Rattle.split_lines.specs.TypeAnswers.{AtType, TypeAnswer};
+ghost use Rattle.split_lines.specs.TypeAnswers.{AtType};
 
 use keywords::TypeWord;
-use lexer::{Cursor, Numbers};
+use lexer::Cursor;
 use spec::{Header, Heading, Location, MapNumber, Refusal, TypeLine, TypeNumber};
-use split_fields::{Head, both_below, first_field};
-
-// A type and the cursor behind its line, or the reason to stop.
-#[derive(Drop)]
-pub enum TypeRead {
-    Read(TypeLine, Cursor),
-    Refused(Refusal),
-}
+use split_fields::{both_below, first_field};
 
 // What the word and the two numbers of a type line come to.
 #[derive(Drop)]
@@ -87,27 +81,29 @@ fn type_of(kind: TypeWord, first: u32, second: u32, own: TypeNumber, header: Hea
 }
 
 // The line of the type with the number `own`, at a cursor.
-pub fn type_line(text: &[u8], cursor: Cursor, own: TypeNumber, header: Header) -> TypeRead
+pub fn type_line(
+    text: &[u8],
+    cursor: Cursor,
+    own: TypeNumber,
+    header: Header,
+) -> Result<(TypeLine, Cursor), Refusal>
     requires { AtType text.now cursor header own.0 }
-    ensures { TypeAnswer text.now (read_line split_sheet (type_line header own.0) (place_at text.now cursor)) result }
+    ensures { LineAnswer text.now (read_line split_sheet (type_line header own.0) (place_at text.now cursor)) result }
 {
     if cursor.at_end(text) {
-        return TypeRead::Refused(Refusal::SplitLines(cursor.line));
+        return Err(Refusal::SplitLines(cursor.line));
     }
     let line = cursor.line + 1;
-    let Head::Field(from, to, numbers) = first_field(text, cursor) else {
-        return TypeRead::Refused(Refusal::SplitForm(line));
-    };
-    let kind = keywords::type_word(&text[from..to]);
+    let form = Refusal::SplitForm(line);
+    let (field, numbers) = first_field(text, cursor).ok_or(form)?;
+    let kind = keywords::type_word(field);
     let mut found = [0u32; 2];
-    let read = numbers.numbers(text, &mut found);
-    let Numbers::Read(next) = read else {
-        return TypeRead::Refused(Refusal::SplitForm(line));
-    };
-    let seen = type_of(kind, found[0], found[1], own, header);
+    let next = numbers.numbers(text, &mut found).ok_or(form)?;
+    let [first, second] = found;
+    let seen = type_of(kind, first, second, own, header);
     match seen {
-        TypeSeen::Right(t) => TypeRead::Read(t, next),
-        TypeSeen::BadForm => TypeRead::Refused(Refusal::SplitForm(line)),
-        TypeSeen::BadRange => TypeRead::Refused(Refusal::SplitRange(line)),
+        TypeSeen::Right(t) => Ok((t, next)),
+        TypeSeen::BadForm => Err(Refusal::SplitForm(line)),
+        TypeSeen::BadRange => Err(Refusal::SplitRange(line)),
     }
 }
