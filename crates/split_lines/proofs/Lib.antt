@@ -1,5 +1,6 @@
 pub mod NumeralLines
 pub mod MapLaws
 pub mod SignatureLaws
+pub mod TypeLaws
 pub mod RowFields
 pub mod RowLaws

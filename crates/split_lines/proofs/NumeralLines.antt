@@ -1,6 +1,6 @@
 -- Lines that are numerals, as many as there are ranges: what the numerals that are read of one, into a lent slice, say of it.
 use Rattle.std.proofs.Common.{Option, None, Some, Ok, Err}
-use mathlib.Core.Path.{◌≡◌, refl, sym, ap, ◌∙◌}
+use mathlib.Core.Path.{◌≡◌, refl, ◌∙◌}
 use mathlib.Core.List.{List}
 use mathlib.Core.Bool.{true, false}
 use Prim.Native.Nat.{ℕ, ◌+◌}

@@ -1,11 +1,8 @@
 -- A row: two numerals, the last field, and their ranges.
-use mathlib.Core.Path.{sym, subst, ◌∙◌}
-use Rattle.std.proofs.Common.{Result}
-use Rattle.spec.specs.declared.Refusal.{Refusal}
+use mathlib.Core.Path.{sym, subst}
 use Rattle.split_fields.specs.Answers.{LeadingAnswer, PostAnswer, StartAnswer}
 use Rattle.split_fields.proofs.LineLaws.{comma_cursor, handed_on, exit}
-use Rattle.split_lines.specs.RowAnswers.{RowAnswer}
-use Rattle.split_lines.proofs.RowLaws.{row_first, row_second, row_third, answered, row_read}
+use Rattle.split_lines.proofs.RowLaws.{row_first, row_second, row_third, row_read}
 use Rattle.split_lines.proofs.rows.row_line.Goals as goal
 
 pub returns-in_err-typed : goal.returns-in_err-typed
