@@ -68,7 +68,14 @@ comma_cursor text c d at comma is = record { placed = comma_placed text c d at.p
 
 -- ------------------------------------------------------------------ the exit of a `?`
 
--- the refusal that `ok_or` names is returned
+-- a refusal is handed on as it is
+pub handed_on : {B : Type 0} {r : Refusal} (result : Result B Refusal) → IsErrAnd result (λ y. y ≡ r) → result ≡ Err r
+handed_on result h = let (y, p, q) = err_from_is_err_and result h in p ∙ ap Err q
+
+-- the one that `ok_or` names
 pub exit : {A B : Type 0} (o : Option A) {x r : Refusal} (result : Result B Refusal) → Err x ≡ ok_or o r → IsErrAnd result (λ y. y ≡ x) → result ≡ Err r
-exit None result e h = let (y, p, q) = err_from_is_err_and result h in cc
-exit (Some a) result e h = let (y, p, q) = err_from_is_err_and result h in cc
+exit None result e h = let is = handed_on result h in cc
+exit (Some a) result e h = cc
+
+-- what each reader of a line answers before it has read a field, or when it has not
+pub ruleset no_line = (line_missing, exit)

@@ -10,16 +10,14 @@ use lib.ListN.{length, take, drop, get_or}
 use lib.Seq.{length-take-le}
 use borrow.Author.Tests.{leb-true, leb-false, lt-leb}
 use Rattle.spec.specs.Choice.{when◌then◌else◌}
-use Rattle.spec.specs.Text.{bytes, same, Field, look_up, lines}
+use Rattle.spec.specs.Text.{Field, look_up, lines}
 use Rattle.spec.specs.Reading.{split_sheet, LineResult, good, bad, bad_form, bad_range, seen, in_range, all_in_range, numerals, numbers, form, passed, next_line, read_line, or_bad_form}
 use Rattle.spec.specs.Split.{headings, header_ranges, maps_of, maps_in, start_of, header_of, header_line}
 use Rattle.spec.specs.declared.Header.{Header}
 use Rattle.spec.specs.declared.Heading.{Heading}
 use Rattle.spec.specs.declared.Heading.TheVariants.{C, C2, C3}
 use Rattle.spec.specs.declared.Purpose.{Purpose}
-use Rattle.spec.specs.declared.Purpose.TheVariants.{Check, Fill}
 use Rattle.spec.specs.declared.Refusal.TheVariants.{SplitForm, SplitRange}
-use Rattle.spec.proofs.Tests.{same_equal}
 use Rattle.spec.proofs.Seen.{in_to, first_map_fits, ranged}
 use Rattle.lexer.specs.Views.{end_of, first_field, text_ended}
 use Rattle.lexer.specs.Cursors.{Placed, rest, behind_field, place_at}
@@ -34,36 +32,6 @@ use Rattle.workspace.specs.Sheets.{Small}
 use Rattle.split_header.specs.Header.{numerals_of, header_fits}
 use Rattle.split_fields.proofs.Tests.{range_parts}
 use Rattle.split_fields.proofs.LineLaws.{shows_range, shows_entry, comma_line, comma_kept, exit}
-
--- ------------------------------------------------------------------ the heading
-
-pub first_heading : (f : Field) (purpose : Purpose) → same (bytes "C") f ≡ true → purpose ≡ Check → Some C ≡ look_up (headings purpose) f
-unfolding headings look_up
-first_heading f purpose e q = sym (rw (q, e))
-
-pub second_heading : (f : Field) (purpose : Purpose) → same (bytes "C2") f ≡ true → Some C2 ≡ look_up (headings purpose) f
-unfolding headings look_up bytes same
-second_heading f purpose e = rw (← same_equal (bytes "C2") f e) (go purpose)
-  where
-    go : (p : Purpose) → Some C2 ≡ look_up (headings p) (bytes "C2")
-    go Check = refl
-    go Fill = refl
-
-pub third_heading : (f : Field) (purpose : Purpose) → same (bytes "C3") f ≡ true → Some C3 ≡ look_up (headings purpose) f
-unfolding headings look_up bytes same
-third_heading f purpose e = rw (← same_equal (bytes "C3") f e) (go purpose)
-  where
-    go : (p : Purpose) → Some C3 ≡ look_up (headings p) (bytes "C3")
-    go Check = refl
-    go Fill = refl
-
-pub other_heading : (f : Field) (purpose : Purpose) → (purpose ≡ Check → same (bytes "C") f ≡ false) → same (bytes "C2") f ≡ false → same (bytes "C3") f ≡ false
-    → None ≡ look_up (headings purpose) f
-unfolding headings look_up
-other_heading f Check e e' e'' = sym (rw (e refl, e', e''))
-other_heading f Fill e e' e'' = sym (rw (e', e''))
-
-pub ruleset heading = (first_heading, second_heading, third_heading, other_heading)
 
 -- ------------------------------------------------------------------ the numerals after it
 

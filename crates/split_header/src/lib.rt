@@ -20,21 +20,23 @@ const MOST_TYPES: usize = 64;
 
 const MOST_MAPS: usize = 512;
 
+// The headings. The first is none where a sheet is filled.
+static HEADINGS: [(&[u8], Heading); 3] = [
+    (b"C", Heading::C),
+    (b"C2", Heading::C2),
+    (b"C3", Heading::C3),
+];
+
 // The heading that a field spells in a sheet that is read for this purpose: when filling, "A `C` header is 21".
-#[tactic(auto, using(crate::proofs::HeaderLaws::heading), unfolding(spec::specs::Text::bytes))]
+#[tactic(auto, unfolding(spec::specs::Text::bytes, spec::specs::Split::headings, keywords::specs::Words::entries))]
 fn heading_of(field: &[u8], purpose: Purpose) -> Option<Heading>
     ensures { result ≡ look_up (headings purpose) field.now }
 {
-    if keywords::same(b"C", field) && purpose == Purpose::Check {
-        return Some(Heading::C);
-    }
-    if keywords::same(b"C2", field) {
-        return Some(Heading::C2);
-    }
-    if keywords::same(b"C3", field) {
-        return Some(Heading::C3);
-    }
-    None
+    let headings = match purpose {
+        Purpose::Check => &HEADINGS[..],
+        Purpose::Fill => &HEADINGS[1..],
+    };
+    keywords::look_up(headings, field)
 }
 
 // How many numerals follow a heading.
