@@ -13,11 +13,10 @@ use Rattle.sheets.specs.Answers.{HoldsBoth}
 use Rattle.text_theory.specs.Sheet.{sheet_text}
 use Rattle.split_writer.specs.Contract.{HoldsSheet}
 use Rattle.fill_theory.specs.Answer.{given_limit, filled_text, returned_for, buffer_after}
-use Rattle.fill.specs.declared.Filled.{Filled}
 use Rattle.fill.specs.Numbers.{returned_by}
 
 -- the four numbers, and the buffer before and after, are those of an outcome
-pub record OutcomePost (outcome : Result (List ℕ) Refusal) (before after : List ℕ) (f : Filled) : Type 0 where
+pub record OutcomePost (outcome : Result (List ℕ) Refusal) (before after : List ℕ) (f : Result ℕ Refusal) : Type 0 where
   pub numbers : returned_by f ≡ returned_for outcome
   pub buffer : after ≡ buffer_after outcome before
 
@@ -37,7 +36,7 @@ unfoldable pub fitted : (buffer : ℕ) → List ℕ → Result (List ℕ) Refusa
 fitted buffer text = require (leb (length text) (min split_limit buffer)) TooLarge >>= λ short. Ok text
 
 -- the sheet of whichever split the work space holds
-abbrev pub SheetPost : (w : List ℕ) (header : Header) (steps procedures : ℕ) (before after : List ℕ) → Filled → Type 0
+abbrev pub SheetPost : (w : List ℕ) (header : Header) (steps procedures : ℕ) (before after : List ℕ) → Result ℕ Refusal → Type 0
 SheetPost w header steps procedures before after f =
     (S : Split) → HoldsSheet w header procedures steps S → OutcomePost (fitted (length before) (sheet_text S)) before after f
 
@@ -57,7 +56,7 @@ pub record MapsGiven (w : List ℕ) (header : Header) (steps procedures : ℕ) :
   pub few_maps : header.maps ≤ 256
 
 -- 41 and 42, for whichever sheets the work space holds
-abbrev pub TextPost : (w : List ℕ) (header : Header) (steps procedures : ℕ) (before after : List ℕ) → Filled → Type 0
+abbrev pub TextPost : (w : List ℕ) (header : Header) (steps procedures : ℕ) (before after : List ℕ) → Result ℕ Refusal → Type 0
 TextPost w header steps procedures before after f =
     (P : Program) (S : Split) → HoldsBoth w header steps procedures P S → OutcomePost (filled_text (length before) P S) before after f
 
@@ -70,6 +69,6 @@ after_reading buffer P S = do
   types_hold ← type_conditions_hold P S
   filled_text buffer P S
 
-abbrev pub SheetsPost : (w : List ℕ) (header : Header) (steps procedures : ℕ) (before after : List ℕ) → Filled → Type 0
+abbrev pub SheetsPost : (w : List ℕ) (header : Header) (steps procedures : ℕ) (before after : List ℕ) → Result ℕ Refusal → Type 0
 SheetsPost w header steps procedures before after f =
     (P : Program) (S : Split) → HoldsBoth w header steps procedures P S → OutcomePost (after_reading (length before) P S) before after f
