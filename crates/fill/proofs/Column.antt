@@ -55,11 +55,10 @@ module _ (w : List ℕ) (header : Header) (steps procedures : ℕ) (p : Location
     held = record { steps = steps; locations = header.locations; sheets = G.given.sheets.holds.sheets; within = G.within };
   }
 
-  pub column_room : (posts : List ℕ) → ColumnGiven w header steps procedures p.0 → length posts ≡ steps → Room w posts header.maps p.0
+  pub column_room : (posts : List ℕ) → ColumnGiven w header steps procedures p.0 → length posts ≡ steps → Room posts header.maps p.0
   column_room posts G long =
       let sheets = G.given.sheets in
       record {
-        long = sheets.long;
         room = omega (arith, sheets.few, G.given.few_maps);
         within = omega (arith, G.within, sheets.small.locations);
       }

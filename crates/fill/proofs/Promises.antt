@@ -11,10 +11,10 @@ use borrow.Author.Tests.{le-leb}
 use Rattle.spec.specs.Reading.{◌>>=◌, require}
 use Rattle.spec.specs.Program.{Program}
 use Rattle.spec.specs.Split.{Map, Split}
-use Rattle.spec.specs.Workspace.{workspace_size, workspace_after}
+use Rattle.spec.specs.Workspace.{workspace_size}
 use Rattle.spec.specs.Verdict.{verdict, numbers4, returned}
 use Rattle.spec.specs.declared.Returned.{Returned}
-use Rattle.spec.specs.declared.Answer.TheVariants.{Accept, Refuse}
+use Rattle.spec.specs.declared.Answer.TheVariants.{Accept}
 use Rattle.spec.specs.declared.Refusal.{Refusal}
 use Rattle.spec.specs.declared.Refusal.TheVariants.{NoAfterMaps, TooLarge}
 use Rattle.spec.proofs.Refusals.{refusal_number}

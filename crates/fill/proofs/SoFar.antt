@@ -62,7 +62,7 @@ module _ {w₀ w : List ℕ} {header : Header} {steps procedures : ℕ} where
   given_still c G =
       let X = G.sheets in
       record {
-        sheets = record { long = c.long ∙ X.long; few = X.few; few_procedures = X.few_procedures; small = X.small; P = X.P; S = X.S; holds = holds_still c X.holds };
+        sheets = record { few = X.few; few_procedures = X.few_procedures; small = X.small; P = X.P; S = X.S; holds = holds_still c X.holds };
         few_maps = G.few_maps;
       }
 

@@ -174,9 +174,9 @@ module _ (w : List ℕ) (header : Header) (steps procedures : ℕ) where
         → HoldsBoth w' header steps procedures P S
     both_kept few procs B = record { sheets = sheets_stay R.changed few procs B.sheets; headed = B.headed }
 
-    pub maps_kept : length w' ≡ length w → SheetsGiven w header steps procedures → MapsGiven w' header steps procedures
-    maps_kept same X = record {
-      sheets = record { long = same ∙ X.long; few = X.few; few_procedures = X.few_procedures; small = X.small; P = X.P; S = X.S; holds = both_kept X.few X.few_procedures X.holds };
+    pub maps_kept : SheetsGiven w header steps procedures → MapsGiven w' header steps procedures
+    maps_kept X = record {
+      sheets = record { few = X.few; few_procedures = X.few_procedures; small = X.small; P = X.P; S = X.S; holds = both_kept X.few X.few_procedures X.holds };
       few_maps = few;
     }
 
@@ -194,10 +194,10 @@ module _ (w : List ℕ) (header : Header) (steps procedures : ℕ) where
 -- ------------------------------------------------------------------ the sheets
 
 module _ (p s w : List ℕ) (answered : Reading) (told : SheetsAnswered Fill p s w answered) where
-  pub sheets_given : {steps procedures : ℕ} {header : Header} → answered ≡ reading.Held steps procedures header → length w ≡ work_size → SheetsGiven w header steps procedures
-  sheets_given e long =
+  pub sheets_given : {steps procedures : ℕ} {header : Header} → answered ≡ reading.Held steps procedures header → SheetsGiven w header steps procedures
+  sheets_given e =
       let H = held_by Fill p s w answered told e in
-      record { long = long; few = H.few; few_procedures = H.few_procedures; small = H.small; P = H.P; S = H.S; holds = H.holds }
+      record { few = H.few; few_procedures = H.few_procedures; small = H.small; P = H.P; S = H.S; holds = H.holds }
 
   module _ (before : List ℕ) where
     pub sheet_refused : {r : Refusal} → answered ≡ reading.Refused r → OutcomePost (fill workspace_size (length before) p s) before before (Err r)

@@ -2,7 +2,7 @@
 use Rattle.std.specs.Prelude.{◌≡◌, Bool, true, List, ℕ, ◌+◌, ◌*◌, ◌≤◌, ◌<◌, length, get_or, Option, None, Some, Result, Ok, Err}
 use Rattle.spec.specs.Program.{Program}
 use Rattle.spec.specs.Split.{Split}
-use Rattle.workspace.specs.Layout.{posts_at, maps_at, stride, empty_map, map_cell, work_size}
+use Rattle.workspace.specs.Layout.{posts_at, maps_at, stride, empty_map, map_cell}
 use Rattle.workspace.specs.Region.{ChangedWithin}
 use Rattle.spec.specs.declared.Header.{Header}
 use Rattle.sheets.specs.Answers.{HoldsBoth}
@@ -15,8 +15,7 @@ use Rattle.fill.specs.Stages.{MapsGiven}
 -- ------------------------------------------------------------------ storing
 
 -- there is room for the new maps
-pub record Room (w posts : List ℕ) (maps location : ℕ) : Type 0 where
-  pub long : length w ≡ work_size
+pub record Room (posts : List ℕ) (maps location : ℕ) : Type 0 where
   pub room : maps + length posts ≤ empty_map
   pub within : location < stride
 

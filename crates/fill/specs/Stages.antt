@@ -6,7 +6,6 @@ use Rattle.spec.specs.Program.{Program}
 use Rattle.spec.specs.Split.{Split, split_limit}
 use Rattle.spec.specs.Verdict.{locks_take_enough, start_at_most_one, type_conditions_hold}
 use Rattle.spec.specs.declared.Refusal.TheVariants.{TooLarge, TooManyMaps}
-use Rattle.workspace.specs.Layout.{work_size}
 use Rattle.spec.specs.declared.Header.{Header}
 use Rattle.workspace.specs.Sheets.{Small}
 use Rattle.sheets.specs.Answers.{HoldsBoth}
@@ -40,9 +39,8 @@ abbrev pub SheetPost : (w : List ℕ) (header : Header) (steps procedures : ℕ)
 SheetPost w header steps procedures before after f =
     (S : Split) → HoldsSheet w header procedures steps S → OutcomePost (fitted (length before) (sheet_text S)) before after f
 
--- the work space has its size and holds both sheets, of so many steps and procedures and with this header
+-- the work space holds both sheets, of so many steps and procedures and with this header
 pub record SheetsGiven (w : List ℕ) (header : Header) (steps procedures : ℕ) : Type 0 where
-  pub long : length w ≡ work_size
   pub few : steps ≤ 256
   pub few_procedures : procedures ≤ 16
   pub small : Small header

@@ -12,7 +12,6 @@ ghost use Rattle.spec.specs.declared.Answer.TheVariants.{Accept};
 ghost use Rattle.fill_theory.specs.AfterMaps.{AfterMaps};
 ghost use Rattle.fill_theory.specs.Answer.{fill as filling, returned_for, buffer_after, Fillable, FilledSheet, GreatestOverLimits};
 ghost use Rattle.split_writer.specs.Contract.{HoldsSome as HoldsSheetOfSome};
-ghost use Rattle.workspace.specs.Layout.{work_size};
 ghost use Rattle.fill.specs.Numbers.{returned_by};
 ghost use Rattle.fill.specs.Stages.{OutcomePost, grown_by, SheetsGiven, MapsGiven, SheetPost, TextPost, SheetsPost};
 
@@ -20,7 +19,7 @@ use maps::fill_maps;
 use sheets::Reading;
 use spec::{Header, Purpose, Refusal};
 use split_writer::write_sheet;
-use workspace::Ruling;
+use workspace::{Ruling, SIZE, clear};
 
 // The most bytes that a split sheet may have.
 const SPLIT_LIMIT: usize = 65536;
@@ -64,7 +63,7 @@ fn write_filled(
 
 // 41 and 42, for the sheets that the work space holds.
 fn fill_held(
-    work: &mut [u32],
+    work: &mut [u32; SIZE],
     header: Header,
     steps: usize,
     procedures: usize,
@@ -80,7 +79,7 @@ fn fill_held(
 
 // 43 and on, for the sheets that the work space holds.
 fn fill_sheets(
-    work: &mut [u32],
+    work: &mut [u32; SIZE],
     header: Header,
     steps: usize,
     procedures: usize,
@@ -102,10 +101,9 @@ fn fill_sheets(
 fn fill_texts(
     program: &[u8],
     split: &[u8],
-    work: &mut [u32],
+    work: &mut [u32; SIZE],
     out: &mut [u8],
 ) -> Result<u32, Refusal>
-    requires { length work.old ≡ work_size }
     ensures { OutcomePost (filling workspace_size (length out.old) program.now split.now) out.old out.new result }
 {
     match sheets::read(program, split, Purpose::Fill, work) {
@@ -137,10 +135,10 @@ pub fn fill(program: &[u8], split: &[u8], work: &mut [u32], out: &mut [u8]) -> R
     ensures greatest { (returned_by result).number ≡ 0 → FilledSheet (length work.old) (length out.old) program.now split.now (take (returned_by result).line out.new) }
     ensures accepted { (returned_by result).number ≡ 0 → verdict (length work.old) program.now (take (returned_by result).line out.new) ≡ Accept }
 {
-    if work.len() < workspace::SIZE {
+    let Some(lent) = work.first_chunk_mut() else {
         return Err(Refusal::ShortWorkspace);
-    }
-    let f = fill_texts(program, split, &mut work[..workspace::SIZE], out);
-    workspace::clear(&mut work[..workspace::SIZE]);
-    f
+    };
+    let filled = fill_texts(program, split, lent, out);
+    clear(lent);
+    filled
 }

@@ -1,7 +1,6 @@
 // The greatest after-maps, one location after the other, stored as maps behind the given ones.
 ghost use Rattle.std.specs.Prelude.{◌≡◌, true, ◌+◌, ◌≤◌, ◌<◌, length};
 ghost use Rattle.fill_theory.specs.Answer.{number_limit, map_at_most};
-ghost use Rattle.workspace.specs.Layout.{work_size};
 ghost use Rattle.fill.specs.Columns.{Room, ColumnStored, OneColumn, PostsStored, ColumnGiven, ColumnFilled, PostsShown};
 ghost use Rattle.fill.specs.FilledMaps.{FilledMaps};
 ghost use Rattle.fill.specs.Stages.{MapsGiven};
@@ -9,7 +8,7 @@ ghost use Rattle.fill.specs.Stages.{MapsGiven};
 use fill_pass::{Given, fill_location};
 use fill_transfer::Column;
 use spec::{Header, Location, Refusal};
-use workspace::{MAPS, POSTS, STRIDE, index};
+use workspace::{MAPS, POSTS, SIZE, STRIDE, index};
 
 // The largest number that a map may have.
 const LARGEST: u64 = 1000000000;
@@ -22,8 +21,8 @@ fn posts_fit(posts: &[u64]) -> bool
 }
 
 // Stores the posts at a location in the new maps, which stand behind the `maps` given ones.
-fn store_column(work: &mut [u32], posts: &[u64], maps: usize, p: Location)
-    requires { Room work.old posts.now maps p.0 × (map_at_most number_limit posts.now ≡ true) }
+fn store_column(work: &mut [u32; SIZE], posts: &[u64], maps: usize, p: Location)
+    requires { Room posts.now maps p.0 × (map_at_most number_limit posts.now ≡ true) }
     ensures { OneColumn maps p.0 work.old work.new × ColumnStored work.new maps p.0 posts.now }
 {
     let l = index(p.0);
@@ -34,8 +33,8 @@ fn store_column(work: &mut [u32], posts: &[u64], maps: usize, p: Location)
 }
 
 // Stores the posts at a location in the new maps, if no post is larger than a map can have; whether that is so.
-fn store_posts(work: &mut [u32], posts: &[u64], maps: usize, p: Location) -> bool
-    requires { Room work.old posts.now maps p.0 }
+fn store_posts(work: &mut [u32; SIZE], posts: &[u64], maps: usize, p: Location) -> bool
+    requires { Room posts.now maps p.0 }
     ensures { PostsStored posts.now maps p.0 result work.old work.new }
 {
     if posts_fit(posts) {
@@ -48,7 +47,7 @@ fn store_posts(work: &mut [u32], posts: &[u64], maps: usize, p: Location) -> boo
 // Stores the greatest posts at a location in the new maps, if none is larger than a map can have; whether that is so. 41 where there are
 // no posts.
 fn fill_column(
-    work: &mut [u32],
+    work: &mut [u32; SIZE],
     header: Header,
     steps: usize,
     procedures: usize,
@@ -73,8 +72,8 @@ fn fill_column(
 }
 
 // Each step shows a new map of its own.
-fn show_maps(work: &mut [u32], steps: usize, maps: usize)
-    requires { (length work.old ≡ work_size) × (steps ≤ 256) × (maps ≤ 256) }
+fn show_maps(work: &mut [u32; SIZE], steps: usize, maps: usize)
+    requires { (steps ≤ 256) × (maps ≤ 256) }
     ensures { PostsShown steps maps work.old work.new }
 {
     for i in 0..steps {
@@ -85,7 +84,7 @@ fn show_maps(work: &mut [u32], steps: usize, maps: usize)
 // The greatest after-maps of the sheets that the work space holds, filled in there: the map of step i has the number M + i.
 // That there are none, 41, is told at the first location without posts; that a number is too large, 42, once every location has some.
 pub(crate) fn fill_maps(
-    work: &mut [u32],
+    work: &mut [u32; SIZE],
     header: Header,
     steps: usize,
     procedures: usize,

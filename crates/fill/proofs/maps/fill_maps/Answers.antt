@@ -26,4 +26,4 @@ returns-then-large c = filled_large _ _ _ _ _ _ _ c.loop-l.invariant (omega arit
 pub returns : goal.returns
 returns c =
     let G = c.requires in
-    filled_maps _ _ _ _ _ _ _ c.loop-l.invariant (omega arith) c.if-large.false G.few_maps G.sheets.long _ c.show_maps.ensures
+    filled_maps _ _ _ _ _ _ _ c.loop-l.invariant (omega arith) c.if-large.false G.few_maps (omega arith) _ c.show_maps.ensures

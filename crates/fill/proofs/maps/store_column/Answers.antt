@@ -1,4 +1,4 @@
-use mathlib.Core.Path.{refl, ◌∙◌}
+use mathlib.Core.Path.{refl}
 use native.Mathlib.Omega.{arith}
 use Rattle.fill.proofs.Fits.{fits_each}
 use Rattle.fill.proofs.Stores.{column_again, stored_again}
@@ -12,6 +12,6 @@ loop-i-preserved c =
     let R = c.requires.0 in
     let is-index = c.index-l.ensures.0 in
     let (one, stored) = c.loop-i.invariant in (
-      column_again _ _ _ _ _ one (omega (arith, R.within, is-index)) (omega (arith, R.room)) (one.behind.long ∙ R.long) _,
-      stored_again _ _ _ _ _ one (omega (arith, R.within, is-index)) (omega (arith, R.room)) (one.behind.long ∙ R.long) _ _ refl stored,
+      column_again _ _ _ _ _ one (omega (arith, R.within, is-index)) (omega (arith, R.room)) (omega arith) _,
+      stored_again _ _ _ _ _ one (omega (arith, R.within, is-index)) (omega (arith, R.room)) (omega arith) _ _ refl stored,
     )
