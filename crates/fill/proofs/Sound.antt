@@ -2,6 +2,7 @@
 use Rattle.std.proofs.Common.{Result, Ok, Err}
 use mathlib.Core.Path.{◌≡◌, refl, sym, ap, ◌∙◌}
 use mathlib.Core.List.{List, ◌++◌}
+use mathlib.Core.Logic.{◌⊎◌}
 use Prim.Native.Nat.{ℕ, ◌+◌, ◌≤◌, ◌<◌, min}
 use native.Mathlib.Omega.{arith}
 use lib.ListN.{length, drop}
@@ -46,11 +47,9 @@ module _ (text before : List ℕ) where
 
   -- n is the length that was counted
   module _ {n : ℕ} (counted : n ≡ min (0 + length text) 18446744073709551615) where
-    pub too_long : 65536 < n → OutcomePost (fitted (length before) text) before before (Err TooLarge)
-    too_long h = told_as (sym (over (omega arith))) (refusal_sound TooLarge before)
-
-    pub no_room : length before < 18446744073709551616 → length before < n → OutcomePost (fitted (length before) text) before before (Err TooLarge)
-    no_room short h = told_as (sym (over (omega arith))) (refusal_sound TooLarge before)
+    pub too_long : length before < 18446744073709551616 → (65536 < n) ⊎ ((n ≤ 65536) × (length before < n))
+        → OutcomePost (fitted (length before) text) before before (Err TooLarge)
+    too_long short h = told_as (sym (over (omega (arith, h)))) (refusal_sound TooLarge before)
 
     pub fits_sound : {after : List ℕ} {next : ℕ} → n ≤ 65536 → n ≤ length before → WrittenAt before after 0 text next
         → OutcomePost (fitted (length before) text) before after (Ok n)

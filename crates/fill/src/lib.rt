@@ -51,10 +51,7 @@ fn write_filled(
     ensures { SheetPost work.now header steps procedures out.old out.new result }
 {
     let length = write_sheet(&mut [], work, header, procedures, steps);
-    if SPLIT_LIMIT < length {
-        return Err(Refusal::TooLarge);
-    }
-    if out.len() < length {
+    if SPLIT_LIMIT < length || out.len() < length {
         return Err(Refusal::TooLarge);
     }
     write_sheet(out, work, header, procedures, steps);
