@@ -1,5 +1,5 @@
 -- A column of the new maps: from the posts that are found at a location to those that are stored.
-use Rattle.std.proofs.Common.{Option, None, Some}
+use Rattle.std.proofs.Common.{Option, None, Some, Ok, Err}
 use mathlib.Core.Path.{◌≡◌, refl, sym, ap, ◌∙◌}
 use mathlib.Core.Bool.{Bool, true, false}
 use mathlib.Core.List.{List}
@@ -17,14 +17,15 @@ use Rattle.workspace.proofs.Region.{region_part, changed_nothing}
 use Rattle.sheets.specs.Answers.{HoldsBoth}
 use Rattle.fill_theory.specs.GreatestMaps.{posts_at}
 use Rattle.fill_theory.specs.FlowOf.{roots_of}
+use Rattle.fill_theory.specs.Answer.{number_limit, map_at_most}
 use Rattle.fill_theory.proofs.Roots.{roots_counted}
 use Rattle.fill_theory.proofs.Placed.{roots_steps, steps_sized}
 use Rattle.fill_transfer.specs.declared.Column.{Column}
 use Rattle.fill_pass.specs.declared.Given.{Given}
 use Rattle.fill_pass.specs.Roots.{Stored}
 use Rattle.fill_pass.specs.Contract.{ColumnReady, FilledHere}
-use Rattle.fill.specs.declared.maps.Found.TheVariants.{Nothing, Large, Maps}
-use Rattle.fill.specs.Columns.{Room, PostsStored, ColumnGiven, ColumnFilled}
+use Rattle.spec.specs.declared.Refusal.TheVariants.{NoAfterMaps}
+use Rattle.fill.specs.Columns.{Room, PostsStored, ColumnGiven, ColumnFound, ColumnFilled}
 
 -- a post for each step
 pub posts_counted : {w ps : List ℕ} {steps procedures denominator locations start : ℕ} (P : Program) (S : Split) (l : ℕ)
@@ -47,20 +48,17 @@ abbrev given_of : (procedures : ℕ) → MapNumber → Given
 given_of procedures start = record { procedures = procedures; start = start }
 
 module _ (w : List ℕ) (header : Header) (steps procedures : ℕ) (p : Location) where
-  pub column_fillable : (q : List ℕ) → ColumnGiven w header steps procedures p.0 → length q ≡ 256
-      → ColumnReady w (column_of p header.denominator) (given_of procedures header.start) q
-  column_fillable q G long = record {
+  pub column_fillable : ColumnGiven w header steps procedures p.0 → ColumnReady w (column_of p header.denominator) (given_of procedures header.start)
+  column_fillable G = record {
     P = G.given.sheets.P;
     S = G.given.sheets.S;
     held = record { steps = steps; locations = header.locations; sheets = G.given.sheets.holds.sheets; within = G.within };
-    long = long;
   }
 
-  pub column_room : (posts : List ℕ) → ColumnGiven w header steps procedures p.0 → length posts ≡ steps → Room w posts header.maps p.0
+  pub column_room : (posts : List ℕ) → ColumnGiven w header steps procedures p.0 → length posts ≡ steps → Room posts header.maps p.0
   column_room posts G long =
       let sheets = G.given.sheets in
       record {
-        long = sheets.long;
         room = omega (arith, sheets.few, G.given.few_maps);
         within = omega (arith, G.within, sheets.small.locations);
       }
@@ -69,39 +67,27 @@ module _ (w : List ℕ) (header : Header) (steps procedures : ℕ) (p : Location
     posts_here : (P : Program) (S : Split) → HoldsBoth w header steps procedures P S → p.0 < header.locations → Stored (posts_at P S p.0) 0 q r
     posts_here P S H l = F.answers P S (record { steps = steps; locations = header.locations; sheets = H.sheets; within = l })
 
-    pub column_nothing : r ≡ false → ColumnFilled w header steps procedures p.0 Nothing w
+    pub column_nothing : r ≡ false → ColumnFilled w header steps procedures p.0 (Err NoAfterMaps) w
     column_nothing e = record {
       one = record { behind = changed_nothing _ _ w; others = λ m l h n. refl };
       answers = λ P S H l. not_found (posts_at P S p.0) (posts_here P S H l);
     }
       where
-        not_found : (o : Option (List ℕ)) → Stored o 0 q r → o ≡ None
+        not_found : (o : Option (List ℕ)) → Stored o 0 q r → ColumnFound header.maps p.0 w o (Err NoAfterMaps)
         not_found None s = refl
         not_found (Some ps) s = let clash : ◌≡◌ {A = ℕ} 0 1 = cc in absurd (omega arith)
 
     -- the posts that are found stand in front
-    module _ (e : r ≡ true) where
-      found_here : (P : Program) (S : Split) → HoldsBoth w header steps procedures P S → p.0 < header.locations
-          → (ps : List ℕ) × (posts_at P S p.0 ≡ Some ps) × (take steps q ≡ ps)
-      found_here P S H l = go (posts_at P S p.0) refl (posts_here P S H l)
-        where
-          go : (o : Option (List ℕ)) → posts_at P S p.0 ≡ o → Stored o 0 q r → (ps : List ℕ) × (posts_at P S p.0 ≡ Some ps) × (take steps q ≡ ps)
-          go None h s = let clash : ◌≡◌ {A = ℕ} 0 1 = cc in absurd (omega arith)
-          go (Some ps) h s = (ps, h, ap (λ (n : ℕ). take n q) (sym (posts_counted P S p.0 H.sheets h)) ∙ region_part q 0 ps s.1)
-
-      module _ (w' : List ℕ) (s : Bool) (T : PostsStored (take steps q) header.maps p.0 s w w') where
-        pub column_large : s ≡ false → ColumnFilled w header steps procedures p.0 Large w'
-        column_large f = record {
-          one = T.one;
-          answers = λ P S H l.
-              let (ps, found, front) = found_here P S H l in
-              (ps, found, rw front at (sym T.fits ∙ f));
-        }
-
-        pub column_maps : s ≡ true → ColumnFilled w header steps procedures p.0 Maps w'
-        column_maps f = record {
-          one = T.one;
-          answers = λ P S H l.
-              let (ps, found, front) = found_here P S H l in
-              (ps, found, rw front at (sym T.fits ∙ f), rw front at (T.stored f));
-        }
+    pub column_stored : r ≡ true → (w' : List ℕ) (s : Bool) → PostsStored (take steps q) header.maps p.0 s w w' → ColumnFilled w header steps procedures p.0 (Ok s) w'
+    column_stored e w' s T = record {
+      one = T.one;
+      answers = λ P S H l. go P S H (posts_at P S p.0) refl (posts_here P S H l);
+    }
+      where
+        go : (P : Program) (S : Split) → HoldsBoth w header steps procedures P S → (o : Option (List ℕ)) → posts_at P S p.0 ≡ o → Stored o 0 q r
+            → ColumnFound header.maps p.0 w' (posts_at P S p.0) (Ok s)
+        go P S H None h t = let clash : ◌≡◌ {A = ℕ} 0 1 = cc in absurd (omega arith)
+        go P S H (Some ps) h t =
+            let front : take steps q ≡ ps = ap (λ (n : ℕ). take n q) (sym (posts_counted P S p.0 H.sheets h)) ∙ region_part q 0 ps t.1 in
+            let fits : s ≡ map_at_most number_limit ps = rw front at T.fits in
+            rw h (ap Ok fits, λ small. rw front at (T.stored (fits ∙ small)))

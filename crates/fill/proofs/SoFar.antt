@@ -1,6 +1,6 @@
 -- The columns so far: the invariant of the loop over locations.
-use Rattle.std.proofs.Common.{Some}
-use mathlib.Core.Path.{◌≡◌, sym, ap, ◌∙◌}
+use Rattle.std.proofs.Common.{Option, None, Some, Ok}
+use mathlib.Core.Path.{◌≡◌, refl, sym, ap, ◌∙◌}
 use mathlib.Core.Logic.{⊎_elim}
 use mathlib.Core.Bool.{Bool, true, false}
 use mathlib.Core.List.{List}
@@ -19,9 +19,8 @@ use Rattle.fill_theory.specs.GreatestMaps.{posts_at}
 use Rattle.fill_theory.specs.Answer.{number_limit, map_at_most}
 use Rattle.fill_theory.proofs.Found.{some_injective}
 use Rattle.fill_theory.proofs.Limits.{steps_few, procedures_few}
-use Rattle.fill.specs.declared.maps.Found.TheVariants.{Large, Maps}
 use Rattle.fill.specs.Stages.{MapsGiven}
-use Rattle.fill.specs.Columns.{OneColumn, ColumnStored, ColumnFilled}
+use Rattle.fill.specs.Columns.{OneColumn, ColumnStored, ColumnFound, ColumnFilled}
 
 -- the columns of the locations below l: all are found; if none has been too large, all are stored
 pub record Columns (P : Program) (S : Split) (w : List ℕ) (maps l : ℕ) (large : Bool) : Type 0 where
@@ -34,6 +33,12 @@ pub record Columns (P : Program) (S : Split) (w : List ℕ) (maps l : ℕ) (larg
 pub record SoFar (w₀ w : List ℕ) (header : Header) (steps procedures l : ℕ) (large : Bool) : Type 0 where
   pub behind : ChangedWithin (maps_at + stride * header.maps) (maps_at + stride * empty_map) w₀ w
   pub columns : (P : Program) (S : Split) → HoldsBoth w₀ header steps procedures P S → Columns P S w header.maps l large
+
+-- the posts that a column was told of
+column_told : {b : Bool} (maps l : ℕ) (w : List ℕ) (o : Option (List ℕ)) → ColumnFound maps l w o (Ok b)
+    → (ps : List ℕ) × (o ≡ Some ps) × (map_at_most number_limit ps ≡ b) × (map_at_most number_limit ps ≡ true → ColumnStored w maps l ps)
+column_told maps l w None h = let clash : ◌≡◌ {A = ℕ} 0 1 = cc in absurd (omega arith)
+column_told {b} maps l w (Some ps) h = let fits : map_at_most number_limit ps ≡ b = cc in (ps, refl, fits, h.1)
 
 -- a column stays when another is stored
 stored_still : {w w' ps : List ℕ} {maps l j : ℕ} → OneColumn maps l w w' → j < stride → (j ≡ l → ⊥) → ColumnStored w maps j ps → ColumnStored w' maps j ps
@@ -57,7 +62,7 @@ module _ {w₀ w : List ℕ} {header : Header} {steps procedures : ℕ} where
   given_still c G =
       let X = G.sheets in
       record {
-        sheets = record { long = c.long ∙ X.long; few = X.few; few_procedures = X.few_procedures; small = X.small; P = X.P; S = X.S; holds = holds_still c X.holds };
+        sheets = record { few = X.few; few_procedures = X.few_procedures; small = X.small; P = X.P; S = X.S; holds = holds_still c X.holds };
         few_maps = G.few_maps;
       }
 
@@ -83,11 +88,11 @@ module _ (w₀ w w' : List ℕ) (header : Header) (steps procedures l : ℕ) (la
       (eq-or-lt_of_le (omega arith))
 
   -- and have a number that is too large
-  pub large_again : ColumnFilled w header steps procedures l Large w' → SoFar w₀ w' header steps procedures (l + 1) true
+  pub large_again : ColumnFilled w header steps procedures l (Ok false) w' → SoFar w₀ w' header steps procedures (l + 1) true
   large_again F = record {
     behind = changed_then _ _ Z.behind F.one.behind;
     columns = λ P S H.
-        let (ps, found, over) = F.answers P S (holds_still Z.behind H) within in
+        let (ps, found, over, _) = column_told _ _ _ (posts_at P S l) (F.answers P S (holds_still Z.behind H) within) in
         record {
           found = found_more (Z.columns P S H) (ps, found);
           stored = λ e. let clash : ◌≡◌ {A = ℕ} 0 1 = cc in absurd (omega arith);
@@ -96,7 +101,7 @@ module _ (w₀ w w' : List ℕ) (header : Header) (steps procedures l : ℕ) (la
   }
 
   -- or are stored
-  pub maps_again : ColumnFilled w header steps procedures l Maps w' → SoFar w₀ w' header steps procedures (l + 1) large
+  pub maps_again : ColumnFilled w header steps procedures l (Ok true) w' → SoFar w₀ w' header steps procedures (l + 1) large
   maps_again F = record {
     behind = changed_then _ _ Z.behind F.one.behind;
     columns = columns;
@@ -106,14 +111,14 @@ module _ (w₀ w w' : List ℕ) (header : Header) (steps procedures l : ℕ) (la
       columns P S H =
           let C = Z.columns P S H in
           let few : header.locations ≤ stride = omega (arith, H.sheets.locations_given, H.sheets.in_range.locations) in
-          let (ps, found, small, stored) = F.answers P S (holds_still Z.behind H) within in
+          let (ps, found, small, stored) = column_told _ _ _ (posts_at P S l) (F.answers P S (holds_still Z.behind H) within) in
           record {
             found = found_more C (ps, found);
             stored = λ e j h qs f.
                 ⊎_elim
                 (λ (s : j ≡ l).
                 let same : ps ≡ qs = some_injective (sym found ∙ rw s at f) in
-                rw (s, ← same) (small, stored))
+                rw (s, ← same) (small, stored small))
                 (λ (k : j < l).
                 let (small, stored) = C.stored e j k qs f in
                 (small, stored_still F.one (omega arith) (λ s. absurd (omega arith)) stored))

@@ -2,6 +2,7 @@
 use Rattle.std.proofs.Common.{Result, Ok, Err}
 use mathlib.Core.Path.{◌≡◌, refl, sym, ap, ◌∙◌}
 use mathlib.Core.List.{List, ◌++◌}
+use mathlib.Core.Logic.{◌⊎◌}
 use Prim.Native.Nat.{ℕ, ◌+◌, ◌≤◌, ◌<◌, min}
 use native.Mathlib.Omega.{arith}
 use lib.ListN.{length, drop}
@@ -17,22 +18,20 @@ use Rattle.writer.proofs.Buffer.{overwrite_front}
 use Rattle.fill_theory.specs.Answer.{returned_for, buffer_after}
 use Rattle.fill.specs.Numbers.{returned_by}
 use Rattle.fill.specs.Stages.{OutcomePost, fitted}
-use Rattle.fill.specs.declared.Filled.{Filled}
-use Rattle.fill.specs.declared.Filled.TheVariants.{Written as WrittenSheet, Refused}
 
 -- ------------------------------------------------------------------ outcomes
 
-pub refusal_sound : (r : Refusal) (buffer : List ℕ) → OutcomePost (Err r) buffer buffer (Refused r)
+pub refusal_sound : (r : Refusal) (buffer : List ℕ) → OutcomePost (Err r) buffer buffer (Err r)
 unfolding returned_by returned_for buffer_after
 refusal_sound r buffer = record { numbers = refl; buffer = refl }
 
 pub text_sound : {n : ℕ} {after : List ℕ} (text buffer : List ℕ) → n ≡ length text → after ≡ text ++ drop (length text) buffer
-    → OutcomePost (Ok text) buffer after (WrittenSheet n)
+    → OutcomePost (Ok text) buffer after (Ok n)
 unfolding returned_by returned_for buffer_after in_front numbers4
 text_sound text buffer e h = record { numbers = rw e; buffer = h }
 
 -- the same outcome, found in another way
-pub told_as : {o o' : Result (List ℕ) Refusal} {before after : List ℕ} {f : Filled} → o ≡ o' → OutcomePost o before after f → OutcomePost o' before after f
+pub told_as : {o o' : Result (List ℕ) Refusal} {before after : List ℕ} {f : Result ℕ Refusal} → o ≡ o' → OutcomePost o before after f → OutcomePost o' before after f
 told_as e t = record { numbers = t.numbers ∙ ap returned_for e; buffer = rw (← e) t.buffer }
 
 -- ------------------------------------------------------------------ 42 by length
@@ -48,13 +47,11 @@ module _ (text before : List ℕ) where
 
   -- n is the length that was counted
   module _ {n : ℕ} (counted : n ≡ min (0 + length text) 18446744073709551615) where
-    pub too_long : 65536 < n → OutcomePost (fitted (length before) text) before before (Refused TooLarge)
-    too_long h = told_as (sym (over (omega arith))) (refusal_sound TooLarge before)
-
-    pub no_room : length before < 18446744073709551616 → length before < n → OutcomePost (fitted (length before) text) before before (Refused TooLarge)
-    no_room short h = told_as (sym (over (omega arith))) (refusal_sound TooLarge before)
+    pub too_long : length before < 18446744073709551616 → (65536 < n) ⊎ ((n ≤ 65536) × (length before < n))
+        → OutcomePost (fitted (length before) text) before before (Err TooLarge)
+    too_long short h = told_as (sym (over (omega (arith, h)))) (refusal_sound TooLarge before)
 
     pub fits_sound : {after : List ℕ} {next : ℕ} → n ≤ 65536 → n ≤ length before → WrittenAt before after 0 text next
-        → OutcomePost (fitted (length before) text) before after (WrittenSheet n)
+        → OutcomePost (fitted (length before) text) before after (Ok n)
     fits_sound short room w =
         told_as (sym (within (omega arith))) (text_sound text before (omega arith) (w.holds ∙ overwrite_front before text (omega arith)))

@@ -1,9 +1,8 @@
 -- From what the stages of filling find to what they tell.
-use Rattle.std.proofs.Common.{Some, Ok, Err}
+use Rattle.std.proofs.Common.{Option, None, Some, Result, Ok, Err}
 use mathlib.Core.Path.{◌≡◌, refl, sym, ap, ◌∙◌}
-use mathlib.Core.Path.{subst as along}
 use mathlib.Core.List.{List}
-use mathlib.Core.Bool.{true}
+use mathlib.Core.Bool.{Bool, true, false}
 use Prim.Native.Nat.{ℕ, ◌≤◌, ◌<◌}
 use native.Mathlib.Omega.{arith}
 use lib.Dec.{leb}
@@ -38,13 +37,9 @@ use Rattle.fill_theory.specs.GreatestMaps.{greatest_maps}
 use Rattle.fill_theory.specs.Answer.{given_limit, number_limit, all_at_most, found_or, filled_text, fill}
 use Rattle.fill_theory.proofs.Filling.{found_exactly_greatest}
 use Rattle.fill_theory.proofs.Limits.{procedures_few}
-use Rattle.fill_theory.proofs.Reasons.{no_after_maps, large_number_lem, sheets_refused}
-use Rattle.fill.specs.FilledMaps.{FilledAs, FilledMaps}
+use Rattle.fill_theory.proofs.Reasons.{sheets_refused}
+use Rattle.fill.specs.FilledMaps.{small_maps, FilledAs, FilledMaps}
 use Rattle.fill.specs.Stages.{OutcomePost, grown_by, fitted, SheetPost, SheetsGiven, MapsGiven, TextPost, after_reading, SheetsPost}
-use Rattle.fill.specs.declared.Filled.{Filled}
-use Rattle.fill.specs.declared.Filled.TheVariants.{Refused}
-use Rattle.fill.specs.declared.maps.Found.{Found}
-use Rattle.fill.specs.declared.maps.Found.TheVariants.{Nothing, Large, Maps}
 use Rattle.fill.proofs.SoFar.{maps_sound}
 use Rattle.fill.proofs.Sound.{refusal_sound, told_as}
 
@@ -79,37 +74,70 @@ module _ {w w' : List ℕ} {header : Header} {steps procedures : ℕ} {P : Progr
     few = omega (arith, H.procedures_counted, procedures_few P H.well_formed);
   }
 
-small_text : (buffer : ℕ) (P : Program) (S : Split) (γ : List Map) → greatest_maps P S ≡ Some γ → all_at_most number_limit γ ≡ true
-    → filled_text buffer P S ≡ fitted buffer (sheet_text (filled S γ))
-unfolding filled_text found_or require fitted ◌>>=◌
-small_text buffer P S γ found small = rw (found, small)
+-- maps that are small enough are the greatest
+small_found : (P : Program) (S : Split) (γ : List Map) → small_maps P S ≡ Ok γ → greatest_maps P S ≡ Some γ
+unfolding small_maps found_or require ◌>>=◌
+small_found P S γ e = go (greatest_maps P S) e
+  where
+    by_size : (b : Bool) (γ' : List Map) → (require b TooLarge >>= λ small. Ok γ') ≡ Ok γ → Some γ' ≡ Some γ
+    by_size true γ' e = cc
+    by_size false γ' e = cc
 
-module _ {w w' : List ℕ} (header : Header) {steps procedures : ℕ} {r : Found}
-    (F : FilledMaps w header steps procedures r w') where
-  filled_as : {r' : Found} → r ≡ r' → (P : Program) (S : Split) → HoldsBoth w header steps procedures P S
-      → FilledAs header steps procedures P S w' r'
-  filled_as e P S B = along (FilledAs header steps procedures P S w') e (F.answers P S B)
+    go : (o : Option (List Map)) → (found_or NoAfterMaps o >>= λ γ. require (all_at_most number_limit γ) TooLarge >>= λ small. Ok γ) ≡ Ok γ → o ≡ Some γ
+    go None e = cc
+    go (Some γ') e = by_size (all_at_most number_limit γ') γ' e
 
-  pub nothing_sound : (buffer : List ℕ) → r ≡ Nothing → TextPost w header steps procedures buffer buffer (Refused NoAfterMaps)
-  nothing_sound buffer e P S B = told_as (sym (no_after_maps _ P S (filled_as e P S B))) (refusal_sound NoAfterMaps buffer)
+-- the text is that of the split with these
+text_of_small : (buffer : ℕ) (P : Program) (S : Split) → filled_text buffer P S ≡ (small_maps P S >>= λ γ. fitted buffer (sheet_text (filled S γ)))
+unfolding filled_text small_maps fitted found_or require ◌>>=◌
+text_of_small buffer P S = go (greatest_maps P S)
+  where
+    by_size : (b : Bool) (γ : List Map) → (require b TooLarge >>= λ small. fitted buffer (sheet_text (filled S γ)))
+        ≡ ((require b TooLarge >>= λ small. Ok γ) >>= λ γ. fitted buffer (sheet_text (filled S γ)))
+    by_size true γ = refl
+    by_size false γ = refl
 
-  pub large_sound : (buffer : List ℕ) → r ≡ Large → TextPost w header steps procedures buffer buffer (Refused TooLarge)
-  unfolding number_limit
-  large_sound buffer e P S B =
-      let (γ, found, large) = filled_as e P S B in
-      told_as (sym (large_number_lem _ P S γ found large)) (refusal_sound TooLarge buffer)
+    go : (o : Option (List Map)) → (found_or NoAfterMaps o >>= λ γ. require (all_at_most number_limit γ) TooLarge >>= λ small. fitted buffer (sheet_text (filled S γ)))
+        ≡ ((found_or NoAfterMaps o >>= λ γ. require (all_at_most number_limit γ) TooLarge >>= λ small. Ok γ) >>= λ γ. fitted buffer (sheet_text (filled S γ)))
+    go None = refl
+    go (Some γ) = by_size (all_at_most number_limit γ) γ
 
-  pub some_filled : {whole : Header} → r ≡ Maps → whole ≡ grown_by steps header → MapsGiven w header steps procedures → HoldsSheetOfSome w' whole procedures steps
-  some_filled e is G =
-      let X = G.sheets in
-      let (γ, found, small, H) = filled_as e X.P X.S X.holds in
-      rw is (record { S = filled X.S γ; holds = filled_held X.holds γ found H })
+module _ {w w' : List ℕ} {header : Header} {steps procedures : ℕ} where
+  -- maps are refused
+  pub maps_refused : {e : Refusal} (buffer : List ℕ) → FilledMaps w header steps procedures (Err e) w' → TextPost w header steps procedures buffer buffer (Err e)
+  unfolding ◌>>=◌
+  maps_refused {e} buffer F P S B = go (small_maps P S) (text_of_small _ P S) (F.answers P S B)
+    where
+      go : (o : Result (List Map) Refusal) → filled_text (length buffer) P S ≡ (o >>= λ γ. fitted (length buffer) (sheet_text (filled S γ)))
+          → FilledAs header steps procedures P S w' o (Err e) → OutcomePost (filled_text (length buffer) P S) buffer buffer (Err e)
+      go (Err e') t h = let same : e ≡ e' = cc in told_as (sym t) (rw same (refusal_sound e' buffer))
+      go (Ok γ) t h = let clash : ◌≡◌ {A = ℕ} 0 1 = cc in absurd (omega arith)
 
-  pub maps_filled : {whole : Header} {before after : List ℕ} {f : Filled} → r ≡ Maps → whole ≡ grown_by steps header
-      → SheetPost w' whole steps procedures before after f → TextPost w header steps procedures before after f
-  maps_filled e is told P S B =
-      let (γ, found, small, H) = filled_as e P S B in
-      told_as (sym (small_text _ P S γ found small)) (told (filled S γ) (rw is (filled_held B γ found H)))
+  module _ (F : FilledMaps w header steps procedures (Ok tt) w') {whole : Header} (is : whole ≡ grown_by steps header) where
+    -- the maps that are filled in
+    record Found (P : Program) (S : Split) : Type 0 where
+      γ : List Map
+      small : small_maps P S ≡ Ok γ
+      held : HoldsSheet w' whole procedures steps (filled S γ)
+
+    maps_here : (P : Program) (S : Split) → HoldsBoth w header steps procedures P S → Found P S
+    maps_here P S B = go (small_maps P S) refl (F.answers P S B)
+      where
+        go : (o : Result (List Map) Refusal) → small_maps P S ≡ o → FilledAs header steps procedures P S w' o (Ok tt) → Found P S
+        go (Err e) m h = let clash : ◌≡◌ {A = ℕ} 0 1 = cc in absurd (omega arith)
+        go (Ok γ) m h = record { γ = γ; small = m; held = rw is (filled_held B γ (small_found P S γ m) h.1) }
+
+    pub some_filled : MapsGiven w header steps procedures → HoldsSheetOfSome w' whole procedures steps
+    some_filled G =
+        let X = G.sheets in
+        let M = maps_here X.P X.S X.holds in
+        record { S = filled X.S M.γ; holds = M.held }
+
+    pub maps_filled : {before after : List ℕ} {f : Result ℕ Refusal} → SheetPost w' whole steps procedures before after f → TextPost w header steps procedures before after f
+    unfolding ◌>>=◌
+    maps_filled {before} told P S B =
+        let M = maps_here P S B in
+        told_as (sym (rw M.small at (text_of_small (length before) P S))) (told (filled S M.γ) M.held)
 
 -- ------------------------------------------------------------------ 43, 44, 30 and 31
 
@@ -132,7 +160,7 @@ module _ (buffer : ℕ) (P : Program) (S : Split) where
   after_rules h e same = few_maps_lem h ∙ ap (◌>>= λ holds. filled_text buffer P S) (sym e ∙ ap outcome same)
 
 module _ (w : List ℕ) (header : Header) (steps procedures : ℕ) where
-  pub many_sound : (buffer : List ℕ) → 256 < header.maps → SheetsPost w header steps procedures buffer buffer (Refused TooManyMaps)
+  pub many_sound : (buffer : List ℕ) → 256 < header.maps → SheetsPost w header steps procedures buffer buffer (Err TooManyMaps)
   many_sound buffer h P S B =
       told_as (sym (many _ P S (omega (arith, maps_sound S header B.headed, h)))) (refusal_sound TooManyMaps buffer)
 
@@ -146,18 +174,18 @@ module _ (w : List ℕ) (header : Header) (steps procedures : ℕ) where
         → HoldsBoth w' header steps procedures P S
     both_kept few procs B = record { sheets = sheets_stay R.changed few procs B.sheets; headed = B.headed }
 
-    pub maps_kept : length w' ≡ length w → SheetsGiven w header steps procedures → MapsGiven w' header steps procedures
-    maps_kept same X = record {
-      sheets = record { long = same ∙ X.long; few = X.few; few_procedures = X.few_procedures; small = X.small; P = X.P; S = X.S; holds = both_kept X.few X.few_procedures X.holds };
+    pub maps_kept : SheetsGiven w header steps procedures → MapsGiven w' header steps procedures
+    maps_kept X = record {
+      sheets = record { few = X.few; few_procedures = X.few_procedures; small = X.small; P = X.P; S = X.S; holds = both_kept X.few X.few_procedures X.holds };
       few_maps = few;
     }
 
-    pub rule_refused : (buffer : List ℕ) (x : Refusal) → r ≡ ruling.Refused x → SheetsPost w header steps procedures buffer buffer (Refused x)
+    pub rule_refused : (buffer : List ℕ) (x : Refusal) → r ≡ ruling.Refused x → SheetsPost w header steps procedures buffer buffer (Err x)
     unfolding outcome ◌>>=◌
     rule_refused buffer x e P S B =
         told_as (sym (after_rules _ P S (given_few B) (R.answers P S B.sheets (types_decodes S header B.headed)) e)) (refusal_sound x buffer)
 
-    pub rules_met : {before after : List ℕ} {f : Filled} → steps ≤ 256 → procedures ≤ 16 → r ≡ ruling.Holds → TextPost w' header steps procedures before after f
+    pub rules_met : {before after : List ℕ} {f : Result ℕ Refusal} → steps ≤ 256 → procedures ≤ 16 → r ≡ ruling.Holds → TextPost w' header steps procedures before after f
         → SheetsPost w header steps procedures before after f
     unfolding outcome ◌>>=◌
     rules_met few procs e told P S B =
@@ -166,18 +194,18 @@ module _ (w : List ℕ) (header : Header) (steps procedures : ℕ) where
 -- ------------------------------------------------------------------ the sheets
 
 module _ (p s w : List ℕ) (answered : Reading) (told : SheetsAnswered Fill p s w answered) where
-  pub sheets_given : {steps procedures : ℕ} {header : Header} → answered ≡ reading.Held steps procedures header → length w ≡ work_size → SheetsGiven w header steps procedures
-  sheets_given e long =
+  pub sheets_given : {steps procedures : ℕ} {header : Header} → answered ≡ reading.Held steps procedures header → SheetsGiven w header steps procedures
+  sheets_given e =
       let H = held_by Fill p s w answered told e in
-      record { long = long; few = H.few; few_procedures = H.few_procedures; small = H.small; P = H.P; S = H.S; holds = H.holds }
+      record { few = H.few; few_procedures = H.few_procedures; small = H.small; P = H.P; S = H.S; holds = H.holds }
 
   module _ (before : List ℕ) where
-    pub sheet_refused : {r : Refusal} → answered ≡ reading.Refused r → OutcomePost (fill workspace_size (length before) p s) before before (Refused r)
+    pub sheet_refused : {r : Refusal} → answered ≡ reading.Refused r → OutcomePost (fill workspace_size (length before) p s) before before (Err r)
     unfolding workspace_size
     sheet_refused e =
         told_as (sym (sheets_refused work_size (length before) p s (omega arith) _ (refused_by Fill p s w answered told e))) (refusal_sound _ before)
 
-    pub sheets_filled : {steps procedures : ℕ} {header : Header} {after : List ℕ} {f : Filled} → answered ≡ reading.Held steps procedures header
+    pub sheets_filled : {steps procedures : ℕ} {header : Header} {after : List ℕ} {f : Result ℕ Refusal} → answered ≡ reading.Held steps procedures header
         → SheetsPost w header steps procedures before after f → OutcomePost (fill workspace_size (length before) p s) before after f
     unfolding fill after_reading workspace_size
     sheets_filled e filled =

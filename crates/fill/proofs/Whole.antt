@@ -1,5 +1,5 @@
 -- All columns: the greatest after-maps that they make, and that the work space holds the split with these filled in.
-use Rattle.std.proofs.Common.{Some}
+use Rattle.std.proofs.Common.{Option, None, Some, Ok, Err}
 use mathlib.Core.Path.{◌≡◌, refl, sym, ap, ◌∙◌}
 use mathlib.Core.Logic.{inl, inr}
 use mathlib.Core.Bool.{Bool, true, false}
@@ -22,15 +22,17 @@ use Rattle.sheets.specs.Answers.{HoldsBoth}
 use Rattle.fill_theory.specs.Filled.{with_posts, filled}
 use Rattle.fill_theory.specs.Found.{◌>>=◌, for_each}
 use Rattle.fill_theory.specs.GreatestMaps.{posts_at, greatest_maps}
-use Rattle.fill_theory.specs.Answer.{number_limit, map_at_most, all_at_most}
+use Rattle.fill_theory.specs.Answer.{number_limit, map_at_most, all_at_most, found_or}
 use Rattle.fill_theory.proofs.Found.{some_injective, finds_bind}
 use Rattle.fill_theory.proofs.Kept.{rows_post}
 use Rattle.fill_theory.proofs.InRange.{rows_counted_lem, filled_in_range}
 use Rattle.fill_theory.proofs.Limits.{steps_few, procedures_few}
 use Rattle.fill_theory.proofs.Columns.{each_found, find_each, miss_one, maps_counted_lem, maps_wide}
-use Rattle.fill.specs.declared.maps.Found.TheVariants.{Nothing, Large, Maps}
-use Rattle.fill.specs.FilledMaps.{FilledMaps}
-use Rattle.fill.specs.Columns.{ColumnStored, ColumnFilled, PostsShown}
+use Rattle.spec.specs.declared.Refusal.{Refusal}
+use Rattle.spec.specs.declared.Refusal.TheVariants.{NoAfterMaps, TooLarge}
+use Rattle.spec.specs.Reading as reading
+use Rattle.fill.specs.FilledMaps.{small_maps, FilledMaps}
+use Rattle.fill.specs.Columns.{ColumnStored, ColumnFound, ColumnFilled, PostsShown}
 use Rattle.fill.proofs.Column.{posts_counted}
 use Rattle.fill.proofs.Made.{made, made_number, columns_small, column_over}
 use Rattle.fill.proofs.SoFar.{SoFar, maps_sound, holds_still}
@@ -138,17 +140,22 @@ module _ (w w' : List ℕ) (header : Header) (steps procedures : ℕ) (P : Progr
 
 -- ------------------------------------------------------------------ the answers
 
+-- a column is refused where there are no posts
+column_refused : {r : Refusal} (maps l : ℕ) (w : List ℕ) (o : Option (List ℕ)) → ColumnFound maps l w o (Err r) → (o ≡ None) × (r ≡ NoAfterMaps)
+column_refused maps l w None h = (refl, cc)
+column_refused maps l w (Some ps) h = let clash : ◌≡◌ {A = ℕ} 0 1 = cc in absurd (omega arith)
+
 module _ (w₀ w : List ℕ) (header : Header) (steps procedures l : ℕ) where
   -- a location without posts
   pub filled_nothing : (w' : List ℕ) {large : Bool} → SoFar w₀ w header steps procedures l large → l < header.locations
-      → ColumnFilled w header steps procedures l Nothing w' → FilledMaps w₀ header steps procedures Nothing w'
-  unfolding greatest_maps ◌>>=◌
-  filled_nothing w' Z within F = record {
+      → {r : Refusal} → ColumnFilled w header steps procedures l (Err r) w' → FilledMaps w₀ header steps procedures (Err r) w'
+  unfolding greatest_maps ◌>>=◌ small_maps found_or reading.◌>>=◌
+  filled_nothing w' Z within {r} F = record {
     answers = λ P S H.
         let z : 0 + l ≡ l = omega arith in
-        let missed = miss_one (posts_at P S) 0 S.header.locations l (omega (arith, H.sheets.locations_given))
-        (rw z (F.answers P S (holds_still Z.behind H) within)) in
-        rw missed;
+        let (none, is) = column_refused _ _ _ (posts_at P S l) (F.answers P S (holds_still Z.behind H) within) in
+        let missed = miss_one (posts_at P S) 0 S.header.locations l (omega (arith, H.sheets.locations_given)) (rw z none) in
+        rw missed (ap Err is);
   }
 
   module _ (large : Bool) (Z : SoFar w₀ w header steps procedures l large) (end : l ≡ header.locations) where
@@ -197,16 +204,16 @@ module _ (w₀ w : List ℕ) (header : Header) (steps procedures l : ℕ) where
           let h' : i < n = omega (arith, maps_counted_lem columns 0 n) in
           (column_stored e j k).1.at i (omega (arith, column_long j k)) ∙ sym (made_number columns n i h' j)
 
-    pub filled_large : large ≡ true → FilledMaps w₀ header steps procedures Large w
-    filled_large e = record { answers = λ P S H. (made (columns P S H) (n P S H), greatest_found P S H, too_large P S H e) }
+    pub filled_large : large ≡ true → FilledMaps w₀ header steps procedures (Err TooLarge) w
+    unfolding small_maps found_or reading.◌>>=◌ reading.require
+    filled_large e = record { answers = λ P S H. rw (greatest_found P S H, too_large P S H e) refl }
 
     pub filled_maps : large ≡ false → header.maps ≤ 256 → length w₀ ≡ work_size → (w' : List ℕ) → PostsShown steps header.maps w w'
-        → FilledMaps w₀ header steps procedures Maps w'
+        → FilledMaps w₀ header steps procedures (Ok tt) w'
+    unfolding small_maps found_or reading.◌>>=◌ reading.require
     filled_maps e few long w' T = record {
-      answers = λ P S H. (
-        made (columns P S H) (n P S H),
-        greatest_found P S H,
-        small P S H e,
+      answers = λ P S H. rw (greatest_found P S H, small P S H e) (
+        refl,
         sheets_held w w' header steps procedures P S (made (columns P S H) (n P S H)) (holds_still Z.behind H) T few (Z.behind.long ∙ long)
             (maps_counted_lem (columns P S H) 0 (n P S H))
             (λ i h. maps_wide (columns P S H) (n P S H) i (omega (arith, maps_counted_lem (columns P S H) 0 (n P S H))) ∙ columns_counted P S H)

@@ -1,22 +1,21 @@
 -- What the parts of `fill_maps` ask and promise of the new maps, a location at a time.
-use Rattle.std.specs.Prelude.{◌≡◌, Bool, true, false, List, ℕ, ◌+◌, ◌*◌, ◌≤◌, ◌<◌, length, get_or, Option, None, Some}
+use Rattle.std.specs.Prelude.{◌≡◌, Bool, true, List, ℕ, ◌+◌, ◌*◌, ◌≤◌, ◌<◌, length, get_or, Option, None, Some, Result, Ok, Err}
 use Rattle.spec.specs.Program.{Program}
 use Rattle.spec.specs.Split.{Split}
-use Rattle.workspace.specs.Layout.{posts_at, maps_at, stride, empty_map, map_cell, work_size}
+use Rattle.workspace.specs.Layout.{posts_at, maps_at, stride, empty_map, map_cell}
 use Rattle.workspace.specs.Region.{ChangedWithin}
 use Rattle.spec.specs.declared.Header.{Header}
 use Rattle.sheets.specs.Answers.{HoldsBoth}
 use Rattle.fill_theory.specs.GreatestMaps as greatest
 use Rattle.fill_theory.specs.Answer.{number_limit, map_at_most}
-use Rattle.fill.specs.declared.maps.Found.{Found}
-use Rattle.fill.specs.declared.maps.Found.TheVariants.{Nothing, Large, Maps}
+use Rattle.spec.specs.declared.Refusal.{Refusal}
+use Rattle.spec.specs.declared.Refusal.TheVariants.{NoAfterMaps}
 use Rattle.fill.specs.Stages.{MapsGiven}
 
 -- ------------------------------------------------------------------ storing
 
 -- there is room for the new maps
-pub record Room (w posts : List ℕ) (maps location : ℕ) : Type 0 where
-  pub long : length w ≡ work_size
+pub record Room (posts : List ℕ) (maps location : ℕ) : Type 0 where
   pub room : maps + length posts ≤ empty_map
   pub within : location < stride
 
@@ -47,15 +46,14 @@ pub record ColumnGiven (w : List ℕ) (header : Header) (steps procedures locati
   pub given : MapsGiven w header steps procedures
   pub within : location < header.locations
 
--- there are no posts; one is too large; or they are stored
-module _ (maps location : ℕ) (w : List ℕ) (posts : Option (List ℕ)) where
-  abbrev pub ColumnFound : Found → Type 0
-  ColumnFound Nothing = posts ≡ None
-  ColumnFound Large = (ps : List ℕ) × (posts ≡ Some ps) × (map_at_most number_limit ps ≡ false)
-  ColumnFound Maps = (ps : List ℕ) × (posts ≡ Some ps) × (map_at_most number_limit ps ≡ true) × ColumnStored w maps location ps
+-- 41 if there are no posts, else whether none is too large; if so, they are stored
+module _ (maps location : ℕ) (w : List ℕ) where
+  abbrev pub ColumnFound : Option (List ℕ) → Result Bool Refusal → Type 0
+  ColumnFound None r = r ≡ Err NoAfterMaps
+  ColumnFound (Some ps) r = (r ≡ Ok (map_at_most number_limit ps)) × (map_at_most number_limit ps ≡ true → ColumnStored w maps location ps)
 
 -- from w to w', for whichever sheets w holds
-pub record ColumnFilled (w : List ℕ) (header : Header) (steps procedures location : ℕ) (r : Found) (w' : List ℕ) : Type 0 where
+pub record ColumnFilled (w : List ℕ) (header : Header) (steps procedures location : ℕ) (r : Result Bool Refusal) (w' : List ℕ) : Type 0 where
   pub one : OneColumn header.maps location w w'
   pub answers : (P : Program) (S : Split) → HoldsBoth w header steps procedures P S → location < header.locations
       → ColumnFound header.maps location w' (greatest.posts_at P S location) r

@@ -12,15 +12,14 @@ ghost use Rattle.spec.specs.declared.Answer.TheVariants.{Accept};
 ghost use Rattle.fill_theory.specs.AfterMaps.{AfterMaps};
 ghost use Rattle.fill_theory.specs.Answer.{fill as filling, returned_for, buffer_after, Fillable, FilledSheet, GreatestOverLimits};
 ghost use Rattle.split_writer.specs.Contract.{HoldsSome as HoldsSheetOfSome};
-ghost use Rattle.workspace.specs.Layout.{work_size};
 ghost use Rattle.fill.specs.Numbers.{returned_by};
 ghost use Rattle.fill.specs.Stages.{OutcomePost, grown_by, SheetsGiven, MapsGiven, SheetPost, TextPost, SheetsPost};
 
-use maps::{Found, fill_maps};
+use maps::fill_maps;
 use sheets::Reading;
 use spec::{Header, Purpose, Refusal};
-use workspace::Ruling;
 use split_writer::write_sheet;
+use workspace::{Ruling, SIZE, clear};
 
 // The most bytes that a split sheet may have.
 const SPLIT_LIMIT: usize = 65536;
@@ -28,27 +27,15 @@ const SPLIT_LIMIT: usize = 65536;
 // The most maps that a sheet may give: one is added for each of up to 256 steps.
 const GIVEN_LIMIT: usize = 256;
 
-// The length of the sheet that is written, or the reason why none is.
-#[derive(Drop)]
-pub enum Filled {
-    Written(u32),
-    Refused(Refusal),
-}
-
 // The header of a sheet with a map more for each step.
+#[tactic(auto, unfolding(crate::specs::Stages::grown_by))]
 fn grown(header: Header, steps: usize) -> Header
     requires { (header.maps ≤ 256) × (steps ≤ 256) }
     ensures { result ≡ grown_by steps header }
 {
-    let heading = header.heading;
-    let start = header.start;
     Header {
-        heading: heading,
-        denominator: header.denominator,
-        locations: header.locations,
-        types: header.types,
         maps: header.maps + steps,
-        start: start,
+        ..header
     }
 }
 
@@ -59,70 +46,65 @@ fn write_filled(
     steps: usize,
     procedures: usize,
     out: &mut [u8],
-) -> Filled
+) -> Result<u32, Refusal>
     requires { HoldsSheetOfSome work.now header procedures steps }
     ensures { SheetPost work.now header steps procedures out.old out.new result }
 {
-    let mut nothing = [0u8; 0];
-    let length = write_sheet(&mut nothing, work, header, procedures, steps);
-    if SPLIT_LIMIT < length {
-        return Filled::Refused(Refusal::TooLarge);
-    }
-    if out.len() < length {
-        return Filled::Refused(Refusal::TooLarge);
+    let length = write_sheet(&mut [], work, header, procedures, steps);
+    if SPLIT_LIMIT < length || out.len() < length {
+        return Err(Refusal::TooLarge);
     }
     write_sheet(out, work, header, procedures, steps);
-    Filled::Written(length as u32)
+    Ok(length as u32)
 }
 
 // 41 and 42, for the sheets that the work space holds.
 fn fill_held(
-    work: &mut [u32],
+    work: &mut [u32; SIZE],
     header: Header,
     steps: usize,
     procedures: usize,
     out: &mut [u8],
-) -> Filled
+) -> Result<u32, Refusal>
     requires { MapsGiven work.old header steps procedures }
     ensures { TextPost work.old header steps procedures out.old out.new result }
 {
-    match fill_maps(work, header, steps, procedures) {
-        Found::Nothing => Filled::Refused(Refusal::NoAfterMaps),
-        Found::Large => Filled::Refused(Refusal::TooLarge),
-        Found::Maps => {
-            let whole = grown(header, steps);
-            write_filled(work, whole, steps, procedures, out)
-        }
-    }
+    fill_maps(work, header, steps, procedures)?;
+    let whole = grown(header, steps);
+    write_filled(work, whole, steps, procedures, out)
 }
 
 // 43 and on, for the sheets that the work space holds.
 fn fill_sheets(
-    work: &mut [u32],
+    work: &mut [u32; SIZE],
     header: Header,
     steps: usize,
     procedures: usize,
     out: &mut [u8],
-) -> Filled
+) -> Result<u32, Refusal>
     requires { SheetsGiven work.old header steps procedures }
     ensures { SheetsPost work.old header steps procedures out.old out.new result }
 {
     if GIVEN_LIMIT < header.maps {
-        return Filled::Refused(Refusal::TooManyMaps);
+        return Err(Refusal::TooManyMaps);
     }
     match walk::check(work, Purpose::Fill, steps, procedures, header) {
-        Ruling::Refused(r) => Filled::Refused(r),
+        Ruling::Refused(r) => Err(r),
         Ruling::Holds => fill_held(work, header, steps, procedures, out),
     }
 }
 
 // The answer to a pair of texts, in a work space that is as long as document 01 wants.
-fn fill_texts(program: &[u8], split: &[u8], work: &mut [u32], out: &mut [u8]) -> Filled
-    requires { length work.old ≡ work_size }
+fn fill_texts(
+    program: &[u8],
+    split: &[u8],
+    work: &mut [u32; SIZE],
+    out: &mut [u8],
+) -> Result<u32, Refusal>
     ensures { OutcomePost (filling workspace_size (length out.old) program.now split.now) out.old out.new result }
 {
     match sheets::read(program, split, Purpose::Fill, work) {
-        Reading::Refused(r) => Filled::Refused(r),
+        Reading::Refused(r) => Err(r),
         Reading::Held(steps, procedures, header) => fill_sheets(
             work, header, steps, procedures, out,
         ),
@@ -140,7 +122,7 @@ fn fill_texts(program: &[u8], split: &[u8], work: &mut [u32], out: &mut [u8]) ->
 // them is over 65,536 bytes or over the buffer;
 // greatest: the text written is that of the split with the greatest such maps;
 // accepted: document 01's answer to the program and the text written is ACCEPT.
-pub fn fill(program: &[u8], split: &[u8], work: &mut [u32], out: &mut [u8]) -> Filled
+pub fn fill(program: &[u8], split: &[u8], work: &mut [u32], out: &mut [u8]) -> Result<u32, Refusal>
     ensures answer { returned_by result ≡ returned_for (filling (length work.old) (length out.old) program.now split.now) }
     ensures written { out.new ≡ buffer_after (filling (length work.old) (length out.old) program.now split.now) out.old }
     ensures cleared { work.new ≡ workspace_after work.old }
@@ -150,10 +132,10 @@ pub fn fill(program: &[u8], split: &[u8], work: &mut [u32], out: &mut [u8]) -> F
     ensures greatest { (returned_by result).number ≡ 0 → FilledSheet (length work.old) (length out.old) program.now split.now (take (returned_by result).line out.new) }
     ensures accepted { (returned_by result).number ≡ 0 → verdict (length work.old) program.now (take (returned_by result).line out.new) ≡ Accept }
 {
-    if work.len() < workspace::SIZE {
-        return Filled::Refused(Refusal::ShortWorkspace);
-    }
-    let f = fill_texts(program, split, &mut work[..16384], out);
-    workspace::clear(&mut work[..16384]);
-    f
+    let Some(lent) = work.first_chunk_mut() else {
+        return Err(Refusal::ShortWorkspace);
+    };
+    let filled = fill_texts(program, split, lent, out);
+    clear(lent);
+    filled
 }

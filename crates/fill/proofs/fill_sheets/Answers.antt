@@ -8,7 +8,7 @@ returns-then-header-gt-GIVEN_LIMIT c = many_sound _ _ _ _ _ c.if-header-gt-GIVEN
 pub fill_held-requires : goal.fill_held-requires
 fill_held-requires c =
     let few = c.if-header-gt-GIVEN_LIMIT.false in
-    maps_kept _ _ _ _ few c.check.ensures c.check.auto.work c.requires
+    maps_kept _ _ _ _ few c.check.ensures c.requires
 
 pub returns-in-Refused : goal.returns-in-Refused
 returns-in-Refused c = rule_refused _ _ _ _ c.if-header-gt-GIVEN_LIMIT.false c.check.ensures _ _ c.in-Refused.is
