@@ -5,17 +5,24 @@ use Rattle.workspace.specs.Layout.{words_at, rule_of, touch_of}
 use Rattle.workspace.specs.declared.Touch.{Touch}
 use Rattle.workspace.specs.declared.Touch.TheVariants.{Nothing, Reads, Writes}
 use Rattle.replay_control.specs.declared.ControlPoint.{ControlPoint}
-use Rattle.replay_control.specs.Modes.{is_ready}
+use Rattle.replay_control.specs.declared.Mode.TheVariants.{Ready}
+use Rattle.replay_control.specs.Modes.{is}
 use Rattle.replay_control.specs.Control.{kept}
-use Rattle.replay_step.specs.Slots.{slot_at}
+use Rattle.replay_objects.specs.declared.Thing.{Thing}
+use Rattle.replay_objects.specs.declared.Thing.TheVariants.{Cell}
+use Rattle.replay_step.specs.Slots.{thing_at}
 use Rattle.replay_engine.specs.ControlPoints.{control_point_at}
 use Rattle.replay_engine.specs.declared.races.Access.{Access}
 use Rattle.replay_engine.specs.declared.races.Access.TheVariants.{Read, Write}
 
 -- ------------------------------------------------------------------ one thread
 
+abbrev pub is_cell : Thing → Bool
+is_cell (Cell v) = true
+is_cell x = false
+
 unfoldable pub names_cell : (s : List ℕ) (v : ℕ) → Bool
-names_cell s v = eqb (slot_at s v).kind 2
+names_cell s v = is_cell (thing_at s v)
 
 -- of a word that touches a cell so: `read` that which its value names, `write` that which its first part gave
 unfoldable pub access_by : Touch → (s : List ℕ) → ControlPoint → Option Access
@@ -24,7 +31,7 @@ access_by Reads s f = let v = f.value in when names_cell s v then Some (Read v) 
 access_by Writes s f = let v = kept s f.row f.at in when names_cell s v then Some (Write v) else None
 
 unfoldable pub access_at : (p s : List ℕ) → ControlPoint → Option Access
-access_at p s f = when is_ready f.mode then access_by (touch_of (rule_of (get_or p (words_at + f.at) 0))) s f else None
+access_at p s f = when is f.mode Ready then access_by (touch_of (rule_of (get_or p (words_at + f.at) 0))) s f else None
 
 unfoldable pub access_of : (p s : List ℕ) (t : ℕ) → Option Access
 access_of p s t = access_at p s (control_point_at s t)

@@ -11,6 +11,7 @@ ghost use Rattle.replay_engine.specs.Steps.{may_choose as may_choose_of, proceed
 use control_points::{control_point_at, go_on};
 pub use races::lowest_pair;
 use replay_control::{ControlPoint, Mode, layout, put, second, shape_at, variable};
+use replay_objects::{Slot, Thing};
 pub use replay_step::Halt;
 use replay_step::{Act, gives};
 use threads::Threads;
@@ -193,13 +194,17 @@ fn clear_part(space: &mut [u32], from: usize, to: usize)
 
 // The start: one thread, about to evaluate the root, and no thing but its identifier, whose value is 1. Of the space only what is looked at
 // before it is stored is cleared: the variables of the first row, and the counts and kinds of things.
-#[tactic(auto, unfolding(crate::specs::Steps::start_of, crate::specs::Steps::start_space))]
+#[tactic(auto, unfolding(crate::specs::Steps::start_of, crate::specs::Steps::start_space, replay_objects::specs::Stored::numbers_of))]
 pub fn start(program: &[u32], space: &mut [u32]) -> Threads
     ensures { start_of program.now space.old ≡ (result, space.new) }
 {
     clear_part(space, layout::ENVIRONMENTS, layout::ROW);
     clear_part(space, layout::THING_COUNTS, layout::THING_FIRSTS);
-    put(space, layout::THING_KINDS + 1, replay_objects::IDENTIFIER);
+    put(
+        space,
+        layout::THING_KINDS + 1,
+        Slot::of(Thing::Identifier).kind,
+    );
     put(space, layout::NEXT_VALUE, 2);
     let root = ControlPoint::entering(0, replay_control::root(program));
     proceed(program, space, Threads::start(1), 0, root)

@@ -8,7 +8,7 @@ use mathlib.Core.List.{List, [], ◌∷◌}
 use native.Mathlib.Omega.{arith}
 use native.Mathlib.Decide.{ℕ_discrete}
 use borrow.Author.Tests.{lt-ltb}
-use lib.Dec.{eqb, ltb}
+use lib.Dec.{ltb}
 use lib.ListN.{length, get_or, set, length-set}
 use lib.Seq.{get_or-set_same, get_or-set_other}
 use Rattle.spec.specs.Choice.{when◌then◌else◌}
@@ -21,11 +21,13 @@ use Rattle.threads.specs.declared.Threads.{Threads}
 use Rattle.threads.specs.Records.{no_record}
 use Rattle.threads.specs.Threads.{turned, finished}
 use Rattle.replay_control.specs.Layout.{thing_counts_at, next_value_at, thing_kinds_at, thing_firsts_at, thing_seconds_at, space_size}
-use Rattle.replay_control.specs.Modes.{is_at_end}
+use Rattle.replay_control.specs.declared.Mode.TheVariants.{Done}
+use Rattle.replay_control.specs.Modes.{is}
 use Rattle.replay_control.specs.declared.ControlPoint.{ControlPoint}
 use Rattle.replay_control.specs.Control.{found}
-use Rattle.replay_objects.specs.Uses.{slot}
-use Rattle.replay_step.specs.Slots.{slot_at}
+use Rattle.replay_objects.specs.declared.Thing.TheVariants.{Unused}
+use Rattle.replay_objects.specs.Stored.{slot, thing_of}
+use Rattle.replay_step.specs.Slots.{thing_at}
 use Rattle.replay_engine.specs.ControlPoints.{control_point_at, control_point_put, settled, went_on}
 use Rattle.replay_engine.specs.Steps.{recorded, proceeded}
 use Rattle.replay_theory.specs.Run.{ObjectKind}
@@ -38,18 +40,18 @@ use Rattle.replay_simulation.proofs.Held.{BodiesStand, ControlAt, WordAt}
 use Rattle.replay_simulation.proofs.Advancing.{SameBut}
 use Rattle.replay_simulation.proofs.Finding.{Finds}
 use Rattle.replay_simulation.proofs.Agreeing.{SharedSame, control_same, agree_then, agree_found, shared_found, control_point_here, control_point_length, control_point_other, control_point_shared, control_point_rows}
-use Rattle.replay_simulation.proofs.Holds.{NamesHeld, SlotIs, kind_code, record_of, ThreadHeld, Sized, ThreadsHeld, Holds}
+use Rattle.replay_simulation.proofs.Holds.{NamesHeld, kind_code, record_of, ThreadHeld, Sized, ThreadsHeld, Holds}
 
 -- ------------------------------------------------------------------ names
 
-pub slot_same : (s s' : List ℕ) (v : ℕ) → SharedSame s s' → slot_at s' v ≡ slot_at s v
-unfolding slot_at
-slot_same s s' v h = λ z. when ltb v 322 then slot (h (thing_kinds_at + v) (omega arith) z) (h (thing_firsts_at + v) (omega arith) z) (h (thing_seconds_at + v) (omega arith) z) else slot 0 0 0
+pub thing_same : (s s' : List ℕ) (v : ℕ) → SharedSame s s' → thing_at s' v ≡ thing_at s v
+unfolding thing_at
+thing_same s s' v h = λ z. when ltb v 322 then thing_of (slot (h (thing_kinds_at + v) (omega arith) z) (h (thing_firsts_at + v) (omega arith) z) (h (thing_seconds_at + v) (omega arith) z)) else Unused
 
 pub names_same : (s s' : List ℕ) {names : ℕ → calculus.Slot} {next : ℕ} {things : ObjectKind → ℕ} → SharedSame s s' → NamesHeld s names next things → NamesHeld s' names next things
 names_same s s' {names = names} h N = record {
-  constant = ap (λ x. x.kind) (slot_same s s' 0 h) ∙ N.constant;
-  slots = λ n l. subst (λ x. SlotIs x (names n)) (sym (slot_same s s' (suc n) h)) (N.slots n l);
+  constant = thing_same s s' 0 h ∙ N.constant;
+  slots = λ n l. thing_same s s' (suc n) h ∙ N.slots n l;
   unused_from_lem = N.unused_from_lem;
   next_stored = h next_value_at (omega arith) ∙ N.next_stored;
   counted = λ k. h (thing_counts_at + kind_code k) (omega arith) ∙ N.counted k;
@@ -60,20 +62,20 @@ names_same s s' {names = names} h N = record {
 -- ------------------------------------------------------------------ the record
 
 -- whether the loop found no word
-mode_tells : (p s : List ℕ) (t : ℕ) (f : ControlPoint) (d : Control) → ControlAt p s t f d → is_at_end f.mode ≡ is_done d
-mode_tells p s t f (done v) C = ap (λ (g : ControlPoint). is_at_end g.mode) C
+mode_tells : (p s : List ℕ) (t : ℕ) (f : ControlPoint) (d : Control) → ControlAt p s t f d → is f.mode Done ≡ is_done d
+mode_tells p s t f (done v) C = ap (λ (g : ControlPoint). is g.mode Done) C
 mode_tells p s t f (at σ w K) (values, W, F) = word_tells w W
   where
-    word_tells : (w : machine.Word) → WordAt p s f.row f w → is_at_end f.mode ≡ false
-    word_tells (machine.let_word q x v e) W = ap (λ (g : ControlPoint). is_at_end g.mode) W.0
-    word_tells (machine.if_word q e₁ e₂) W = ap (λ (g : ControlPoint). is_at_end g.mode) W.0
-    word_tells (machine.while_word q e) W = ap (λ (g : ControlPoint). is_at_end g.mode) W.0
-    word_tells (machine.spawn_word q v e) W = ap (λ (g : ControlPoint). is_at_end g.mode) W.0
-    word_tells (machine.write_word q v w) W = ap (λ (g : ControlPoint). is_at_end g.mode) W.0
-    word_tells (machine.unary_word q o v) W = ap (λ (g : ControlPoint). is_at_end g.mode) W.0
-    word_tells (machine.nullary_word q o) W = ap (λ (g : ControlPoint). is_at_end g.mode) W.0
-    word_tells (machine.unrolled_word q e) W = ap (λ (g : ControlPoint). is_at_end g.mode) W.0
-    word_tells (machine.again_word q v e) W = ap (λ (g : ControlPoint). is_at_end g.mode) W.0
+    word_tells : (w : machine.Word) → WordAt p s f.row f w → is f.mode Done ≡ false
+    word_tells (machine.let_word q x v e) W = ap (λ (g : ControlPoint). is g.mode Done) W.0
+    word_tells (machine.if_word q e₁ e₂) W = ap (λ (g : ControlPoint). is g.mode Done) W.0
+    word_tells (machine.while_word q e) W = ap (λ (g : ControlPoint). is g.mode Done) W.0
+    word_tells (machine.spawn_word q v e) W = ap (λ (g : ControlPoint). is g.mode Done) W.0
+    word_tells (machine.write_word q v w) W = ap (λ (g : ControlPoint). is g.mode Done) W.0
+    word_tells (machine.unary_word q o v) W = ap (λ (g : ControlPoint). is g.mode Done) W.0
+    word_tells (machine.nullary_word q o) W = ap (λ (g : ControlPoint). is g.mode Done) W.0
+    word_tells (machine.unrolled_word q e) W = ap (λ (g : ControlPoint). is g.mode Done) W.0
+    word_tells (machine.again_word q v e) W = ap (λ (g : ControlPoint). is g.mode Done) W.0
 
 abbrev running_record : (tid : ℕ) → Record
 running_record tid = record { state = Running; tid = suc tid }
