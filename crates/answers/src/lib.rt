@@ -7,20 +7,22 @@ ghost use Rattle.std.specs.Prelude.{◌≡◌};
 ghost use Rattle.spec.specs.Verdict.{returned, numbers4 as four_of};
 ghost use Rattle.spec.specs.declared.Answer.TheVariants.{Refuse};
 
-pub use line::{Outcome, write_line};
+pub use line::write_line;
 use spec::{Answer, Refusal, Returned};
 
+#[tactic(auto, unfolding(spec::specs::Verdict::numbers4))]
 fn four_numbers(number: u32, line: u32, condition: u32, location: u32) -> Returned
     ensures { result ≡ four_of number line condition location }
 {
     Returned {
-        number: number,
-        line: line,
-        condition: condition,
-        location: location,
+        number,
+        line,
+        condition,
+        location,
     }
 }
 
+#[tactic(auto, unfolding(spec::specs::Verdict::returned))]
 fn refusal_numbers(r: Refusal) -> Returned
     ensures { result ≡ returned (Refuse r) }
 {
@@ -59,6 +61,7 @@ fn refusal_numbers(r: Refusal) -> Returned
     }
 }
 
+#[tactic(auto, unfolding(spec::specs::Verdict::returned))]
 pub fn numbers_of(a: Answer) -> Returned
     ensures { result ≡ returned a }
 {

@@ -1,4 +1,5 @@
 -- From what a drill finds to what it promises.
+use Rattle.std.proofs.Common.{Option, None, Some}
 use mathlib.Core.Path.{◌≡◌, refl, ◌∙◌}
 use mathlib.Core.List.{List}
 use mathlib.Core.Bool.{false, and-false}
@@ -21,7 +22,6 @@ use Rattle.drill_theory.proofs.Accepted.{pair_accepted, seed_accepted}
 use Rattle.text_theory.specs.Text.{in_front}
 use Rattle.drill.specs.Answer.{drilled_numbers, returned_by, roomy, answer_of}
 use Rattle.drill.specs.declared.Drilled.{Drilled}
-use Rattle.drill.specs.declared.Drilled.TheVariants.{Made, Short}
 
 -- ------------------------------------------------------------------ the texts
 
@@ -47,7 +47,7 @@ module _ {k : ℕ} (drawable : Drawable k) where
 -- ------------------------------------------------------------------ the promise
 
 -- the clauses of `drill`, of both buffers before and after
-abbrev pub Drills : (seed : ℕ) (program split program' split' : List ℕ) → Drilled → Type 0
+abbrev pub Drills : (seed : ℕ) (program split program' split' : List ℕ) → Option Drilled → Type 0
 Drills seed program split program' split' r =
     (returned_by r ≡ answer_of seed (length program) (length split))
     × (((returned_by r).number ≡ 0 → (program' ≡ in_front (program_of seed) program) × (split' ≡ in_front (split_of seed) split))
@@ -56,15 +56,15 @@ Drills seed program split program' split' r =
 
 -- ------------------------------------------------------------------ a buffer is too short
 
-short : (seed : ℕ) (program split : List ℕ) → roomy seed (length program) (length split) ≡ false → Drills seed program split program split Short
+short : (seed : ℕ) (program split : List ℕ) → roomy seed (length program) (length split) ≡ false → Drills seed program split program split None
 unfolding drilled_numbers returned_by answer_of
 short seed program split h = (rw h, ((λ z. absurd (omega (arith, z))), ((λ z. (refl, refl)), (λ z. absurd (omega (arith, z))))))
 
-pub program_short : (seed : ℕ) (program split : List ℕ) → length program < length (program_of seed) → Drills seed program split program split Short
+pub program_short : (seed : ℕ) (program split : List ℕ) → length program < length (program_of seed) → Drills seed program split program split None
 unfolding roomy
 program_short seed program split h = short seed program split (simp (lt-leb (length (program_of seed)) (length program) h))
 
-pub split_short : (seed : ℕ) (program split : List ℕ) → length split < length (split_of seed) → Drills seed program split program split Short
+pub split_short : (seed : ℕ) (program split : List ℕ) → length split < length (split_of seed) → Drills seed program split program split None
 unfolding roomy
 split_short seed program split h = short seed program split (simp (lt-leb (length (split_of seed)) (length split) h, and-false))
 
@@ -79,7 +79,7 @@ pub both_written : (seed x p s : ℕ) (program split program' split' : List ℕ)
     → x ≡ drawn seed → p ≡ length (program_of seed) → s ≡ length (split_of seed)
     → p ≤ length program → s ≤ length split
     → program' ≡ overwrite program 0 (program_of seed) → split' ≡ overwrite split 0 (split_of seed)
-    → Drills seed program split program' split' (Made x p s)
+    → Drills seed program split program' split' (Some (record { next = x; program = p; split = s }))
 unfolding drilled_numbers returned_by roomy answer_of in_front
 both_written seed x p s program split program' split' ex ep es hp hs wp ws =
     let hp' : length (program_of seed) ≤ length program = omega arith in

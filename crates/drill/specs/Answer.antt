@@ -1,10 +1,9 @@
 -- What a drill returns.
-use Rattle.std.specs.Prelude.{Bool, ◌&&◌, ℕ, leb, length}
+use Rattle.std.specs.Prelude.{Bool, ◌&&◌, ℕ, leb, length, Option, None, Some}
 use Rattle.spec.specs.Choice.{when◌then◌else◌}
 use Rattle.drill_theory.specs.Draw.{drawn}
 use Rattle.drill_theory.specs.Pair.{program_of, split_of}
 use Rattle.drill.specs.declared.Drilled.{Drilled}
-use Rattle.drill.specs.declared.Drilled.TheVariants.{Made, Short}
 
 -- the four numbers returned: 0 or a refusal, the new x, the lengths of program and split
 pub record Numbers : Type 0 where
@@ -17,9 +16,9 @@ unfoldable pub drilled_numbers : (number next program split : ℕ) → Numbers
 drilled_numbers n x p s = record { number = n; next = x; program = p; split = s }
 
 -- how an answer of the code stands for them
-unfoldable pub returned_by : Drilled → Numbers
-returned_by (Made x p s) = drilled_numbers 0 x p s
-returned_by Short = drilled_numbers 38 0 0 0
+unfoldable pub returned_by : Option Drilled → Numbers
+returned_by (Some d) = drilled_numbers 0 d.next d.program d.split
+returned_by None = drilled_numbers 38 0 0 0
 
 -- whether buffers of these lengths have room for the texts of a seed
 unfoldable pub roomy : (seed program split : ℕ) → Bool

@@ -17,26 +17,28 @@ ghost use Rattle.drill.specs.Answer.{returned_by, answer_of};
 use program_sheet::write_program;
 use split_sheet::write_split;
 
-// What a drill answers: the new x and the lengths of program and split; or that a buffer is shorter than its text.
-#[derive(Drop)]
-pub enum Drilled {
-    Made { next: u32, program: u32, split: u32 },
-    Short,
+// What a drill answers where both buffers have room: the new x and the lengths of program and split.
+#[derive(Clone, Copy)]
+pub struct Drilled {
+    pub next: u32,
+    pub program: u32,
+    pub split: u32,
 }
 
 // The next number of the draw.
+#[tactic(auto, unfolding(drill_theory::specs::Draw::drawn))]
 fn draw(x: u32) -> u32
     ensures { result ≡ drawn x }
 {
-    let product = 1664525 * (x as u64) + 1013904223;
-    (product % 4294967296) as u32
+    x.wrapping_mul(1_664_525).wrapping_add(1_013_904_223)
 }
 
 // The number of readers that a drawn number stands for, 1 to 31.
+#[tactic(auto, unfolding(drill_theory::specs::Draw::readers))]
 fn readers(x: u32) -> u64
     ensures { result ≡ readers_drawn x }
 {
-    (1 + x / 65536 % 31) as u64
+    u64::from(1 + x / 65536 % 31)
 }
 
 // How long the program text of k readers is: it is written into a buffer without room.
@@ -44,8 +46,7 @@ fn program_length(k: u64) -> u32
     requires { Drawable k }
     ensures { result ≡ length (program_text k) }
 {
-    let mut nothing = [0u8; 0];
-    write_program(&mut nothing, k) as u32
+    write_program(&mut [], k) as u32
 }
 
 // How long the split text of k readers is.
@@ -53,36 +54,33 @@ fn split_length(k: u64) -> u32
     requires { Drawable k }
     ensures { result ≡ length (split_text k) }
 {
-    let mut nothing = [0u8; 0];
-    write_split(&mut nothing, k) as u32
+    write_split(&mut [], k) as u32
 }
 
-// Writes the practice pair of a seed, if both buffers have room. What document 02 asks of it, clause by clause:
+// Writes the practice pair of a seed, if both buffers have room; none if either is shorter than its text. What document 02 asks of it,
+// clause by clause:
 // answer: the four numbers, for every seed and every two lengths of buffers;
 // written: on success each buffer is its text, and behind it what it held before;
 // unchanged: on 38 both buffers are as they were;
 // accepted: on success document 01's answer to the two texts is ACCEPT.
-pub fn drill(seed: u32, program: &mut [u8], split: &mut [u8]) -> Drilled
+pub fn drill(seed: u32, program: &mut [u8], split: &mut [u8]) -> Option<Drilled>
     ensures answer { returned_by result ≡ answer_of seed (length program.old) (length split.old) }
     ensures written { (returned_by result).number ≡ 0 → (program.new ≡ in_front (program_of seed) program.old) × (split.new ≡ in_front (split_of seed) split.old) }
     ensures unchanged { (returned_by result).number ≡ 38 → (program.new ≡ program.old) × (split.new ≡ split.old) }
     ensures accepted { (returned_by result).number ≡ 0 → verdict workspace_size (take (returned_by result).program program.new) (take (returned_by result).split split.new) ≡ Accept }
 {
-    let x = draw(seed);
-    let k = readers(x);
+    let next = draw(seed);
+    let k = readers(next);
     let program_size = program_length(k);
     let split_size = split_length(k);
-    if program.len() < program_size as usize {
-        return Drilled::Short;
-    }
-    if split.len() < split_size as usize {
-        return Drilled::Short;
+    if program.len() < program_size as usize || split.len() < split_size as usize {
+        return None;
     }
     write_program(program, k);
     write_split(split, k);
-    Drilled::Made {
-        next: x,
+    Some(Drilled {
+        next,
         program: program_size,
         split: split_size,
-    }
+    })
 }

@@ -26,7 +26,6 @@ ghost use Rattle.replay.specs.Pieces.{ends_line, job_size};
 ghost use Rattle.replay_kept.specs.Kept.{kept_size};
 ghost use Rattle.replay_pieces.specs.Pieces.{roomy, answer_number, FrontUsed, KeptRun};
 
-use drill::Drilled;
 use fill::Filled;
 use spec::Answer;
 
@@ -69,17 +68,13 @@ pub fn racecheck_drill(
     ensures accepted { result ≡ 0 → verdict workspace_size (take program_length.new program.new) (take split_length.new split.new) ≡ Accept }
 {
     match drill::drill(seed, program, split) {
-        Drilled::Made {
-            next: x,
-            program: p,
-            split: s,
-        } => {
-            *next = x;
-            *program_length = p;
-            *split_length = s;
+        Some(drilled) => {
+            *next = drilled.next;
+            *program_length = drilled.program;
+            *split_length = drilled.split;
             0
         }
-        Drilled::Short => {
+        None => {
             *next = 0;
             *program_length = 0;
             *split_length = 0;

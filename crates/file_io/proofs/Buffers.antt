@@ -1,6 +1,6 @@
 -- The bytes of a file that was read, and of a line that was written, are a part of their buffer.
-use Rattle.std.proofs.Common.{Some}
-use mathlib.Core.Path.{◌≡◌, sym, ap, subst, ◌∙◌}
+use Rattle.std.proofs.Common.{Option, Some}
+use mathlib.Core.Path.{◌≡◌, sym, ap, ◌∙◌}
 use mathlib.Core.List.{List, ◌++◌}
 use Prim.Native.Nat.{ℕ, ◌≤◌, ◌<◌}
 use native.Mathlib.Omega.{arith}
@@ -9,17 +9,12 @@ use lib.Seq.{length-take-le, take-append_seam, take-append-le, take-take}
 use Rattle.writer.specs.Buffer.{WrittenAt}
 use Rattle.writer.proofs.Buffer.{overwrite_front}
 use Rattle.file_io.specs.Files.{Within, text_in, InFront}
-use Rattle.file_io.specs.declared.Contents.{Contents}
-use Rattle.file_io.specs.declared.Contents.TheVariants.{Bytes}
 
-pub bytes_within : {x : Contents} {n room : ℕ} → x ≡ Bytes n → Within x room → n ≤ room
-bytes_within {room = room} e w = subst (λ y. Within y room) e w
+pub bytes_part : {x : Option ℕ} {n : ℕ} (buffer : List ℕ) → x ≡ Some n → Within x (length buffer) → n ≡ length (take n buffer)
+bytes_part {n = n} buffer e w = sym (length-take-le n buffer (rw e at w))
 
-pub bytes_part : {x : Contents} {n : ℕ} (buffer : List ℕ) → x ≡ Bytes n → Within x (length buffer) → n ≡ length (take n buffer)
-bytes_part {n = n} buffer e w = sym (length-take-le n buffer (bytes_within e w))
-
-pub text_read : {x : Contents} {n : ℕ} (buffer : List ℕ) → x ≡ Bytes n → text_in x buffer ≡ Some (take n buffer)
-text_read buffer e = ap (λ (y : Contents). text_in y buffer) e
+pub text_read : {x : Option ℕ} {n : ℕ} (buffer : List ℕ) → x ≡ Some n → text_in x buffer ≡ Some (take n buffer)
+text_read buffer e = rw e
 
 -- the bytes in front of a part that is read into are as they were
 pub front_kept : (held n : ℕ) (buffer behind : List ℕ) → held ≤ n → n ≤ length buffer → take held (take n buffer ++ behind) ≡ take held buffer

@@ -1,6 +1,5 @@
 // Making a file that is not there yet.
-ghost use Rattle.std.specs.Prelude.{length};
-ghost use Rattle.file_io.specs.Files.{Whole};
+ghost use Rattle.std.specs.Prelude.{◌≡◌, IfOk, length};
 
 use crate::retry;
 use std::env::Env;
@@ -8,12 +7,20 @@ use std::fs::Files;
 use std::io::ErrorKind;
 use std_io::io::last_error;
 
-// What making a file comes to: it is made, and took so many bytes; its name is taken; or it can't be written to its end.
-#[derive(Drop)]
-pub enum Making {
-    Made(usize),
+// Why a file is not made: its name is taken, or it can't be written to its end.
+#[derive(Clone, Copy)]
+pub enum Unmade {
     Taken,
     Unwritten,
+}
+
+impl From<ErrorKind> for Unmade {
+    fn from(kind: ErrorKind) -> Unmade {
+        match kind {
+            ErrorKind::AlreadyExists => Unmade::Taken,
+            _ => Unmade::Unwritten,
+        }
+    }
 }
 
 // Removes a file, and hands back whether it is gone.
@@ -31,23 +38,17 @@ fn close<R: Env, F: Drop>(rt: &R, file: F) -> bool {
     last_error().raw_os_error() == before
 }
 
-// Makes a new file of a text. One that can't be written to its end is removed again. A file is closed once, whatever comes of it: after
-// a signal it is closed all the same.
-pub fn make_file<R: Files + Env>(rt: &R, name: &str, text: &[u8]) -> Making
-    ensures { Whole result (length text.now) }
+// Makes a new file of a text, and hands back how many bytes it took. One that can't be written to its end is removed again. A file is
+// closed once, whatever comes of it: after a signal it is closed all the same.
+pub fn make_file<R: Files + Env>(rt: &R, name: &str, text: &[u8]) -> Result<usize, Unmade>
+    ensures { IfOk result (λ n. n ≡ length text.now) }
 {
-    let mut file = match retry::create(rt, name) {
-        Ok(file) => file,
-        Err(ErrorKind::AlreadyExists) => return Making::Taken,
-        Err(_) => return Making::Unwritten,
-    };
+    let mut file = retry::create(rt, name)?;
     let taken = retry::write_all(&mut file, text);
     let closed = close(rt, file);
-    if taken == text.len() {
-        if closed {
-            return Making::Made(taken);
-        }
+    if taken == text.len() && closed {
+        return Ok(taken);
     }
     remove_file(rt, name);
-    Making::Unwritten
+    Err(Unmade::Unwritten)
 }

@@ -9,29 +9,27 @@ use std::io::{Error, ErrorKind, Read, Write};
 
 const TRIES: u32 = 1_000_000;
 
-// Whether a call that failed is not to be made again: it failed for good. A signal that interrupted it passes, and so does a full pipe
-// that is set not to wait.
-fn is_over(error: &Error) -> bool {
-    match error.kind() {
-        ErrorKind::Interrupted => false,
-        ErrorKind::WouldBlock => false,
-        _ => true,
+// Whether a call that failed is to be made again: a signal that interrupted it passes, and so does a full pipe that is set not to wait.
+fn passes(error: &Error) -> bool {
+    matches!(error.kind(), ErrorKind::Interrupted | ErrorKind::WouldBlock)
+}
+
+// Makes a call until it succeeds, or fails for good.
+fn again<T: Drop, F: FnMut() -> Result<T, Error>>(mut call: F) -> Result<T, ErrorKind>
+    requires { F.IsAlwaysCallable call }
+{
+    for _ in 0..TRIES {
+        match call() {
+            Err(error) if passes(&error) => {}
+            done => return done.map_err(|error| error.kind()),
+        }
     }
+    Err(ErrorKind::TimedOut)
 }
 
 // Opens a file as it is asked, and hands it back, or why it can't be opened.
 fn open_as<R: Files>(rt: &R, how: &OpenOptions, name: &str) -> Result<R::File, ErrorKind> {
-    for _ in 0..TRIES {
-        match how.open(rt, name) {
-            Ok(file) => return Ok(file),
-            Err(error) => {
-                if is_over(&error) {
-                    return Err(error.kind());
-                }
-            }
-        }
-    }
-    Err(ErrorKind::TimedOut)
+    again(|| how.open(rt, name))
 }
 
 // Opens a file for reading.
@@ -51,17 +49,7 @@ pub(crate) fn create<R: Files>(rt: &R, name: &str) -> Result<R::File, ErrorKind>
 
 // Removes a file, and hands back whether it is gone.
 pub(crate) fn unlink<R: Files>(rt: &R, name: &str) -> bool {
-    for _ in 0..TRIES {
-        match remove_file(rt, name) {
-            Ok(()) => return true,
-            Err(error) => {
-                if is_over(&error) {
-                    return false;
-                }
-            }
-        }
-    }
-    false
+    again(|| remove_file(rt, name)).is_ok()
 }
 
 // Reads once, and hands back how many bytes came, or none if the read fails.
@@ -70,12 +58,8 @@ pub(crate) fn read<R: Read>(file: &mut R, buffer: &mut [u8]) -> Option<usize>
 {
     for _ in 0..TRIES {
         match file.read(buffer) {
-            Ok(n) => return Some(n),
-            Err(error) => {
-                if is_over(&error) {
-                    return None;
-                }
-            }
+            Err(error) if passes(&error) => {}
+            done => return done.ok(),
         }
     }
     None
@@ -89,12 +73,8 @@ fn write<W: Write>(out: &mut W, bytes: &[u8]) -> Option<usize>
 {
     for _ in 0..TRIES {
         match out.write(bytes) {
-            Ok(n) => return Some(n),
-            Err(error) => {
-                if is_over(&error) {
-                    return None;
-                }
-            }
+            Err(error) if passes(&error) => {}
+            done => return done.ok(),
         }
     }
     None
@@ -108,13 +88,10 @@ pub fn write_all<W: Write>(out: &mut W, bytes: &[u8]) -> usize
 {
     let mut n: usize = 0;
     while n < bytes.len() {
-        let Some(more) = write(out, &bytes[n..]) else {
-            return n;
-        };
-        if more == 0 {
-            return n;
+        match write(out, &bytes[n..]) {
+            None | Some(0) => return n,
+            Some(more) => n += more,
         }
-        n += more;
     }
     n
 }

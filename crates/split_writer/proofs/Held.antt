@@ -98,9 +98,8 @@ module _ {w : List ℕ} {header : Header} {procedures steps : ℕ} {S : Split} (
     omega (arith, head (λ H. H.maps), K.in_range.maps_few),
   )
 
-  pub maps_stand : (1 ≤ header.locations) × (header.locations ≤ 16) × (maps_at + stride * header.maps ≤ length w)
+  pub maps_stand : (header.locations ≤ 16) × (maps_at + stride * header.maps ≤ length w)
   maps_stand = (
-    omega (arith, head (λ H. H.locations), K.in_range.locations),
     omega (arith, head (λ H. H.locations), K.in_range.locations),
     omega (arith, head (λ H. H.maps), K.in_range.maps_few, K.split.empty.fits),
   )

@@ -1,11 +1,10 @@
 -- The lines of a split sheet, part by part as they are written.
 use mathlib.Core.Path.{◌≡◌, sym, ap, ◌∙◌}
-use mathlib.Core.List.{List, [], ◌∷◌, ◌++◌, map, append_assoc}
-use Prim.Native.Nat.{ℕ, suc, ◌+◌, ◌-◌, ◌*◌, ◌≤◌, ◌<◌}
-use native.Mathlib.Nat.{add-sub_cancel_left}
+use mathlib.Core.List.{List, [], ◌∷◌, ◌++◌, map, append_assoc, map-append}
+use Prim.Native.Nat.{ℕ, zero, suc, ◌+◌, ◌-◌, ◌*◌}
+use native.Mathlib.Nat.{add-sub_cancel_left, zero-add, add-zero, suc-add}
 use native.Mathlib.Omega.{arith}
-use lib.ListN.{length, get_or, take, drop, length-drop}
-use lib.Seq.{length-take-le}
+use lib.ListN.{get_or, take, drop}
 use borrow.Author.Tests.{eq-eqb, ne_eqb}
 use Rattle.spec.specs.Text.{bytes, Field}
 use Rattle.spec.specs.declared.Header.{Header}
@@ -25,33 +24,21 @@ use Rattle.split_writer.specs.Stored.{in_order, type_stored, map_in, signature_i
 
 -- ------------------------------------------------------------------ lines in order
 
--- from i up to an end: one line, and those behind it
-module _ {A : Type 0} (shown : A → List Field) (f : ℕ → A) (i end : ℕ) where
-  pub lines_next : i < end
-      → text (map shown (in_order f i (end - i))) ≡ text (shown (f i) ∷ []) ++ text (map shown (in_order f (i + 1) (end - (i + 1))))
-  unfolding in_order
-  lines_next h =
-      let one : end - i ≡ suc (end - (i + 1)) = omega arith in
-      ap (λ (n : ℕ). text (map shown (in_order f i n))) one ∙ text_append (shown (f i) ∷ []) (map shown (in_order f (i + 1) (end - (i + 1))))
+in_order_more : {A : Type 0} (f : ℕ → A) (i n : ℕ) → in_order f i (n + 1) ≡ in_order f i n ++ (f (i + n) ∷ [])
+unfolding in_order
+in_order_more f i zero = rw add-zero
+in_order_more f i (suc n) = rw (suc-add, in_order_more f (i + 1) n) (ap (λ (j : ℕ). f i ∷ (in_order f (i + 1) n ++ (f j ∷ []))) (omega arith))
 
-  pub lines_none : end ≤ i → text (map shown (in_order f i (end - i))) ≡ []
-  unfolding in_order text
-  lines_none h = let none : end - i ≡ 0 = omega arith in ap (λ (n : ℕ). text (map shown (in_order f i n))) none
+-- n lines, and one more
+pub lines_more : {A : Type 0} (shown : A → List Field) (f : ℕ → A) (n : ℕ)
+    → text (map shown (in_order f 0 (n + 1))) ≡ text (map shown (in_order f 0 n)) ++ text (shown (f n) ∷ [])
+lines_more shown f n = rw (in_order_more f 0 n, zero-add, map-append, text_append)
 
--- the next map, as the part of the work space that is lent
-module _ (locations : ℕ) (w : List ℕ) where
-  pub maps_next : (m end : ℕ) → m < end
-      → text (map map_fields (in_order (map_in locations w) m (end - m)))
-      ≡ line (map decimal (take (maps_at + stride * m + locations - (maps_at + stride * m)) (drop (maps_at + stride * m) w))) []
-      ++ text (map map_fields (in_order (map_in locations w) (m + 1) (end - (m + 1))))
-  unfolding line text map_fields map_in
-  maps_next m end h = rw (add-sub_cancel_left (maps_at + stride * m) locations) (lines_next map_fields (map_in locations w) m end h)
-
-  pub map_long : (m : ℕ) → 1 ≤ locations → maps_at + stride * m + locations ≤ length w
-      → 1 ≤ length (take (maps_at + stride * m + locations - (maps_at + stride * m)) (drop (maps_at + stride * m) w))
-  map_long m some_place h =
-      let l : length (drop (maps_at + stride * m) w) ≡ length w - (maps_at + stride * m) = length-drop (maps_at + stride * m) w in
-      rw (add-sub_cancel_left (maps_at + stride * m) locations, length-take-le locations (drop (maps_at + stride * m) w) (omega arith)) some_place
+-- the line of a map, as the part of the work space that is lent
+pub map_parts : (locations : ℕ) (w : List ℕ) (m : ℕ)
+    → text (map_fields (map_in locations w m) ∷ []) ≡ line (map decimal (take (maps_at + stride * m + locations - (maps_at + stride * m)) (drop (maps_at + stride * m) w))) []
+unfolding line text map_fields map_in
+map_parts locations w m = rw (add-sub_cancel_left (maps_at + stride * m) locations)
 
 -- ------------------------------------------------------------------ the header
 

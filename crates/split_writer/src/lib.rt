@@ -4,7 +4,7 @@
 ghost use Rattle.std.specs.Prelude.{◌≡◌, [], ◌∷◌, ◌++◌, map, ◌*◌, ◌+◌, ◌≤◌, ◌<◌, length};
 ghost use Rattle.workspace.specs.Layout.{starts_at, maps_at, stride};
 ghost use Rattle.text_theory.specs.Text.{decimal, line, text};
-ghost use Rattle.writer.specs.Buffer.{WrittenAt};
+ghost use Rattle.writer.specs.Buffer.{Writes};
 ghost use Rattle.text_theory.specs.Sheet.{header_fields, out_number, type_fields, map_fields, signature_fields, row_fields};
 ghost use Rattle.spec.specs.declared.Purpose.TheVariants.{Check};
 ghost use Rattle.split_writer.specs.Stored.{in_order, type_stored, map_in, signature_in, row_in};
@@ -13,165 +13,140 @@ ghost use Rattle.split_writer.specs.Contract.{HoldsSome, SheetWritten};
 use spec::{Header, Heading, MapNumber, TypeLine, TypeNumber};
 use workspace::{
     EMPTY_MAP, MAPS, POSTS, ROW_TYPES, SIG_AFTERS, SIG_ARGUMENTS, SIG_BEFORES, SIG_RESULTS, STARTS,
-    STRIDE, type_at,
+    STRIDE, at, type_at,
 };
-use writer::{write_byte, write_bytes, write_field, write_numbers};
+use writer::Writer;
 
 // Writes the header.
-fn write_header(buffer: &mut [u8], header: Header) -> usize
+fn write_header(writer: &mut Writer, header: Header)
     requires { (header.locations < 4294967296) × (header.types < 4294967296) × (header.maps < 4294967296) }
-    ensures { WrittenAt buffer.old buffer.new 0 (text (header_fields header ∷ [])) result }
+    ensures { Writes writer.old writer.new (text (header_fields header ∷ [])) }
 {
-    let locations = header.locations as u32;
-    let types = header.types as u32;
-    let maps = header.maps as u32;
-    let heading = header.heading;
-    match heading {
+    let numbers = [
+        header.denominator,
+        header.locations as u32,
+        header.types as u32,
+        header.maps as u32,
+        header.start.0,
+    ];
+    match header.heading {
         Heading::C => {
-            let named = write_bytes(buffer, 0, b"C,");
-            write_numbers(buffer, named, &[header.denominator, locations, types, maps])
+            writer.bytes(b"C,");
+            writer.numbers(&numbers[..4]);
         }
         Heading::C2 => {
-            let named = write_bytes(buffer, 0, b"C2,");
-            write_numbers(
-                buffer,
-                named,
-                &[header.denominator, locations, types, maps, header.start.0],
-            )
+            writer.bytes(b"C2,");
+            writer.numbers(&numbers);
         }
         Heading::C3 => {
-            let named = write_bytes(buffer, 0, b"C3,");
-            write_numbers(
-                buffer,
-                named,
-                &[header.denominator, locations, types, maps, header.start.0],
-            )
+            writer.bytes(b"C3,");
+            writer.numbers(&numbers);
         }
     }
 }
 
 // The third number of a lock line: its out, where the heading has it.
+#[tactic(auto, unfolding(text_theory::specs::Sheet::out_number))]
 fn out_number(heading: Heading, out: MapNumber) -> u32
     ensures { result ≡ out_number heading out }
 {
     match heading {
-        Heading::C => 0,
-        Heading::C2 => 0,
+        Heading::C | Heading::C2 => 0,
         Heading::C3 => out.0,
     }
 }
 
 // Writes a type line by its parts: its word with the comma, and two numbers.
-fn write_word(buffer: &mut [u8], at: usize, word: &[u8], first: u32, second: u32) -> usize
-    ensures { WrittenAt buffer.old buffer.new at (word.now ++ line (map decimal (first ∷ second ∷ [])) []) result }
+fn write_word(writer: &mut Writer, word: &[u8], first: u32, second: u32)
+    ensures { Writes writer.old writer.new (word.now ++ line (map decimal (first ∷ second ∷ [])) []) }
 {
-    let named = write_bytes(buffer, at, word);
-    write_numbers(buffer, named, &[first, second])
+    writer.bytes(word);
+    writer.numbers(&[first, second]);
 }
 
 // Writes a type line of a sheet with this heading.
-fn write_type(buffer: &mut [u8], at: usize, heading: Heading, of: TypeLine) -> usize
-    ensures { WrittenAt buffer.old buffer.new at (text (type_fields heading of ∷ [])) result }
+fn write_type(writer: &mut Writer, heading: Heading, of: TypeLine)
+    ensures { Writes writer.old writer.new (text (type_fields heading of ∷ [])) }
 {
     match of {
-        TypeLine::Int => write_word(buffer, at, b"int,", 0, 0),
-        TypeLine::Ref(place, content) => write_word(buffer, at, b"ref,", place.0, content.0),
+        TypeLine::Int => write_word(writer, b"int,", 0, 0),
+        TypeLine::Ref(place, content) => write_word(writer, b"ref,", place.0, content.0),
         TypeLine::Lock(load, out) => {
-            let second = out_number(heading, out);
-            write_word(buffer, at, b"lock,", load.0, second)
+            write_word(writer, b"lock,", load.0, out_number(heading, out))
         }
-        TypeLine::Tid(load) => write_word(buffer, at, b"tid,", load.0, 0),
-        TypeLine::Sem(load) => write_word(buffer, at, b"sem,", load.0, 0),
-        TypeLine::Rwlock(read, write) => write_word(buffer, at, b"rwlock,", read.0, write.0),
+        TypeLine::Tid(load) => write_word(writer, b"tid,", load.0, 0),
+        TypeLine::Sem(load) => write_word(writer, b"sem,", load.0, 0),
+        TypeLine::Rwlock(read, write) => write_word(writer, b"rwlock,", read.0, write.0),
     }
 }
 
 // Writes the lines of so many types of a sheet with this heading.
-fn write_types(buffer: &mut [u8], at: usize, work: &[u32], heading: Heading, types: usize) -> usize
+fn write_types(writer: &mut Writer, work: &[u32], heading: Heading, types: usize)
     requires { types < 4294967296 }
-    ensures { WrittenAt buffer.old buffer.new at (text (map (type_fields heading) (in_order (type_stored work.now) 0 types))) result }
+    ensures { Writes writer.old writer.new (text (map (type_fields heading) (in_order (type_stored work.now) 0 types))) }
 {
-    let mut to = at;
-    let mut t = 0;
-    while t < types {
-        let number = t as u32;
-        let of = type_at(work, TypeNumber(number));
-        to = write_type(buffer, to, heading, of);
-        t += 1;
+    for t in 0..types {
+        write_type(writer, heading, type_at(work, TypeNumber(t as u32)));
     }
-    to
 }
 
 // Writes the lines of so many maps, each with a number for each location.
-fn write_maps(buffer: &mut [u8], at: usize, work: &[u32], locations: usize, maps: usize) -> usize
-    requires { (1 ≤ locations) × (locations ≤ 16) × (maps_at + stride * maps ≤ length work.now) }
-    ensures { WrittenAt buffer.old buffer.new at (text (map map_fields (in_order (map_in locations work.now) 0 maps))) result }
+fn write_maps(writer: &mut Writer, work: &[u32], locations: usize, maps: usize)
+    requires { (locations ≤ 16) × (maps_at + stride * maps ≤ length work.now) }
+    ensures { Writes writer.old writer.new (text (map map_fields (in_order (map_in locations work.now) 0 maps))) }
 {
-    let mut to = at;
-    let mut m = 0;
-    while m < maps {
+    for m in 0..maps {
         let first = MAPS + STRIDE * m;
         let past = first + locations;
-        to = write_numbers(buffer, to, &work[first..past]);
-        m += 1;
+        writer.numbers(&work[first..past]);
     }
-    to
 }
 
 // Writes the line of a procedure.
-fn write_signature(buffer: &mut [u8], at: usize, work: &[u32], f: usize) -> usize
+fn write_signature(writer: &mut Writer, work: &[u32], f: usize)
     requires { f < 4294967296 }
-    ensures { WrittenAt buffer.old buffer.new at (text (signature_fields (signature_in work.now f) ∷ [])) result }
+    ensures { Writes writer.old writer.new (text (signature_fields (signature_in work.now f) ∷ [])) }
 {
-    let before = MapNumber(workspace::at(work, SIG_BEFORES + f));
-    let argument = TypeNumber(workspace::at(work, SIG_ARGUMENTS + f));
-    let after = MapNumber(workspace::at(work, SIG_AFTERS + f));
-    let result = TypeNumber(workspace::at(work, SIG_RESULTS + f));
-    write_numbers(buffer, at, &[before.0, argument.0, after.0, result.0])
+    writer.numbers(&[
+        at(work, SIG_BEFORES + f),
+        at(work, SIG_ARGUMENTS + f),
+        at(work, SIG_AFTERS + f),
+        at(work, SIG_RESULTS + f),
+    ]);
 }
 
 // Writes the lines of so many procedures.
-fn write_signatures(buffer: &mut [u8], at: usize, work: &[u32], procedures: usize) -> usize
+fn write_signatures(writer: &mut Writer, work: &[u32], procedures: usize)
     requires { procedures < 4294967296 }
-    ensures { WrittenAt buffer.old buffer.new at (text (map signature_fields (in_order (signature_in work.now) 0 procedures))) result }
+    ensures { Writes writer.old writer.new (text (map signature_fields (in_order (signature_in work.now) 0 procedures))) }
 {
-    let mut to = at;
-    let mut f = 0;
-    while f < procedures {
-        to = write_signature(buffer, to, work, f);
-        f += 1;
+    for f in 0..procedures {
+        write_signature(writer, work, f);
     }
-    to
 }
 
 // Writes the row of a step.
-fn write_row(buffer: &mut [u8], at: usize, work: &[u32], step: usize) -> usize
+fn write_row(writer: &mut Writer, work: &[u32], step: usize)
     requires { starts_at + step < length work.now }
-    ensures { WrittenAt buffer.old buffer.new at (text (row_fields Check (row_in work.now step) ∷ [])) result }
+    ensures { Writes writer.old writer.new (text (row_fields Check (row_in work.now step) ∷ [])) }
 {
-    let of = TypeNumber(workspace::at(work, ROW_TYPES + step));
-    let post = MapNumber(workspace::at(work, POSTS + step));
-    let start = MapNumber(workspace::at(work, STARTS + step));
-    let typed = write_field(buffer, at, of.0 as u64, b',');
-    let left = write_field(buffer, typed, post.0 as u64, b',');
-    if start.0 == EMPTY_MAP {
-        return write_byte(buffer, left, b'\n');
+    writer.field(u64::from(at(work, ROW_TYPES + step)), b',');
+    writer.field(u64::from(at(work, POSTS + step)), b',');
+    let start = at(work, STARTS + step);
+    if start == EMPTY_MAP {
+        return writer.byte(b'\n');
     }
-    write_field(buffer, left, start.0 as u64, b'\n')
+    writer.field(u64::from(start), b'\n');
 }
 
 // Writes the rows of so many steps.
-fn write_rows(buffer: &mut [u8], at: usize, work: &[u32], steps: usize) -> usize
+fn write_rows(writer: &mut Writer, work: &[u32], steps: usize)
     requires { starts_at + steps ≤ length work.now }
-    ensures { WrittenAt buffer.old buffer.new at (text (map (row_fields Check) (in_order (row_in work.now) 0 steps))) result }
+    ensures { Writes writer.old writer.new (text (map (row_fields Check) (in_order (row_in work.now) 0 steps))) }
 {
-    let mut to = at;
-    let mut step = 0;
-    while step < steps {
-        to = write_row(buffer, to, work, step);
-        step += 1;
+    for step in 0..steps {
+        write_row(writer, work, step);
     }
-    to
 }
 
 // Writes the sheet of the split that the work space holds, with this header, a line for each procedure and a row for each step, at the
@@ -186,10 +161,11 @@ pub fn write_sheet(
     requires { HoldsSome work.now header procedures steps }
     ensures { SheetWritten work.now header procedures steps buffer.old buffer.new result }
 {
-    let headed = write_header(buffer, header);
-    let heading = header.heading;
-    let typed = write_types(buffer, headed, work, heading, header.types);
-    let mapped = write_maps(buffer, typed, work, header.locations, header.maps);
-    let signed = write_signatures(buffer, mapped, work, procedures);
-    write_rows(buffer, signed, work, steps)
+    let mut writer = Writer::new(buffer);
+    write_header(&mut writer, header);
+    write_types(&mut writer, work, header.heading, header.types);
+    write_maps(&mut writer, work, header.locations, header.maps);
+    write_signatures(&mut writer, work, procedures);
+    write_rows(&mut writer, work, steps);
+    writer.position()
 }

@@ -9,8 +9,10 @@ use lib.Dec.{leb}
 use lib.ListN.{length, set, drop, length-set, length-append}
 use lib.Seq.{sets, sets-eq, set_out, set_comm}
 use borrow.Author.Tests.{leb-true, leb-false}
-use Rattle.writer.specs.Buffer.{overwrite, counted, WrittenAt}
+use Rattle.writer.specs.declared.Writer.{Writer}
+use Rattle.writer.specs.Buffer.{overwrite, counted, WrittenAt, Writes}
 
+infixr 5 ◌then◌
 -- ------------------------------------------------------------------ a buffer that bytes are put into
 
 pub overwrite_length : (d : List ℕ) (at : ℕ) (s : List ℕ) → length (overwrite d at s) ≡ length d
@@ -55,54 +57,55 @@ overwrite_counted d at s h = either (leb at 18446744073709551615) refl
         let l = leb-false at 18446744073709551615 e in
         overwrite_past d (counted at) s (omega arith) ∙ sym (overwrite_past d at s (omega arith))
 
--- ------------------------------------------------------------------ one part after the other
+-- ------------------------------------------------------------------ one text behind the other
 
--- of writing `whole` at a place of a buffer, `rest` remains to be written at a later place
-pub record Remains (before : List ℕ) (from : ℕ) (whole : List ℕ) (buffer : List ℕ) (at : ℕ) (rest : List ℕ) : Type 0 where
-  pub same : overwrite buffer at rest ≡ overwrite before from whole
-  pub place : counted (at + length rest) ≡ counted (from + length whole)
-  pub sized : length buffer ≡ length before
-  -- a buffer's length and a place are numbers of 64 bits
-  pub short : length before < 18446744073709551616
-  pub fits : at < 18446744073709551616
+module _ {a b : Writer} where
+  -- the same text, said in another way
+  pub said : {s t : List ℕ} → t ≡ s → Writes a b s → Writes a b t
+  said e = subst (Writes a b) (sym e)
 
--- the parts of a text, before the first is written
-pub parted : (d : List ℕ) (at : ℕ) {s parts : List ℕ} → s ≡ parts → length d < 18446744073709551616 → at < 18446744073709551616
-    → Remains d at s d at parts
-parted d at {s} {parts} e h k = subst (Remains d at s d at) e (record { same = refl; place = refl; sized = refl; short = h; fits = k })
+  -- a text, and one behind it
+  pub ◌then◌ : {c : Writer} {s t : List ℕ} → Writes a b s → Writes b c t → Writes a c (s ++ t)
+  ◌then◌ {c} {s} {t} w v = record {
+    same = v.same ∙ w.same;
+    written = λ f.
+        let d = a.buffer.now in
+        let first = w.written f in
+        let long : length (overwrite d a.at s) < 18446744073709551616 = rw overwrite_length f.length_fits in
+        let second = v.written (record { length_fits = rw first.holds long; place_fits = omega (arith, first.moved) }) in
+        let l = length-append s t in
+        record {
+          holds = second.holds ∙ rw (first.holds, first.moved) (overwrite_counted (overwrite d a.at s) (a.at + length s) t long ∙ sym (overwrite_append d a.at s t));
+          moved = omega (arith, first.moved, second.moved);
+        };
+  }
 
-module _ {before : List ℕ} {from : ℕ} {whole : List ℕ} where
-  -- what remains, said in another way
-  pub restated : {d : List ℕ} {at : ℕ} {r r' : List ℕ} → r ≡ r' → Remains before from whole d at r → Remains before from whole d at r'
-  restated {d} {at} e h = subst (Remains before from whole d at) e h
+-- no text
+pub nothing : {a : Writer} → Writes a a []
+unfolding overwrite
+nothing = record { same = refl; written = λ f. record { holds = refl; moved = omega (arith, f.place_fits) } }
 
-  -- a part in front is written: what is behind it remains
-  pub onward : {d d' : List ℕ} {at next : ℕ} (s t : List ℕ)
-      → Remains before from whole d at (s ++ t) → WrittenAt d d' at s next → Remains before from whole d' next t
-  onward {d} {d'} {at} {next} s t r w =
-      let long = overwrite_length d at s in
-      let l = length-append s t in
-      record {
-        same =
-            rw (w.holds, w.moved)
-            (overwrite_counted (overwrite d at s) (at + length s) t (omega (arith, r.sized, r.short))
-            ∙ sym (overwrite_append d at s t) ∙ r.same);
-        place = omega (arith, r.place, w.moved);
-        sized = ap length w.holds ∙ overwrite_length d at s ∙ r.sized;
-        short = r.short;
-        fits = omega (arith, w.moved);
-      }
+-- a text at the front of a buffer
+pub at_front : {a b : Writer} {d d' s : List ℕ} {n : ℕ} → a.buffer.now ≡ d → a.at ≡ 0 → length d < 18446744073709551616
+    → Writes a b s → d' ≡ b.buffer.now → n ≡ b.at → WrittenAt d d' 0 s n
+at_front {b = b} {s = s} e k h w left m =
+    let whole = w.written (record { length_fits = rw e h; place_fits = omega arith }) in
+    record { holds = left ∙ rw (e, k) at whole.holds; moved = m ∙ rw k at whole.moved }
 
-  -- nothing remains: the whole is written
-  pub done : {d : List ℕ} {at : ℕ} → Remains before from whole d at [] → WrittenAt before d from whole at
-  unfolding overwrite
-  done r = record { holds = r.same; moved = omega (arith, r.place, r.fits) }
+-- ------------------------------------------------------------------ part by part
 
-  -- the last part is written: so is the whole
-  pub finish : {d d' : List ℕ} {at next : ℕ} {s : List ℕ}
-      → Remains before from whole d at s → WrittenAt d d' at s next → WrittenAt before d' from whole next
-  finish r w = record { holds = w.holds ∙ r.same; moved = w.moved ∙ r.place }
+-- of a text that is to be written, begun by the writer a, this remains for the writer b
+pub record Remains (a b : Writer) (whole rest : List ℕ) : Type 0 where
+  pub finish : {c : Writer} → Writes b c rest → Writes a c whole
 
--- the buffer is as long as it was
-pub written_length : {d d' : List ℕ} {at next : ℕ} {s : List ℕ} → WrittenAt d d' at s next → length d' ≡ length d
-written_length {d} {d'} {at} {next} {s} w = ap length w.holds ∙ overwrite_length d at s
+-- all, before a byte is written
+pub all_remains : {a : Writer} {s : List ℕ} → Remains a a s s
+all_remains = record { finish = λ w. w }
+
+-- a part is written
+pub onward : {a b c : Writer} {whole rest s t : List ℕ} → rest ≡ s ++ t → Remains a b whole rest → Writes b c s → Remains a c whole t
+onward e r w = record { finish = λ v. r.finish (said e (w then v)) }
+
+-- nothing remains
+pub done : {a b : Writer} {whole rest : List ℕ} → rest ≡ [] → Remains a b whole rest → Writes a b whole
+done e r = r.finish (said e nothing)

@@ -2,10 +2,10 @@
 use Rattle.drill.specs.Answer.{drilled_numbers, returned_by}
 use Rattle.entries.proofs.racecheck_drill.Goals as goal
 
-pub returns-in-Made : goal.returns-in-Made
+pub returns-in-Some : goal.returns-in-Some
 unfolding drilled_numbers returned_by
-returns-in-Made c = rw c.in-Made.is at c.drill.ensures
+returns-in-Some c = rw c.in-Some.is at c.drill.ensures
 
-pub returns-in-Short : goal.returns-in-Short
+pub returns-in-None : goal.returns-in-None
 unfolding drilled_numbers returned_by
-returns-in-Short c = rw c.in-Short.is at c.drill.ensures
+returns-in-None c = rw c.in-None.is at c.drill.ensures

@@ -1,9 +1,8 @@
--- The loop's invariant: the digits of the rest remain to be written, in front of those that are.
-use Rattle.writer.proofs.Digits.{DigitsLeft}
+-- The loop's invariant: so many digits of the rest remain to be written, in front of those that are.
+use Rattle.std.proofs.Common.{◌≡◌}
+use Rattle.writer.specs.Buffer.{overwrite}
+use Rattle.writer.proofs.Digits.{last_digits}
 use Rattle.writer.proofs.write_digits.Given as goal
 
-abbrev pub invariant-loop-rest : goal.invariant-loop-rest
-invariant-loop-rest l = DigitsLeft l.initial.buffer l.at l.n l.buffer l.rest l.front
-
-abbrev pub decreases-loop-rest : goal.decreases-loop-rest
-decreases-loop-rest l = l.rest
+abbrev pub invariant-loop-front : goal.invariant-loop-front
+invariant-loop-front l = overwrite l.buffer l.at (last_digits l.front l.rest) ≡ overwrite l.initial.buffer l.at (last_digits l.digits l.n)

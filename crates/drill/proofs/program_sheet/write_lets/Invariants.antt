@@ -5,8 +5,4 @@ use Rattle.drill.specs.Lets.{lets_text}
 use Rattle.drill.proofs.program_sheet.write_lets.Given as goal
 
 abbrev pub invariant-loop-v : goal.invariant-loop-v
-invariant-loop-v l =
-    Remains l.initial.buffer l.at (lets_text l.value l.first (l.end - l.first)) l.buffer l.to (lets_text l.value l.v (l.end - l.v))
-
-abbrev pub decreases-loop-v : goal.decreases-loop-v
-decreases-loop-v l = l.end - l.v
+invariant-loop-v l = Remains l.initial.writer l.writer (lets_text l.value l.first (l.end - l.first)) (lets_text l.value l.v (l.end - l.v))

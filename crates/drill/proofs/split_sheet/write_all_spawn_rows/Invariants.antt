@@ -6,8 +6,4 @@ use Rattle.drill_theory.specs.Pair.{all_spawn_rows}
 use Rattle.drill.proofs.split_sheet.write_all_spawn_rows.Given as goal
 
 abbrev pub invariant-loop-m : goal.invariant-loop-m
-invariant-loop-m l =
-    Remains l.initial.buffer l.at (text (all_spawn_rows l.share.0 0 l.count)) l.buffer l.to (text (all_spawn_rows l.share.0 l.m (l.count - l.m)))
-
-abbrev pub decreases-loop-m : goal.decreases-loop-m
-decreases-loop-m l = l.count - l.m
+invariant-loop-m l = Remains l.initial.writer l.writer (text (all_spawn_rows l.share.0 0 l.count)) (text (all_spawn_rows l.share.0 l.m (l.count - l.m)))

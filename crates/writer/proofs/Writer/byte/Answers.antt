@@ -1,0 +1,16 @@
+-- A byte past the end changes nothing, as `set` does not.
+use Rattle.std.proofs.Common.{refl, sym}
+use lib.Seq.{set_out}
+use Rattle.writer.specs.Buffer.{overwrite}
+use Rattle.writer.proofs.Writer.byte.Goals as goal
+use Rattle.writer.proofs.Writer.byte.Goals.{then-self, else-self}
+
+pub returns : goal.returns
+unfolding overwrite
+returns c = elim c.if-self.branch [
+  | then-self w ↦
+      rw w.self-is (record { same = refl; written = λ f. record { holds = refl; moved = rw w.self-is at c.saturating_add-self.ensures } })
+  | else-self w ↦
+      rw w.self-is
+      (record { same = refl; written = λ f. record { holds = sym (set_out _ _ _ w.if-self.false); moved = rw w.self-is at c.saturating_add-self.ensures } })
+]
