@@ -1,10 +1,13 @@
 -- The loop that finds the next word of a thread, on numbers: p holds the program, s is the lent space, r is the row of the thread.
-use Rattle.std.specs.Prelude.{ℕ, zero, suc, ◌+◌, ◌*◌, ◌-◌, Bool, false, List, eqb, ltb, get_or, set}
+use Rattle.std.specs.Prelude.{ℕ, zero, suc, ◌+◌, ◌*◌, ◌-◌, Bool, false, List, ltb, get_or, set}
 use Rattle.spec.specs.Choice.{when◌then◌else◌}
 use Rattle.workspace.specs.Layout.{values_at, ends_at, proc_firsts_at}
 use Rattle.replay_control.specs.Layout.{continuations_at, second_part, finish, leave, procedures_at, environments_at, kept_values_at, open_calls_at}
 use Rattle.replay_control.specs.Shapes.{shape_at, is_write}
 use Rattle.replay_control.specs.declared.ControlPoint.{ControlPoint}
+use Rattle.replay_control.specs.declared.Mode.{Mode}
+use Rattle.replay_control.specs.declared.Mode.TheVariants.{Enter, Return, Stopped, Ready, Unrolled, Done}
+use Rattle.replay_control.specs.Modes.{on_its_way, is_enter}
 use Rattle.workspace.specs.declared.Shape.{Shape}
 use Rattle.workspace.specs.declared.Shape.TheVariants.{Variable, Constant, NoPart, While, OnePart, Call, Let, If, Spawn, Write}
 
@@ -37,26 +40,26 @@ behind k = when ltb k finish then k + 1 else k
 
 -- ------------------------------------------------------------------ where a thread is
 
-abbrev pub control_point : (mode at value row : ℕ) → ControlPoint
+abbrev pub control_point : Mode → (at value row : ℕ) → ControlPoint
 control_point m k v r = record { mode = m; at = k; value = v; row = r }
 
 abbrev pub entering : (r k : ℕ) → ControlPoint
-entering r k = control_point 0 k 0 r
+entering r k = control_point Enter k 0 r
 
 abbrev pub returning : (r c v : ℕ) → ControlPoint
-returning r c v = control_point 1 c v r
+returning r c v = control_point Return c v r
 
 abbrev pub stopped_at : (r k : ℕ) → ControlPoint
-stopped_at r k = control_point 2 k 0 r
+stopped_at r k = control_point Stopped k 0 r
 
 abbrev pub ready_at : (r k v : ℕ) → ControlPoint
-ready_at r k v = control_point 3 k v r
+ready_at r k v = control_point Ready k v r
 
 abbrev pub unrolled_at : (r k : ℕ) → ControlPoint
-unrolled_at r k = control_point 4 k 0 r
+unrolled_at r k = control_point Unrolled k 0 r
 
 abbrev pub done_with : (r v : ℕ) → ControlPoint
-done_with r v = control_point 5 0 v r
+done_with r v = control_point Done 0 v r
 
 -- ------------------------------------------------------------------ one advance
 
@@ -94,13 +97,13 @@ unfoldable pub returned_space : (p s : List ℕ) (r c v : ℕ) → List ℕ
 returned_space p s r c v = when half_written p c then set s (kept_values_at + 256 * r + c) v else s
 
 unfoldable pub advanced : (p s : List ℕ) → ControlPoint → ControlPoint
-advanced p s f = when eqb f.mode 0 then entered p s f.row f.at else returned p s f.row f.at f.value
+advanced p s f = when is_enter f.mode then entered p s f.row f.at else returned p s f.row f.at f.value
 
 unfoldable pub advanced_space : (p s : List ℕ) → ControlPoint → List ℕ
-advanced_space p s f = when eqb f.mode 0 then s else returned_space p s f.row f.at f.value
+advanced_space p s f = when is_enter f.mode then s else returned_space p s f.row f.at f.value
 
 -- ------------------------------------------------------------------ the loop
 
 unfoldable pub found : (n : ℕ) (p s : List ℕ) → ControlPoint → ControlPoint × List ℕ
 found zero p s f = (f, s)
-found (suc n) p s f = when ltb f.mode 2 then found n p (advanced_space p s f) (advanced p s f) else (f, s)
+found (suc n) p s f = when on_its_way f.mode then found n p (advanced_space p s f) (advanced p s f) else (f, s)

@@ -1,4 +1,5 @@
 pub mod Layout
 pub mod Shapes
+pub mod Modes
 pub mod Control
 pub mod Continuations

@@ -7,7 +7,6 @@ use native.Mathlib.Decide.{ℕ_discrete}
 use lib.ListN.{length, get_or, set, length-set}
 use lib.Seq.{get_or-set_same, get_or-set_other}
 use Rattle.replay_engine.specs.Steps.{zeroed}
-use Rattle.replay_engine.proofs.Pairing.{one_less, none_left}
 
 pub zeroed_length : (s : List ℕ) (i n : ℕ) → length (zeroed s i n) ≡ length s
 unfolding zeroed
@@ -31,11 +30,6 @@ zeroed_in s i (suc n) j room l h = by_place (λ room' l' h'. zeroed_in (set s i 
     by_place further (yes e) = rw e (zeroed_before (set s i 0) (i + 1) n i (omega arith) ∙ get_or-set_same s i 0 0 (omega (arith, room)))
     by_place further (no e) = further (omega (arith, long, room)) (omega (arith, l, e)) (omega (arith, h))
 
-module _ (s : List ℕ) (i to : ℕ) where
-  pub clear_more : i < to → zeroed s i (to - i) ≡ zeroed (set s i 0) (i + 1) (to - (i + 1))
-  unfolding zeroed
-  clear_more l = ap (zeroed s i) (one_less to i l)
-
-  pub clear_end : to ≤ i → zeroed s i (to - i) ≡ s
-  unfolding zeroed
-  clear_end l = ap (zeroed s i) (none_left to i l)
+pub clear_more : (s : List ℕ) (i to : ℕ) → i < to → zeroed s i (to - i) ≡ zeroed (set s i 0) (i + 1) (to - (i + 1))
+unfolding zeroed
+clear_more s i to l = let e : to - i ≡ suc (to - (i + 1)) = omega (arith, l) in ap (zeroed s i) e

@@ -1,27 +1,25 @@
 -- A step of a thread on numbers.
-use Rattle.std.specs.Prelude.{ℕ, zero, suc, ◌+◌, ◌*◌, Bool, true, false, List, eqb, leb, ltb, get_or, set}
+use Rattle.std.specs.Prelude.{ℕ, zero, suc, ◌+◌, ◌*◌, Bool, true, false, List, Option, None, Some, Result, Ok, Err, eqb, leb, ltb, get_or, set}
 use Rattle.spec.specs.Choice.{when◌then◌else◌}
 use Rattle.threads.specs.declared.Threads.{Threads}
-use Rattle.threads.specs.declared.Found.{Found}
-use Rattle.threads.specs.declared.Found.TheVariants.{At, Nothing}
 use Rattle.threads.specs.Records.{lowest}
 use Rattle.threads.specs.Threads.{started, spawned, finished, joined, runs}
 use Rattle.replay_control.specs.Layout.{environments_at, control_point_rows_at, thing_counts_at, next_value_at, thing_kinds_at}
 use Rattle.replay_control.specs.declared.ControlPoint.{ControlPoint}
 use Rattle.replay_control.specs.Shapes.{shape_at, is_if}
+use Rattle.replay_control.specs.Modes.{is_unrolled}
 use Rattle.replay_control.specs.Control.{variable, second, root_of, entering}
 use Rattle.replay_engine.specs.ControlPoints.{control_point_at, went_on}
 use Rattle.replay_step.specs.Words.{given, acted}
 use Rattle.replay_step.specs.declared.words.Act.{Act}
-use Rattle.replay_step.specs.declared.words.Act.TheVariants as act
-use Rattle.replay_engine.specs.declared.Outcome.{Outcome}
-use Rattle.replay_engine.specs.declared.Outcome.TheVariants.{Moved, Stuck, Past}
-use Rattle.replay_engine.specs.declared.Stepped.{Stepped}
+use Rattle.replay_step.specs.declared.words.Act.TheVariants.{Go, Spawn, Join}
+use Rattle.replay_step.specs.declared.words.Halt.{Halt}
+use Rattle.replay_step.specs.declared.words.Halt.TheVariants.{Stuck, Past}
 
 unfoldable pub may_choose : (p : List ℕ) → ControlPoint → (choice : ℕ) → Bool
 may_choose p f c =
     when eqb c 0 then true
-    else when eqb c 1 then (when eqb f.mode 4 then true else is_if (shape_at p f.at))
+    else when eqb c 1 then (when is_unrolled f.mode then true else is_if (shape_at p f.at))
     else false
 
 -- ------------------------------------------------------------------ going on
@@ -32,15 +30,12 @@ recorded T t (done, s) = ((when done then finished T t else T), s)
 unfoldable pub proceeded : (p s : List ℕ) → Threads → (t : ℕ) → ControlPoint → Threads × List ℕ
 proceeded p s T t f = recorded T t (went_on p s t f)
 
-abbrev pub ending : Outcome → Threads → Stepped
-ending o T = record { outcome = o; threads = T }
-
 -- a step of thread t is done; with more than 64 calls open it is past the limit
-unfoldable pub outcome_of : (s : List ℕ) (t : ℕ) → Outcome
-outcome_of s t = when ltb (66 * t + 64) (get_or s (control_point_rows_at + t) 0) then Past else Moved
+unfoldable pub outcome_of : (s : List ℕ) (t : ℕ) → Threads → Result Threads Halt
+outcome_of s t T = when ltb (66 * t + 64) (get_or s (control_point_rows_at + t) 0) then Err Past else Ok T
 
-unfoldable pub moved_to : (t : ℕ) → Threads × List ℕ → Stepped × List ℕ
-moved_to t (T, s) = (ending (outcome_of s t) T, s)
+unfoldable pub moved_to : (t : ℕ) → Threads × List ℕ → Result Threads Halt × List ℕ
+moved_to t (T, s) = (outcome_of s t T, s)
 
 -- ------------------------------------------------------------------ spawn and join
 
@@ -53,40 +48,39 @@ unfoldable pub copied : (s : List ℕ) (a b : ℕ) → List ℕ
 copied s a b = copied_from s a b 0 256
 
 -- the word of thread t at f becomes 0
-unfoldable pub gives_zero : (p : List ℕ) (t : ℕ) → ControlPoint → Threads × List ℕ → Stepped × List ℕ
+unfoldable pub gives_zero : (p : List ℕ) (t : ℕ) → ControlPoint → Threads × List ℕ → Result Threads Halt × List ℕ
 gives_zero p t f (T, s) = moved_to t (proceeded p s T t (given p f.row f.at 0))
 
 -- the new thread runs outside of calls, in the first of its rows
-unfoldable pub spawned_step : (p s : List ℕ) → Threads → (t : ℕ) → ControlPoint → (tid : ℕ) → Stepped × List ℕ
+unfoldable pub spawned_step : (p s : List ℕ) → Threads → (t : ℕ) → ControlPoint → (tid : ℕ) → Result Threads Halt × List ℕ
 spawned_step p s T t f tid =
-    when leb 16 T.count then (ending Past T, s)
+    when leb 16 T.count then (Err Past, s)
     else gives_zero p t f (proceeded p (copied s f.row (66 * T.count)) (spawned T tid) T.count (entering (66 * T.count) (second p f.at)))
 
-unfoldable pub joined_by : Found → (p s : List ℕ) → Threads → (t : ℕ) → ControlPoint → Stepped × List ℕ
-joined_by (At i) p s T t f = gives_zero p t f (joined T i, s)
-joined_by Nothing p s T t f = (ending Stuck T, s)
+unfoldable pub joined_by : Option ℕ → (p s : List ℕ) → Threads → (t : ℕ) → ControlPoint → Result Threads Halt × List ℕ
+joined_by (Some i) p s T t f = gives_zero p t f (joined T i, s)
+joined_by None p s T t f = (Err Stuck, s)
 
-unfoldable pub joined_step : (p s : List ℕ) → Threads → (t : ℕ) → ControlPoint → (tid : ℕ) → Stepped × List ℕ
+unfoldable pub joined_step : (p s : List ℕ) → Threads → (t : ℕ) → ControlPoint → (tid : ℕ) → Result Threads Halt × List ℕ
 joined_step p s T t f tid = joined_by (lowest T.records tid) p s T t f
 
 -- ------------------------------------------------------------------ steps
 
 -- the word of thread t at f comes to that
-unfoldable pub act_step : (p s : List ℕ) → Threads → (t : ℕ) → ControlPoint → Act → Stepped × List ℕ
-act_step p s T t f (act.Go g) = moved_to t (proceeded p s T t g)
-act_step p s T t f (act.Spawn tid) = spawned_step p s T t f tid
-act_step p s T t f (act.Join tid) = joined_step p s T t f tid
-act_step p s T t f act.Stuck = (ending Stuck T, s)
-act_step p s T t f act.Past = (ending Past T, s)
+unfoldable pub act_step : (p s : List ℕ) → Threads → (t : ℕ) → ControlPoint → Result Act Halt → Result Threads Halt × List ℕ
+act_step p s T t f (Ok (Go g)) = moved_to t (proceeded p s T t g)
+act_step p s T t f (Ok (Spawn tid)) = spawned_step p s T t f tid
+act_step p s T t f (Ok (Join tid)) = joined_step p s T t f tid
+act_step p s T t f (Err h) = (Err h, s)
 
-unfoldable pub after_act : (p : List ℕ) → Threads → (t : ℕ) → ControlPoint → Act × List ℕ → Stepped × List ℕ
+unfoldable pub after_act : (p : List ℕ) → Threads → (t : ℕ) → ControlPoint → Result Act Halt × List ℕ → Result Threads Halt × List ℕ
 after_act p T t f (a, s) = act_step p s T t f a
 
-unfoldable pub stepped_from : (p s : List ℕ) → Threads → (t : ℕ) → ControlPoint → (choice : ℕ) → Stepped × List ℕ
-stepped_from p s T t f c = when may_choose p f c then after_act p T t f (acted p s f c) else (ending Stuck T, s)
+unfoldable pub stepped_from : (p s : List ℕ) → Threads → (t : ℕ) → ControlPoint → (choice : ℕ) → Result Threads Halt × List ℕ
+stepped_from p s T t f c = when may_choose p f c then after_act p T t f (acted p s f c) else (Err Stuck, s)
 
-unfoldable pub stepped : (p s : List ℕ) → Threads → (t choice : ℕ) → Stepped × List ℕ
-stepped p s T t c = when runs T t then stepped_from p s T t (control_point_at s t) c else (ending Stuck T, s)
+unfoldable pub stepped : (p s : List ℕ) → Threads → (t choice : ℕ) → Result Threads Halt × List ℕ
+stepped p s T t c = when runs T t then stepped_from p s T t (control_point_at s t) c else (Err Stuck, s)
 
 -- ------------------------------------------------------------------ the start
 

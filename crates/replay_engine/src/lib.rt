@@ -5,96 +5,104 @@
 mod control_points;
 mod races;
 
-ghost use Rattle.std.specs.Prelude.{◌≡◌, ◌-◌, ◌<◌};
-ghost use Rattle.replay_engine.specs.Steps.{may_choose as may_choose_of, proceeded, outcome_of, ending, copied, spawned_step, joined_step, act_step, stepped, zeroed, start_of};
+ghost use Rattle.std.specs.Prelude.{◌≡◌, ◌-◌, Ok};
+ghost use Rattle.replay_engine.specs.Steps.{may_choose as may_choose_of, proceeded, outcome_of, moved_to, copied, gives_zero, spawned_step, joined_step, act_step, stepped, zeroed, start_of};
 
 use control_points::{control_point_at, go_on};
-pub use races::{Pair, lowest_pair};
-use replay_control::{ControlPoint, ENTER, UNROLLED, layout, put, variable};
+pub use races::lowest_pair;
+use replay_control::{ControlPoint, Mode, layout, put, second, shape_at, variable};
+pub use replay_step::Halt;
 use replay_step::{Act, gives};
-use threads::{Found, Threads};
-use workspace::{at, index};
-
-// How a step ended: it is done; it cannot be taken; or it is past a limit.
-#[derive(Drop)]
-pub enum Outcome {
-    Moved,
-    Stuck,
-    Past,
-}
-
-// How a step ended, and the threads after it.
-#[derive(Drop)]
-pub struct Stepped {
-    pub outcome: Outcome,
-    pub threads: Threads,
-}
+use threads::Threads;
+use workspace::{Shape, at, index};
 
 // "choice is 0 or 1 at an if and 0 elsewhere"
+#[tactic(auto, unfolding(crate::specs::Steps::may_choose, replay_control::specs::Shapes::is_if))]
 fn may_choose(program: &[u32], f: ControlPoint, choice: u32) -> bool
     ensures { result ≡ may_choose_of program.now f choice }
 {
-    if choice == 0 {
-        return true;
+    match choice {
+        0 => true,
+        1 => f.mode == Mode::Unrolled || shape_at(program, f.at) == Shape::If,
+        _ => false,
     }
-    if choice == 1 {
-        if f.mode == UNROLLED {
-            return true;
-        }
-        return replay_control::is_if(replay_control::shape_at(program, f.at));
-    }
-    false
 }
 
 // Thread t goes on from there; its record says so if it has finished.
+#[tactic(auto, unfolding(crate::specs::Steps::proceeded, crate::specs::Steps::recorded))]
 fn proceed(program: &[u32], space: &mut [u32], threads: Threads, t: u32, f: ControlPoint) -> Threads
     ensures { proceeded program.now space.old threads t f ≡ (result, space.new) }
 {
-    let done = go_on(program, space, t, f);
-    if done {
-        return threads.finished(index(t));
+    if go_on(program, space, t, f) {
+        threads.finished(index(t))
+    } else {
+        threads
     }
-    threads
 }
 
 // The most calls that may be open in one thread.
 const CALL_LIMIT: usize = 64;
 
 // A step of thread t is done, unless it is past the limit: more calls are open in the thread now.
-fn moved(space: &[u32], threads: Threads, t: u32) -> Stepped
-    ensures { result ≡ ending (outcome_of space.now t) threads }
+#[tactic(auto, unfolding(crate::specs::Steps::outcome_of))]
+fn outcome(space: &[u32], threads: Threads, t: u32) -> Result<Threads, Halt>
+    ensures { result ≡ outcome_of space.now t threads }
 {
     let i = index(t);
     let row = index(at(space, layout::CONTROL_POINT_ROWS + i));
     if layout::LEVELS * i + CALL_LIMIT < row {
-        return Stepped {
-            outcome: Outcome::Past,
-            threads,
-        };
-    }
-    Stepped {
-        outcome: Outcome::Moved,
-        threads,
+        Err(Halt::Past)
+    } else {
+        Ok(threads)
     }
 }
 
+// Thread t goes on from there, and its step is done.
+#[tactic(auto, unfolding(crate::specs::Steps::moved_to))]
+fn move_to(
+    program: &[u32],
+    space: &mut [u32],
+    threads: Threads,
+    t: u32,
+    f: ControlPoint,
+) -> Result<Threads, Halt>
+    ensures { moved_to t (proceeded program.now space.old threads t f) ≡ (result, space.new) }
+{
+    let after = proceed(program, space, threads, t, f);
+    outcome(space, after, t)
+}
+
+// The word of thread t at f becomes 0.
+#[tactic(auto, unfolding(crate::specs::Steps::gives_zero))]
+fn give_zero(
+    program: &[u32],
+    space: &mut [u32],
+    threads: Threads,
+    t: u32,
+    f: ControlPoint,
+) -> Result<Threads, Halt>
+    ensures { gives_zero program.now t f (threads, space.old) ≡ (result, space.new) }
+{
+    move_to(program, space, threads, t, gives(program, f, 0))
+}
+
 // A row gets the variables of another.
+#[tactic(auto, using(crate::proofs::Copying::copied_more), unfolding(crate::specs::Steps::copied, crate::specs::Steps::copied_from))]
 fn copy(space: &mut [u32], from: u32, to: u32)
     ensures { space.new ≡ copied space.old from to }
 {
-    let mut x: u32 = 0;
-    while x < 256 {
+    for x in 0..256 {
         let v = variable(space, from, x);
         put(
             space,
             layout::ENVIRONMENTS + layout::ROW * index(to) + index(x),
             v,
         );
-        x += 1;
     }
 }
 
 // The `spawn` at f: a thread is added, with its e2 and no open call, and the word becomes 0.
+#[tactic(auto, unfolding(crate::specs::Steps::spawned_step))]
 fn spawn(
     program: &[u32],
     space: &mut [u32],
@@ -102,32 +110,22 @@ fn spawn(
     t: u32,
     f: ControlPoint,
     tid: u32,
-) -> Stepped
+) -> Result<Threads, Halt>
     ensures { spawned_step program.now space.old threads t f tid ≡ (result, space.new) }
 {
     let count = threads.count;
     if threads::LIMIT <= count {
-        return Stepped {
-            outcome: Outcome::Past,
-            threads,
-        };
+        return Err(Halt::Past);
     }
-    let u = count as u32;
     let row = (layout::LEVELS * count) as u32;
     copy(space, f.row, row);
-    let body = ControlPoint {
-        mode: ENTER,
-        at: replay_control::second(program, f.at),
-        value: 0,
-        row,
-    };
-    let added = proceed(program, space, threads.spawned(tid), u, body);
-    let zero = gives(program, f.row, f.at, 0);
-    let both = proceed(program, space, added, t, zero);
-    moved(space, both, t)
+    let body = ControlPoint::entering(row, second(program, f.at));
+    let added = proceed(program, space, threads.spawned(tid), count as u32, body);
+    give_zero(program, space, added, t, f)
 }
 
 // The `join` at f takes the lowest finished thread with that identifier, and becomes 0.
+#[tactic(auto, unfolding(crate::specs::Steps::joined_step, crate::specs::Steps::joined_by))]
 fn join(
     program: &[u32],
     space: &mut [u32],
@@ -135,81 +133,67 @@ fn join(
     t: u32,
     f: ControlPoint,
     tid: u32,
-) -> Stepped
+) -> Result<Threads, Halt>
     ensures { joined_step program.now space.old threads t f tid ≡ (result, space.new) }
 {
-    match threads.lowest(tid) {
-        Found::At(i) => {
-            let zero = gives(program, f.row, f.at, 0);
-            let after = proceed(program, space, threads.joined(i), t, zero);
-            moved(space, after, t)
-        }
-        Found::Nothing => Stepped {
-            outcome: Outcome::Stuck,
-            threads,
-        },
-    }
+    let i = threads.lowest(tid).ok_or(Halt::Stuck)?;
+    give_zero(program, space, threads.joined(i), t, f)
 }
 
-// What is left of the step of thread t at f.
+// What is left of the step of thread t at f, whose word comes to that act.
+#[tactic(auto, unfolding(crate::specs::Steps::act_step))]
 fn finish_step(
     program: &[u32],
     space: &mut [u32],
     threads: Threads,
     t: u32,
     f: ControlPoint,
-    a: Act,
-) -> Stepped
-    ensures { act_step program.now space.old threads t f a ≡ (result, space.new) }
+    act: Act,
+) -> Result<Threads, Halt>
+    ensures { act_step program.now space.old threads t f (Ok act) ≡ (result, space.new) }
 {
-    match a {
-        Act::Go(g) => {
-            let after = proceed(program, space, threads, t, g);
-            moved(space, after, t)
-        }
+    match act {
+        Act::Go(g) => move_to(program, space, threads, t, g),
         Act::Spawn(tid) => spawn(program, space, threads, t, f, tid),
         Act::Join(tid) => join(program, space, threads, t, f, tid),
-        Act::Stuck => Stepped {
-            outcome: Outcome::Stuck,
-            threads,
-        },
-        Act::Past => Stepped {
-            outcome: Outcome::Past,
-            threads,
-        },
     }
 }
 
-// Thread t takes its next step, with that choice.
-pub fn step(program: &[u32], space: &mut [u32], threads: Threads, t: u32, choice: u32) -> Stepped
+// Thread t takes its next step, with that choice: the threads after it.
+#[tactic(auto, unfolding(crate::specs::Steps::stepped, crate::specs::Steps::stepped_from, crate::specs::Steps::after_act, crate::specs::Steps::act_step))]
+pub fn step(
+    program: &[u32],
+    space: &mut [u32],
+    threads: Threads,
+    t: u32,
+    choice: u32,
+) -> Result<Threads, Halt>
     ensures { stepped program.now space.old threads t choice ≡ (result, space.new) }
 {
-    if threads.runs(index(t)) {
-        let f = control_point_at(space, t);
-        if may_choose(program, f, choice) {
-            let a = replay_step::reduce(program, space, f, choice);
-            return finish_step(program, space, threads, t, f, a);
-        }
+    if !threads.runs(index(t)) {
+        return Err(Halt::Stuck);
     }
-    Stepped {
-        outcome: Outcome::Stuck,
-        threads,
+    let f = control_point_at(space, t);
+    if !may_choose(program, f, choice) {
+        return Err(Halt::Stuck);
     }
+    let act = replay_step::reduce(program, space, f, choice)?;
+    finish_step(program, space, threads, t, f, act)
 }
 
 // The numbers of the space from a place up to another become 0.
+#[tactic(auto, using(crate::proofs::Clearing::clear_more), unfolding(crate::specs::Steps::zeroed))]
 fn clear_part(space: &mut [u32], from: usize, to: usize)
     ensures { space.new ≡ zeroed space.old from (to - from) }
 {
-    let mut i = from;
-    while i < to {
+    for i in from..to {
         put(space, i, 0);
-        i += 1;
     }
 }
 
 // The start: one thread, about to evaluate the root, and no thing but its identifier, whose value is 1. Of the space only what is looked at
 // before it is stored is cleared: the variables of the first row, and the counts and kinds of things.
+#[tactic(auto, unfolding(crate::specs::Steps::start_of, crate::specs::Steps::start_space))]
 pub fn start(program: &[u32], space: &mut [u32]) -> Threads
     ensures { start_of program.now space.old ≡ (result, space.new) }
 {
@@ -217,11 +201,6 @@ pub fn start(program: &[u32], space: &mut [u32]) -> Threads
     clear_part(space, layout::THING_COUNTS, layout::THING_FIRSTS);
     put(space, layout::THING_KINDS + 1, replay_objects::IDENTIFIER);
     put(space, layout::NEXT_VALUE, 2);
-    let root = ControlPoint {
-        mode: ENTER,
-        at: replay_control::root(program),
-        value: 0,
-        row: 0,
-    };
+    let root = ControlPoint::entering(0, replay_control::root(program));
     proceed(program, space, Threads::start(1), 0, root)
 }

@@ -1,36 +1,22 @@
 // The lowest pair of threads that race: the first thread that clashes with a later one, and the first of those.
 ghost use Rattle.std.specs.Prelude.{◌≡◌, ◌≤◌};
-ghost use Rattle.replay_engine.specs.Races.{names_cell, access_by, access_of, reads, writes, clash as clash_of, partner_from, is_write, any_writes, lowest_pair};
+ghost use Rattle.replay_engine.specs.Races.{names_cell, access_by, access_of, clash as clash_of, partner_from, is_write, any_writes, lowest_pair};
 
 use crate::control_points::control_point_at;
-use replay_control::{ControlPoint, READY, kept_value};
+use replay_control::{ControlPoint, Mode, kept_value};
 use replay_objects::CELL;
 use replay_step::slot_at;
 use workspace::{Touch, at, index, rule_of, touch_of};
 
 // The cell that a thread is about to use, by the value that names it.
-#[derive(Clone, Copy)]
+#[derive(Clone, Copy, PartialEq, Eq)]
 pub enum Access {
-    None,
     Read(u32),
     Write(u32),
 }
 
-// Two threads that race, the lower first.
-#[derive(Drop)]
-pub enum Pair {
-    None,
-    Of(u32, u32),
-}
-
-// The thread that another one races with.
-#[derive(Drop)]
-pub enum Partner {
-    None,
-    Is(u32),
-}
-
 // Whether v names a cell.
+#[tactic(auto, unfolding(crate::specs::Races::names_cell))]
 fn names_cell(space: &[u32], v: u32) -> bool
     ensures { result ≡ names_cell space.now v }
 {
@@ -38,145 +24,108 @@ fn names_cell(space: &[u32], v: u32) -> bool
 }
 
 // What a word that touches a cell so is about to use: `read` the cell that its value names, `write` the one that its first part gave.
-fn access_by(space: &[u32], u: Touch, f: ControlPoint) -> Access
+#[tactic(auto, unfolding(crate::specs::Races::access_by))]
+fn access_by(space: &[u32], u: Touch, f: ControlPoint) -> Option<Access>
     ensures { result ≡ access_by u space.now f }
 {
     match u {
-        Touch::Nothing => Access::None,
-        Touch::Reads => {
-            let v = f.value;
-            if names_cell(space, v) {
-                return Access::Read(v);
-            }
-            Access::None
-        }
+        Touch::Nothing => None,
+        Touch::Reads => names_cell(space, f.value).then_some(Access::Read(f.value)),
         Touch::Writes => {
             let v = kept_value(space, f.row, f.at);
-            if names_cell(space, v) {
-                return Access::Write(v);
-            }
-            Access::None
+            names_cell(space, v).then_some(Access::Write(v))
         }
     }
 }
 
 // What thread t is about to use.
-fn access_of(program: &[u32], space: &[u32], t: u32) -> Access
+#[tactic(auto, unfolding(crate::specs::Races::access_of, crate::specs::Races::access_at))]
+fn access_of(program: &[u32], space: &[u32], t: u32) -> Option<Access>
     ensures { result ≡ access_of program.now space.now t }
 {
     let f = control_point_at(space, t);
-    if f.mode == READY {
+    if f.mode == Mode::Ready {
         let r = rule_of(at(program, workspace::WORDS + index(f.at)));
-        return access_by(space, touch_of(r), f);
-    }
-    Access::None
-}
-
-fn reads(a: Access, v: u32) -> bool
-    ensures { result ≡ reads a v }
-{
-    match a {
-        Access::None => false,
-        Access::Read(u) => u == v,
-        Access::Write(_) => false,
-    }
-}
-
-fn writes(a: Access, v: u32) -> bool
-    ensures { result ≡ writes a v }
-{
-    match a {
-        Access::None => false,
-        Access::Read(_) => false,
-        Access::Write(u) => u == v,
+        access_by(space, touch_of(r), f)
+    } else {
+        None
     }
 }
 
 // One of the two is about to write a cell that the other is about to read or write.
-fn clash(a: Access, b: Access) -> bool
+#[tactic(auto, unfolding(crate::specs::Races::clash, crate::specs::Races::reads, crate::specs::Races::writes))]
+fn clash(a: Option<Access>, b: Option<Access>) -> bool
     ensures { result ≡ clash_of a b }
 {
     match a {
-        Access::None => false,
-        Access::Read(v) => writes(b, v),
-        Access::Write(v) => {
-            if writes(b, v) {
-                return true;
-            }
-            reads(b, v)
-        }
+        None => false,
+        Some(Access::Read(v)) => b == Some(Access::Write(v)),
+        Some(Access::Write(v)) => b == Some(Access::Write(v)) || b == Some(Access::Read(v)),
     }
 }
 
 // The first thread from i on that clashes with a.
-fn partner_from(program: &[u32], space: &[u32], a: Access, i: u32, count: u32) -> Partner
-    requires { count ≤ 16 }
+#[tactic(auto, using(crate::proofs::Pairing::partner_turn), unfolding(crate::specs::Races::partner_from, crate::specs::Races::partner_of))]
+fn partner_from(
+    program: &[u32],
+    space: &[u32],
+    a: Option<Access>,
+    i: u32,
+    count: u32,
+) -> Option<u32>
     ensures { result ≡ partner_from program.now space.now a i count }
 {
-    let mut j = i;
-    while j < count {
+    for j in i..count {
         if clash(a, access_of(program, space, j)) {
-            return Partner::Is(j);
+            return Some(j);
         }
-        j += 1;
     }
-    Partner::None
+    None
 }
 
-fn is_write(a: Access) -> bool
+#[tactic(auto, unfolding(crate::specs::Races::is_write))]
+fn is_write(a: Option<Access>) -> bool
     ensures { result ≡ is_write a }
 {
-    match a {
-        Access::None => false,
-        Access::Read(_) => false,
-        Access::Write(_) => true,
-    }
+    matches!(a, Some(Access::Write(_)))
 }
 
 // Whether any of the threads below `count` is about to write.
+#[tactic(auto, using(crate::proofs::Writing::writes_turn), unfolding(crate::specs::Races::any_writes))]
 fn any_writes(program: &[u32], space: &[u32], count: u32) -> bool
-    requires { count ≤ 16 }
     ensures { result ≡ any_writes program.now space.now 0 count }
 {
-    let mut i: u32 = 0;
-    while i < count {
+    for i in 0..count {
         if is_write(access_of(program, space, i)) {
             return true;
         }
-        i += 1;
     }
     false
 }
 
 // The lowest pair of the threads below `count`, each looked at with each behind it.
-fn pair_among(program: &[u32], space: &[u32], count: u32) -> Pair
-    requires { count ≤ 16 }
+#[tactic(auto, using(crate::proofs::Pairing::pair_turn), unfolding(crate::specs::Races::lowest_pair, crate::specs::Races::pair_of, crate::specs::Races::pair_with))]
+fn pair_among(program: &[u32], space: &[u32], count: u32) -> Option<(u32, u32)>
     ensures { result ≡ lowest_pair program.now space.now count }
 {
-    let mut i: u32 = 0;
-    while i < count {
+    for i in 0..count {
         let a = access_of(program, space, i);
-        let found = partner_from(program, space, a, i + 1, count);
-        match found {
-            Partner::Is(j) => {
-                return Pair::Of(i, j);
-            }
-            Partner::None => {
-                i += 1;
-            }
+        if let Some(j) = partner_from(program, space, a, i + 1, count) {
+            return Some((i, j));
         }
     }
-    Pair::None
+    None
 }
 
-// The lowest pair of the threads below `count`. Where none of them is about to write no two race; that is asked first, since it costs a
-// look at each and not at each two.
-pub fn lowest_pair(program: &[u32], space: &[u32], count: u32) -> Pair
-    requires { count ≤ 16 }
+// The lowest pair of the threads below `count` that race, the lower thread first. Where none of them is about to write no two race; that
+// is asked first, since it costs a look at each and not at each two.
+#[tactic(auto, using(crate::proofs::Writing::none_writes))]
+pub fn lowest_pair(program: &[u32], space: &[u32], count: u32) -> Option<(u32, u32)>
     ensures { result ≡ lowest_pair program.now space.now count }
 {
     if any_writes(program, space, count) {
-        return pair_among(program, space, count);
+        pair_among(program, space, count)
+    } else {
+        None
     }
-    Pair::None
 }

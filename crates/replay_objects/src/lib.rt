@@ -28,7 +28,7 @@ const RWLOCK: u32 = 5;
 const RWLOCK_WRITTEN: u32 = 6;
 
 // What a name names: its kind, and two numbers of it.
-#[derive(Drop)]
+#[derive(Clone, Copy, PartialEq, Eq)]
 pub struct Slot {
     pub kind: u32,
     pub first: u32,
@@ -36,252 +36,217 @@ pub struct Slot {
 }
 
 // The word becomes a value; or it becomes 0 and leaves this where it was; or it becomes the name of a new thing; or it spawns, or
-// joins, a thread with that identifier; or it cannot step.
-#[derive(Drop)]
+// joins, a thread with that identifier.
+#[derive(Clone, Copy, PartialEq, Eq)]
 pub enum StepEffect {
     Returns(u32),
     Updates(Slot),
     Makes(Slot),
     Spawns,
     Joins,
-    Stuck,
 }
 
-const LARGEST: u32 = 4294967295;
-
 // A new thing of that kind.
+#[tactic(auto, unfolding(crate::specs::Uses::made_of))]
 fn made(kind: u32, first: u32) -> StepEffect
     ensures { result ≡ made_of kind first }
 {
-    let next = Slot {
+    StepEffect::Makes(Slot {
         kind,
         first,
         second: 0,
-    };
-    StepEffect::Makes(next)
+    })
 }
 
-fn spawned(x: Slot) -> StepEffect
+#[tactic(auto, unfolding(crate::specs::Uses::spawned_of))]
+fn spawned(x: Slot) -> Option<StepEffect>
     ensures { result ≡ spawned_of x }
 {
-    if x.kind == IDENTIFIER {
-        return StepEffect::Spawns;
-    }
-    StepEffect::Stuck
+    (x.kind == IDENTIFIER).then_some(StepEffect::Spawns)
 }
 
-fn joined(x: Slot) -> StepEffect
+#[tactic(auto, unfolding(crate::specs::Uses::joined_of))]
+fn joined(x: Slot) -> Option<StepEffect>
     ensures { result ≡ joined_of x }
 {
-    if x.kind == IDENTIFIER {
-        return StepEffect::Joins;
-    }
-    StepEffect::Stuck
+    (x.kind == IDENTIFIER).then_some(StepEffect::Joins)
 }
 
-fn read(x: Slot) -> StepEffect
+#[tactic(auto, unfolding(crate::specs::Uses::read_of))]
+fn read(x: Slot) -> Option<StepEffect>
     ensures { result ≡ read_of x }
 {
-    if x.kind == CELL {
-        return StepEffect::Returns(x.first);
-    }
-    StepEffect::Stuck
+    (x.kind == CELL).then_some(StepEffect::Returns(x.first))
 }
 
-fn written(x: Slot, v: u32) -> StepEffect
+#[tactic(auto, unfolding(crate::specs::Uses::written_of))]
+fn written(x: Slot, v: u32) -> Option<StepEffect>
     ensures { result ≡ written_of x v }
 {
     if x.kind == CELL {
-        let next = Slot {
+        Some(StepEffect::Updates(Slot {
             kind: CELL,
             first: v,
             second: 0,
-        };
-        return StepEffect::Updates(next);
+        }))
+    } else {
+        None
     }
-    StepEffect::Stuck
 }
 
-fn locked(x: Slot) -> StepEffect
+#[tactic(auto, unfolding(crate::specs::Uses::locked_of))]
+fn locked(x: Slot) -> Option<StepEffect>
     ensures { result ≡ locked_of x }
 {
-    if x.kind == LOCK {
-        if x.first == 0 {
-            let next = Slot {
-                kind: LOCK,
-                first: 1,
-                second: 0,
-            };
-            return StepEffect::Updates(next);
-        }
+    if x.kind == LOCK && x.first == 0 {
+        Some(StepEffect::Updates(Slot {
+            kind: LOCK,
+            first: 1,
+            second: 0,
+        }))
+    } else {
+        None
     }
-    StepEffect::Stuck
 }
 
 // An open lock stays open.
-fn unlocked(x: Slot) -> StepEffect
+#[tactic(auto, unfolding(crate::specs::Uses::unlocked_of))]
+fn unlocked(x: Slot) -> Option<StepEffect>
     ensures { result ≡ unlocked_of x }
 {
     if x.kind == LOCK {
-        let next = Slot {
+        Some(StepEffect::Updates(Slot {
             kind: LOCK,
             first: 0,
             second: 0,
-        };
-        return StepEffect::Updates(next);
+        }))
+    } else {
+        None
     }
-    StepEffect::Stuck
 }
 
 // A count of all ones is never reached: it would take as many lines.
-fn posted(x: Slot) -> StepEffect
+#[tactic(auto, unfolding(crate::specs::Uses::posted_of))]
+fn posted(x: Slot) -> Option<StepEffect>
     ensures { result ≡ posted_of x }
 {
-    let low = x.first;
-    let high = x.second;
-    if x.kind == SEMAPHORE {
-        if low < LARGEST {
-            let next = Slot {
-                kind: SEMAPHORE,
-                first: low + 1,
-                second: high,
-            };
-            return StepEffect::Updates(next);
-        }
-        if high < LARGEST {
-            let next = Slot {
-                kind: SEMAPHORE,
-                first: 0,
-                second: high + 1,
-            };
-            return StepEffect::Updates(next);
-        }
+    if x.kind == SEMAPHORE && x.first < u32::MAX {
+        Some(StepEffect::Updates(Slot {
+            first: x.first + 1,
+            ..x
+        }))
+    } else if x.kind == SEMAPHORE && x.second < u32::MAX {
+        Some(StepEffect::Updates(Slot {
+            first: 0,
+            second: x.second + 1,
+            ..x
+        }))
+    } else {
+        None
     }
-    StepEffect::Stuck
 }
 
-fn waited(x: Slot) -> StepEffect
+#[tactic(auto, unfolding(crate::specs::Uses::waited_of))]
+fn waited(x: Slot) -> Option<StepEffect>
     ensures { result ≡ waited_of x }
 {
-    let low = x.first;
-    let high = x.second;
-    if x.kind == SEMAPHORE {
-        if 0 < low {
-            let next = Slot {
-                kind: SEMAPHORE,
-                first: low - 1,
-                second: high,
-            };
-            return StepEffect::Updates(next);
-        }
-        if 0 < high {
-            let next = Slot {
-                kind: SEMAPHORE,
-                first: LARGEST,
-                second: high - 1,
-            };
-            return StepEffect::Updates(next);
-        }
+    if x.kind == SEMAPHORE && 0 < x.first {
+        Some(StepEffect::Updates(Slot {
+            first: x.first - 1,
+            ..x
+        }))
+    } else if x.kind == SEMAPHORE && 0 < x.second {
+        Some(StepEffect::Updates(Slot {
+            first: u32::MAX,
+            second: x.second - 1,
+            ..x
+        }))
+    } else {
+        None
     }
-    StepEffect::Stuck
 }
 
-fn rdlocked(x: Slot) -> StepEffect
+#[tactic(auto, unfolding(crate::specs::Uses::rdlocked_of))]
+fn rdlocked(x: Slot) -> Option<StepEffect>
     ensures { result ≡ rdlocked_of x }
 {
-    let places = x.first;
-    let readers = x.second;
-    if x.kind == RWLOCK {
-        if readers < places {
-            let next = Slot {
-                kind: RWLOCK,
-                first: places,
-                second: readers + 1,
-            };
-            return StepEffect::Updates(next);
-        }
+    if x.kind == RWLOCK && x.second < x.first {
+        Some(StepEffect::Updates(Slot {
+            second: x.second + 1,
+            ..x
+        }))
+    } else {
+        None
     }
-    StepEffect::Stuck
 }
 
-fn rdunlocked(x: Slot) -> StepEffect
+#[tactic(auto, unfolding(crate::specs::Uses::rdunlocked_of))]
+fn rdunlocked(x: Slot) -> Option<StepEffect>
     ensures { result ≡ rdunlocked_of x }
 {
-    let places = x.first;
-    let readers = x.second;
-    if x.kind == RWLOCK {
-        if 0 < readers {
-            let next = Slot {
-                kind: RWLOCK,
-                first: places,
-                second: readers - 1,
-            };
-            return StepEffect::Updates(next);
-        }
+    if x.kind == RWLOCK && 0 < x.second {
+        Some(StepEffect::Updates(Slot {
+            second: x.second - 1,
+            ..x
+        }))
+    } else {
+        None
     }
-    StepEffect::Stuck
 }
 
-fn wrlocked(x: Slot) -> StepEffect
+#[tactic(auto, unfolding(crate::specs::Uses::wrlocked_of))]
+fn wrlocked(x: Slot) -> Option<StepEffect>
     ensures { result ≡ wrlocked_of x }
 {
-    let places = x.first;
-    if x.kind == RWLOCK {
-        if x.second == 0 {
-            let next = Slot {
-                kind: RWLOCK_WRITTEN,
-                first: places,
-                second: 0,
-            };
-            return StepEffect::Updates(next);
-        }
+    if x.kind == RWLOCK && x.second == 0 {
+        Some(StepEffect::Updates(Slot {
+            kind: RWLOCK_WRITTEN,
+            ..x
+        }))
+    } else {
+        None
     }
-    StepEffect::Stuck
 }
 
-fn wrunlocked(x: Slot) -> StepEffect
+#[tactic(auto, unfolding(crate::specs::Uses::wrunlocked_of))]
+fn wrunlocked(x: Slot) -> Option<StepEffect>
     ensures { result ≡ wrunlocked_of x }
 {
-    let places = x.first;
     if x.kind == RWLOCK_WRITTEN {
-        let next = Slot {
+        Some(StepEffect::Updates(Slot {
             kind: RWLOCK,
-            first: places,
             second: 0,
-        };
-        return StepEffect::Updates(next);
+            ..x
+        }))
+    } else {
+        None
     }
-    StepEffect::Stuck
 }
 
-// The word of that rule: x is what it is about, v the value that it stores, or the reading places of a new read-write lock. The words
+// The word of that rule, if it can step: x is what it is about, v the value that it stores, or the reading places of a new read-write lock. The words
 // of a thread alone use nothing.
-pub fn effect_of(r: Rule, x: Slot, v: u32) -> StepEffect
+#[tactic(auto, unfolding(crate::specs::Uses::effect_of))]
+pub fn effect_of(r: Rule, x: Slot, v: u32) -> Option<StepEffect>
     ensures { result ≡ effect_of r x v }
 {
     match r {
-        Rule::VAR => StepEffect::Stuck,
-        Rule::INT => StepEffect::Stuck,
-        Rule::LET => StepEffect::Stuck,
-        Rule::IF => StepEffect::Stuck,
-        Rule::WHILE => StepEffect::Stuck,
-        Rule::NEWT => made(IDENTIFIER, 0),
+        Rule::NEWT => Some(made(IDENTIFIER, 0)),
         Rule::SPAWN => spawned(x),
         Rule::JOIN => joined(x),
-        Rule::REF => made(CELL, v),
+        Rule::REF => Some(made(CELL, v)),
         Rule::WRITE => written(x, v),
         Rule::READ => read(x),
-        Rule::NEWL => made(LOCK, 0),
+        Rule::NEWL => Some(made(LOCK, 0)),
         Rule::LCK => locked(x),
         Rule::ULCK => unlocked(x),
-        Rule::NEWSEM => made(SEMAPHORE, 0),
+        Rule::NEWSEM => Some(made(SEMAPHORE, 0)),
         Rule::POST => posted(x),
         Rule::WAIT => waited(x),
-        Rule::NEWRWLOCK => made(RWLOCK, v),
+        Rule::NEWRWLOCK => Some(made(RWLOCK, v)),
         Rule::RDLOCK => rdlocked(x),
         Rule::RDUNLOCK => rdunlocked(x),
         Rule::WRLOCK => wrlocked(x),
         Rule::WRUNLOCK => wrunlocked(x),
-        Rule::CALL => StepEffect::Stuck,
+        Rule::VAR | Rule::INT | Rule::LET | Rule::IF | Rule::WHILE | Rule::CALL => { None }
     }
 }

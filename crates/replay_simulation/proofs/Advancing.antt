@@ -53,38 +53,38 @@ module _ (p : List ℕ) (r : ℕ) where
   pub enters : (n k : ℕ) {q : Position} {w : Word} {v c : ℕ} (s : List ℕ) → Row p k q w v c →
       go (suc n) s (entering r k) ≡ go n s (entered_by (shape_of (rule_of (code_of w))) r k c (variable s r v))
   unfolding advanced advanced_space entered shape_at
-  enters n k s d = found_advance p s (entering r k) n (omega arith) ∙ rw (d.code, d.number, d.next)
+  enters n k s d = found_advance p s (entering r k) n refl ∙ rw (d.code, d.number, d.next)
 
   -- from the value of a first part, not of a `write`
   pub to_first : (n j x : ℕ) {q : Position} {w : Word} {v c : ℕ} (s : List ℕ) → Row p j q w v c → is_write (shape_of (rule_of (code_of w))) ≡ false →
       go (suc n) s (returning r j x) ≡ (ready_at r j x, s)
   unfolding advanced advanced_space returned returned_space half_written shape_at
   to_first n j x s d h =
-      found_advance p s (returning r j x) n (omega arith) ∙ rw (lt-ltb j 256 d.below, d.code, h) (found_stop p s (ready_at r j x) n (omega arith))
+      found_advance p s (returning r j x) n refl ∙ rw (lt-ltb j 256 d.below, d.code, h) (found_stop p s (ready_at r j x) n refl)
 
   -- from the value of the second part of a `write`
   pub to_second : (n j x : ℕ) (s : List ℕ) → j < 256 → go (suc n) s (returning r (second_part + j) x) ≡ (ready_at r j x, s)
   unfolding advanced advanced_space returned returned_space half_written
   to_second n j x s h =
       let back : second_part + j - second_part ≡ j = omega arith in
-      found_advance p s (returning r (second_part + j) x) n (omega arith)
-      ∙ rw (le-ltb (second_part + j) 256 (omega arith), lt-ltb (second_part + j) 512 (omega (arith, h)), back) (found_stop p s (ready_at r j x) n (omega arith))
+      found_advance p s (returning r (second_part + j) x) n refl
+      ∙ rw (le-ltb (second_part + j) 256 (omega arith), lt-ltb (second_part + j) 512 (omega (arith, h)), back) (found_stop p s (ready_at r j x) n refl)
 
   -- from the value of the first part of a `write`
   pub to_other : (n j x : ℕ) {q : Position} {v c : ℕ} (s : List ℕ) → Row p j q (Binary Write) v c →
       go (suc n) s (returning r j x) ≡ go n (set s (kept_values_at + 256 * r + j) x) (entering r (second p j))
   unfolding advanced advanced_space returned returned_space half_written shape_at rule_of printed is_write
-  to_other n j x s d = found_advance p s (returning r j x) n (omega arith) ∙ rw (lt-ltb j 256 d.below, d.code)
+  to_other n j x s d = found_advance p s (returning r j x) n refl ∙ rw (lt-ltb j 256 d.below, d.code)
 
   -- from the value of the whole
   pub to_end : (n x : ℕ) (s : List ℕ) → go (suc n) s (returning r finish x) ≡ (done_with r x, s)
   unfolding advanced advanced_space returned returned_space half_written
-  to_end n x s = found_advance p s (returning r finish x) n (omega arith) ∙ found_stop p s (done_with r x) n (omega arith)
+  to_end n x s = found_advance p s (returning r finish x) n refl ∙ found_stop p s (done_with r x) n refl
 
   -- from the value of a body
   pub to_caller : (n x : ℕ) (s : List ℕ) → go (suc n) s (returning r leave x) ≡ go n s (returning (r - 1) (continuation p (called_from s r)) x)
   unfolding advanced advanced_space returned returned_space half_written left
-  to_caller n x s = found_advance p s (returning r leave x) n (omega arith)
+  to_caller n x s = found_advance p s (returning r leave x) n refl
 
 -- ------------------------------------------------------------------ what a turn may change
 

@@ -1,6 +1,6 @@
 -- What a thread's numbers are: two spaces that agree on them hold the same of the thread.
 use Prim.Native.Nat.{ℕ, ◌+◌, ◌*◌, ◌<◌, ◌≤◌}
-use mathlib.Core.Path.{◌≡◌, refl, ◌∙◌}
+use mathlib.Core.Path.{◌≡◌, refl, ◌∙◌, ap}
 use mathlib.Core.List.{List}
 use mathlib.Core.Logic.{◌≢◌, ◌⊎◌, inl, inr}
 use native.Mathlib.Omega.{arith}
@@ -8,6 +8,8 @@ use native.Mathlib.Decide.{dec_lt}
 use lib.ListN.{length, get_or, set, length-set}
 use lib.Seq.{get_or-set_same, get_or-set_other}
 use Rattle.replay_control.specs.Layout.{kept_values_at, open_calls_at, control_point_modes_at, control_point_places_at, control_point_values_at, control_point_rows_at, thing_counts_at, space_size}
+use Rattle.replay_control.specs.Modes.{mode_number, mode_of}
+use Rattle.replay_control.proofs.Modes.{mode_read}
 use Rattle.replay_control.specs.declared.ControlPoint.{ControlPoint}
 use Rattle.replay_control.specs.Control.{variable, kept, called_from, continuation, control_point}
 use Rattle.replay_engine.specs.ControlPoints.{control_point_at, control_point_put}
@@ -108,7 +110,7 @@ pub agree_set : (i k x : ℕ) (s : List ℕ) → Outside i k → control_point_m
 unfolding control_point_at
 agree_set i k x s o a b c d = record {
   rows = rows_set i k x s o;
-  focused = λ n. control_point (get_or-set_other s k (control_point_modes_at + i) x 0 a n) (get_or-set_other s k (control_point_places_at + i) x 0 b n) (get_or-set_other s k (control_point_values_at + i) x 0 c n) (get_or-set_other s k (control_point_rows_at + i) x 0 d n);
+  focused = λ n. control_point (mode_of (get_or-set_other s k (control_point_modes_at + i) x 0 a n)) (get_or-set_other s k (control_point_places_at + i) x 0 b n) (get_or-set_other s k (control_point_values_at + i) x 0 c n) (get_or-set_other s k (control_point_rows_at + i) x 0 d n);
 }
 
 -- all rows stand before these numbers
@@ -179,7 +181,7 @@ agree_found i t s s' l m n c = record {
     kepts = λ r j a h. c.kept (kept_values_at + 256 * r + j) (apart r j a h (less_or_more i t n));
     calls = λ r (lo, hi). c.kept (open_calls_at + r) (inr (omega (arith, m)));
   };
-  focused = λ z. control_point (c.kept (control_point_modes_at + i) (inr (omega (arith, m))) z) (c.kept (control_point_places_at + i) (inr (omega (arith, m))) z) (c.kept (control_point_values_at + i) (inr (omega (arith, m))) z) (c.kept (control_point_rows_at + i) (inr (omega (arith, m))) z);
+  focused = λ z. control_point (mode_of (c.kept (control_point_modes_at + i) (inr (omega (arith, m))) z)) (c.kept (control_point_places_at + i) (inr (omega (arith, m))) z) (c.kept (control_point_values_at + i) (inr (omega (arith, m))) z) (c.kept (control_point_rows_at + i) (inr (omega (arith, m))) z);
 }
   where
     apart : (r j : ℕ) → RowIn i r → j < 256 → (i < t) ⊎ (t < i) → (kept_values_at + 256 * r + j < kept_values_at + 16896 * t) ⊎ (kept_values_at + 16896 * t + 16896 ≤ kept_values_at + 256 * r + j)
@@ -195,7 +197,7 @@ unfolding control_point_at control_point_put
 control_point_here s t f long m = λ z. control_point (modes z) (places z) (givens z) (rows z)
   where
     s₁ : List ℕ
-    s₁ = set s (control_point_modes_at + t) f.mode
+    s₁ = set s (control_point_modes_at + t) (mode_number f.mode)
 
     s₂ : List ℕ
     s₂ = set s₁ (control_point_places_at + t) f.at
@@ -204,7 +206,7 @@ control_point_here s t f long m = λ z. control_point (modes z) (places z) (give
     s₃ = set s₂ (control_point_values_at + t) f.value
 
     long₁ : length s₁ ≡ space_size
-    long₁ = length-set s (control_point_modes_at + t) f.mode ∙ long
+    long₁ = length-set s (control_point_modes_at + t) (mode_number f.mode) ∙ long
 
     long₂ : length s₂ ≡ space_size
     long₂ = length-set s₁ (control_point_places_at + t) f.at ∙ long₁
@@ -212,10 +214,15 @@ control_point_here s t f long m = λ z. control_point (modes z) (places z) (give
     long₃ : length s₃ ≡ space_size
     long₃ = length-set s₂ (control_point_values_at + t) f.value ∙ long₂
 
-    modes : get_or (set s₃ (control_point_rows_at + t) f.row) (control_point_modes_at + t) 0 ≡ f.mode
+    modes : mode_of (get_or (set s₃ (control_point_rows_at + t) f.row) (control_point_modes_at + t) 0) ≡ f.mode
     modes =
-        get_or-set_other s₃ (control_point_rows_at + t) (control_point_modes_at + t) f.row 0 (λ e. omega (arith, e)) ∙ get_or-set_other s₂ (control_point_values_at + t) (control_point_modes_at + t) f.value 0 (λ e. omega (arith, e))
-        ∙ get_or-set_other s₁ (control_point_places_at + t) (control_point_modes_at + t) f.at 0 (λ e. omega (arith, e)) ∙ get_or-set_same s (control_point_modes_at + t) f.mode 0 (omega (arith, long, m))
+        ap mode_of (
+          get_or-set_other s₃ (control_point_rows_at + t) (control_point_modes_at + t) f.row 0 (λ e. omega (arith, e))
+              ∙ get_or-set_other s₂ (control_point_values_at + t) (control_point_modes_at + t) f.value 0 (λ e. omega (arith, e))
+              ∙ get_or-set_other s₁ (control_point_places_at + t) (control_point_modes_at + t) f.at 0 (λ e. omega (arith, e))
+              ∙ get_or-set_same s (control_point_modes_at + t) (mode_number f.mode) 0 (omega (arith, long, m))
+        )
+        ∙ mode_read f.mode
 
     places : get_or (set s₃ (control_point_rows_at + t) f.row) (control_point_places_at + t) 0 ≡ f.at
     places =
@@ -238,11 +245,11 @@ module _ (t : ℕ) (f : ControlPoint) (P : List ℕ → List ℕ → Type 0) (th
   control_point_stores : (s : List ℕ) → P s (control_point_put s t f)
   unfolding control_point_put
   control_point_stores s =
-      let s₁ = set s (control_point_modes_at + t) f.mode in
+      let s₁ = set s (control_point_modes_at + t) (mode_number f.mode) in
       let s₂ = set s₁ (control_point_places_at + t) f.at in
       let s₃ = set s₂ (control_point_values_at + t) f.value in
       let s₄ = set s₃ (control_point_rows_at + t) f.row in
-      then s s₁ s₄ (one (control_point_modes_at + t) f.mode s (inl refl))
+      then s s₁ s₄ (one (control_point_modes_at + t) (mode_number f.mode) s (inl refl))
       (then s₁ s₂ s₄ (one (control_point_places_at + t) f.at s₁ (inr (inl refl)))
       (then s₂ s₃ s₄ (one (control_point_values_at + t) f.value s₂ (inr (inr (inl refl)))) (one (control_point_rows_at + t) f.row s₃ (inr (inr (inr refl))))))
 

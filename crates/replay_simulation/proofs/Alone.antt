@@ -1,7 +1,9 @@
 -- The words of a thread alone are the machine's: let, if, while.
+use Rattle.std.proofs.Common.{Ok}
 use Prim.Native.Nat.{ℕ, ◌+◌, ◌*◌, ◌<◌, ◌≤◌}
 use mathlib.Core.Path.{◌≡◌, refl, sym, ◌∙◌, ap, subst}
 use mathlib.Core.Logic.{◌≢◌}
+use mathlib.Core.Bool.{false}
 use mathlib.Core.List.{List}
 use native.Mathlib.Omega.{arith}
 use native.Mathlib.Decide.{ℕ_discrete}
@@ -20,6 +22,7 @@ use Rattle.replay_control.specs.Layout.{kept_values_at, open_calls_at, space_siz
 use Rattle.replay_control.specs.declared.ControlPoint.{ControlPoint}
 use Rattle.replay_control.specs.Shapes.{shape_at}
 use Rattle.replay_control.specs.Control.{variable, kept, called_from, continuation, second, entering, stopped_at, ready_at, unrolled_at, found}
+use Rattle.replay_control.specs.Modes.{on_its_way}
 use Rattle.replay_control.proofs.Advances.{found_stop}
 use Rattle.replay_step.specs.declared.words.Act.TheVariants.{Go}
 use Rattle.replay_step.specs.Words.{given, branched, looped, bound, acted_by, acted}
@@ -39,20 +42,20 @@ use Rattle.replay_simulation.proofs.AtWord.{AtWord, Goes, by_act, pausing, goes,
 
 module _ (p s : List ℕ) (row c : ℕ) {q : Position} where
   let_acts : {x : ℕ} (v : ℕ) → RowOf p q (Binary Let) x →
-      acted p s (ready_at row q.index v) c ≡ (Go (entering row (second p q.index)), set s (0 + 256 * row + x) v)
+      acted p s (ready_at row q.index v) c ≡ (Ok (Go (entering row (second p q.index))), set s (0 + 256 * row + x) v)
   unfolding acted acted_by bound shape_at rule_of printed
   let_acts v r = rw (r.code, r.number)
 
-  if_acts : {n : ℕ} → RowOf p q (Binary If) n → acted p s (stopped_at row q.index) c ≡ (Go (branched p row q.index c), s)
+  if_acts : {n : ℕ} → RowOf p q (Binary If) n → acted p s (stopped_at row q.index) c ≡ (Ok (Go (branched p row q.index c)), s)
   unfolding acted acted_by shape_at rule_of printed
   if_acts r = rw r.code
 
-  while_acts : {n : ℕ} (f : ControlPoint) → f.at ≡ q.index → RowOf p q (Unary While) n → acted p s f c ≡ (Go (looped p f c), s)
+  while_acts : {n : ℕ} (f : ControlPoint) → f.at ≡ q.index → RowOf p q (Unary While) n → acted p s f c ≡ (Ok (Go (looped p f c)), s)
   unfolding acted acted_by shape_at rule_of printed
   while_acts f e r = rw (e, r.code)
 
 -- the thread stands there at once
-stays : (p s : List ℕ) (t : ℕ) (g : ControlPoint) (d : Control) → 2 ≤ g.mode → ControlAt p s t g d → Finds p t s d (found 2048 p s g)
+stays : (p s : List ℕ) (t : ℕ) (g : ControlPoint) (d : Control) → on_its_way g.mode ≡ false → ControlAt p s t g d → Finds p t s d (found 2048 p s g)
 stays p s t g d h C = subst (Finds p t s d) (sym (found_stop p s g 2048 h)) (C, same_all t s)
 
 -- ------------------------------------------------------------------ let
@@ -123,7 +126,7 @@ module _ {p s : List ℕ} {T : Threads} {R : Replay} {t row tid : ℕ} {σ : Env
   pub if_first : Stands p (continuation p q.index) (q.index + 1) e₁ → Goes A first word 0
   unfolding branched
   if_first S =
-      by_act A first word 0 (if_acts p s row 0 r ∙ ap (λ (k : ℕ). (Go (entering row k), s)) (behind_is q.index r.below))
+      by_act A first word 0 (if_acts p s row 0 r ∙ ap (λ (k : ℕ). (Ok (Go (entering row k)), s)) (behind_is q.index r.below))
       (goes A word (entering row (q.index + 1)) (enter σ e₁ K) (enters_word (ready A (q.index + 1) (omega arith)) e₁ S))
 
   pub if_second : Stands p (continuation p q.index) (second p q.index) e₂ → Goes A second_of_two word 1
@@ -142,7 +145,7 @@ module _ {p s : List ℕ} {T : Threads} {R : Replay} {t row tid : ℕ} {σ : Env
   while_goes A =
       by_act A first (stopped_at row q.index) 0 (while_acts p s row 0 (stopped_at row q.index) refl r)
       (goes A (stopped_at row q.index) (unrolled_at row q.index) (at σ (unrolled_word q e) K)
-      (stays p s t (unrolled_at row q.index) (at σ (unrolled_word q e) K) (omega arith) (A.values, (refl, n, r, S), A.frames)))
+      (stays p s t (unrolled_at row q.index) (at σ (unrolled_word q e) K) refl (A.values, (refl, n, r, S), A.frames)))
 
   -- its part has given its value
   pub again_goes : {v : Value} (A : AtWord p s T R t row tid σ (again_word q v e) K) → Goes A first (ready_at row q.index (code_value v)) 0
@@ -150,7 +153,7 @@ module _ {p s : List ℕ} {T : Threads} {R : Replay} {t row tid : ℕ} {σ : Env
   again_goes {v} A =
       by_act A first word 0 (while_acts p s row 0 word refl r)
       (goes A word (stopped_at row q.index) (at σ (while_word q e) K)
-      (stays p s t (stopped_at row q.index) (at σ (while_word q e) K) (omega arith) (A.values, (refl, n, r, S), A.frames)))
+      (stays p s t (stopped_at row q.index) (at σ (while_word q e) K) refl (A.values, (refl, n, r, S), A.frames)))
     where
       word : ControlPoint
       word = ready_at row q.index (code_value v)
@@ -160,7 +163,7 @@ module _ {p s : List ℕ} {T : Threads} {R : Replay} {t row tid : ℕ} {σ : Env
   unfolding looped
   unrolled_first A =
       by_act A first (unrolled_at row q.index) 0
-      (while_acts p s row 0 (unrolled_at row q.index) refl r ∙ ap (λ (k : ℕ). (Go (entering row k), s)) (behind_is q.index r.below))
+      (while_acts p s row 0 (unrolled_at row q.index) refl r ∙ ap (λ (k : ℕ). (Ok (Go (entering row k)), s)) (behind_is q.index r.below))
       (goes A (unrolled_at row q.index) (entering row (q.index + 1)) (run_part σ q e K) (runs_part (ready A q.index (omega arith)) e r S))
 
   pub unrolled_second : (A : AtWord p s T R t row tid σ (unrolled_word q e) K) → Goes A second_of_two (unrolled_at row q.index) 1

@@ -1,5 +1,5 @@
 -- Thread t stands at its next word, in a space that holds the machine; and how it goes on from there.
-use Rattle.std.proofs.Common.{Option, Some, slice_get}
+use Rattle.std.proofs.Common.{Option, Some, Result, Ok, slice_get}
 use Prim.Native.Nat.{ℕ, ◌<◌, ◌≤◌}
 use mathlib.Core.Path.{◌≡◌, sym, ◌∙◌, subst}
 use mathlib.Core.Logic.{◌≢◌}
@@ -16,6 +16,7 @@ use Rattle.replay_control.specs.declared.ControlPoint.{ControlPoint}
 use Rattle.replay_control.specs.Control.{continuation, found}
 use Rattle.replay_step.specs.declared.words.Act.{Act}
 use Rattle.replay_step.specs.declared.words.Act.TheVariants.{Go}
+use Rattle.replay_step.specs.declared.words.Halt.{Halt}
 use Rattle.replay_engine.specs.ControlPoints.{control_point_at}
 use Rattle.replay_step.specs.Words.{given, acted}
 use Rattle.replay_engine.specs.Steps.{after_act}
@@ -57,14 +58,14 @@ with_threads R ts =
 module _ {p s : List ℕ} {T : Threads} {R : Replay} {t row tid : ℕ} {σ : Env} {w : Word} {K : List Frame}
     (A : AtWord p s T R t row tid σ w K) where
   -- what the code hands back answers the machine's step, in which nothing is made
-  abbrev pub Answers : ControlPoint → Option Machine → Act × List ℕ → Type 0
+  abbrev pub Answers : ControlPoint → Option Machine → Result Act Halt × List ℕ → Type 0
   Answers f o r = Answered p (check_limits within (o >>= λ N. Some (record { machine = N; things = R.things }))) (after_act p T t f r)
 
   -- the machine's step that takes that part of an `if`, and the code's act with that choice
   abbrev pub Goes : Part → ControlPoint → (choice : ℕ) → Type 0
   Goes part f c = Answers f (step_word R.machine t tid σ K part w) (acted p s f c)
 
-  pub by_act : (part : Part) (f : ControlPoint) (c : ℕ) {a : Act × List ℕ} → acted p s f c ≡ a → Answers f (step_word R.machine t tid σ K part w) a → Goes part f c
+  pub by_act : (part : Part) (f : ControlPoint) (c : ℕ) {a : Result Act Halt × List ℕ} → acted p s f c ≡ a → Answers f (step_word R.machine t tid σ K part w) a → Goes part f c
   by_act part f c e G = subst (Answers f (step_word R.machine t tid σ K part w)) (sym e) G
 
   -- on its way, in a space that differs in nothing of the other threads', with these names
@@ -93,7 +94,7 @@ module _ {p s : List ℕ} {T : Threads} {R : Replay} {t row tid : ℕ} {σ : Env
 
   -- to d, in the space as it is
   pub goes : (f g : ControlPoint) (d : Control) → Finds p t s d (found 2048 p s g) →
-      Answers f (Some (goes_to R.machine t tid R.machine.names d)) (Go g, s)
+      Answers f (Some (goes_to R.machine t tid R.machine.names d)) (Ok (Go g), s)
   goes f g d F = moves (pausing A.holds.long (λ i l n. agree_all i s) A.holds.names) f g d F
 
   pub ready : (b : ℕ) → place_of p s w ≤ b → Ready p t s σ row s b (continuation p (place_of p s w)) K
@@ -123,7 +124,7 @@ module _ {p s : List ℕ} {T : Threads} {R : Replay} {t row tid : ℕ} {σ : Env
   pub becomes : (s₁ : List ℕ) → length s₁ ≡ space_size → ((i : ℕ) → i < 16 → Agree i s s₁) →
       {names : ℕ → state.Slot} {next : ℕ} {things : ObjectKind → ℕ} → NamesHeld s₁ names next things → place_of p s w < 256 → (f : ControlPoint) (v : Value) →
       Answered p (check_limits within (Some (gone_to (renamed R names next things) t tid (return σ v K))))
-      (after_act p T t f (Go (given p row (place_of p s w) (code_value v)), s₁))
+      (after_act p T t f (Ok (Go (given p row (place_of p s w) (code_value v))), s₁))
   unfolding given
   becomes s₁ long agree N below f v =
       moves (pausing long (λ i l n. agree i l) N) f (given p row (place_of p s w) (code_value v)) (return σ v K)

@@ -1,6 +1,6 @@
 -- A call on numbers is the machine's: the body of the procedure is entered in the next row, which holds its argument alone and the step
 -- of the call.
-use Rattle.std.proofs.Common.{Some, slice_get}
+use Rattle.std.proofs.Common.{Some, slice_get, Ok}
 use Prim.Native.Nat.{ℕ, zero, suc, ◌+◌, ◌*◌, ◌-◌, ◌<◌, ◌≤◌}
 use mathlib.Core.Path.{◌≡◌, refl, sym, ◌∙◌, ap, subst}
 use mathlib.Core.Logic.{◌≢◌, ◌⊎◌, inl, inr}
@@ -19,6 +19,7 @@ use Rattle.calculus.specs.State.{first, update}
 use Rattle.workspace.specs.Layout.{rule_of, printed}
 use Rattle.threads.specs.declared.Threads.{Threads}
 use Rattle.replay_control.specs.Layout.{leave, procedures_at, kept_values_at, open_calls_at, control_point_modes_at, control_point_places_at, control_point_values_at, control_point_rows_at, space_size}
+use Rattle.replay_control.specs.Modes.{mode_of}
 use Rattle.replay_control.specs.declared.ControlPoint.{ControlPoint}
 use Rattle.replay_control.specs.Shapes.{shape_at}
 use Rattle.replay_control.specs.Control.{variable, kept, called_from, continuation, first_of, control_point, entering, ready_at}
@@ -140,7 +141,7 @@ module _ {s : List ℕ} {b x v k : ℕ} (E : Entry s b x v k) where
       calls = λ r in_row. elsewhere (open_calls_at + r) (inr (omega (arith, E.low))) (λ e. other r in_row (less_or_more i t n) (omega (arith, e)));
     };
     focused = λ z. control_point
-        (elsewhere (control_point_modes_at + i) (inr (omega (arith, E.low))) (λ e. omega (arith, e, E.low)) z)
+        (mode_of (elsewhere (control_point_modes_at + i) (inr (omega (arith, E.low))) (λ e. omega (arith, e, E.low)) z))
         (elsewhere (control_point_places_at + i) (inr (omega (arith, E.low))) (λ e. omega (arith, e, E.low)) z)
         (elsewhere (control_point_values_at + i) (inr (omega (arith, E.low))) (λ e. omega (arith, e, E.low)) z)
         (elsewhere (control_point_rows_at + i) (inr (omega (arith, E.low))) (λ e. omega (arith, e, E.low)) z);
@@ -195,7 +196,7 @@ module _ {p s : List ℕ} {T : Threads} {R : Replay} {t row tid : ℕ} {σ : Env
     abbrev entered : Control
     entered = enter (update zeros body.parameter v) body.body (mark_frame σ ∷ K)
 
-    acts : acted p s word 0 ≡ (Go (entering (row + 1) (first_of p g)), after)
+    acts : acted p s word 0 ≡ (Ok (Go (entering (row + 1) (first_of p g))), after)
     unfolding acted acted_by call_entered called_space argument_put row_cleared callee_of above shape_at rule_of printed
     acts = rw (r.code, r.number, is, lt-ltb row 1056 (let l = new_low in omega arith), B.parameter)
 

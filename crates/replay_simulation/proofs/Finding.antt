@@ -259,7 +259,7 @@ module _ (p : List ℕ) (t : ℕ) (s₀ : List ℕ) where
         Finds (at σ w' K) (go p row m s (entering row k))
     stops w' {k} {v = v} r here K m s le R is W =
         takes_turn (at σ w' K) m s (entering row k) le
-        (enters p row (m - 1) k s r ∙ ap (go p row (m - 1) s) (here (variable s row v)) ∙ found_stop p s (stopped_at row k) (m - 1) (omega arith)) (
+        (enters p row (m - 1) k s r ∙ ap (go p row (m - 1) s) (here (variable s row v)) ∙ found_stop p s (stopped_at row k) (m - 1) refl) (
           (
             R.values,
             subst (λ (j : ℕ). WordAt p s row (stopped_at row j) w') r.index W,

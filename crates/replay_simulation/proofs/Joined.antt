@@ -1,5 +1,7 @@
 -- A join on numbers is the machine's: the records find the thread that the machine finds.
-use Rattle.std.proofs.Common.{Option, None, Some, option_map, slice_get}
+use Rattle.std.proofs.Common.{Option, None, Some, Err, option_map, slice_get, cond}
+use Rattle.std.specs.List.{position_from}
+use Rattle.std.proofs.lemmas.Iterator.Adapters.{position_from-zero}
 use Prim.Native.Nat.{ℕ, suc, ◌+◌, ◌<◌, ◌≤◌}
 use mathlib.Core.Path.{◌≡◌, refl, sym, ◌∙◌, ap, subst}
 use mathlib.Core.Logic.{◌≢◌}
@@ -11,14 +13,11 @@ use borrow.Author.Tests.{lt-ltb, eq-eqb, ne_eqb}
 use lib.Dec.{eqb}
 use lib.ListN.{length, get_or, set, length-set}
 use lib.Seq.{get_or-set_same, get_or-set_other}
-use Rattle.spec.specs.Choice.{when◌then◌else◌}
 use Rattle.replay_theory.specs.declared.Status.{Status}
 use Rattle.replay_theory.specs.declared.Status.TheVariants.{Running, Joined}
 use Rattle.threads.specs.declared.Record.{Record}
-use Rattle.threads.specs.declared.Found.{Found}
-use Rattle.threads.specs.declared.Found.TheVariants.{At, Nothing}
 use Rattle.threads.specs.declared.Threads.{Threads}
-use Rattle.threads.specs.Records.{no_record, if_finished, matching, lowest_from, lowest as lowest_of}
+use Rattle.threads.specs.Records.{no_record, if_finished, matching, lowest as lowest_of}
 use Rattle.threads.specs.Threads.{turned, joined}
 use Rattle.spec.specs.Expression.{Position}
 use Rattle.calculus.specs.Expression.{name, join}
@@ -28,8 +27,8 @@ use Rattle.calculus.proofs.Laws.Places.{set_elsewhere, sets_swap}
 use Rattle.replay_control.specs.declared.ControlPoint.{ControlPoint}
 use Rattle.replay_control.specs.Control.{continuation, returning, ready_at}
 use Rattle.replay_step.specs.Words.{given}
-use Rattle.replay_engine.specs.declared.Outcome.TheVariants.{Stuck}
-use Rattle.replay_engine.specs.Steps.{ending, act_step, after_act, gives_zero, joined_by, joined_step}
+use Rattle.replay_step.specs.declared.words.Halt.TheVariants.{Stuck}
+use Rattle.replay_engine.specs.Steps.{act_step, after_act, gives_zero, joined_by, joined_step}
 use Rattle.replay_theory.specs.Replay.{check_limits}
 use Rattle.replay_machine.specs.Environment.{Env}
 use Rattle.replay_machine.specs.Control.{Frame, unary_word, Control, done, at, return}
@@ -70,37 +69,48 @@ record_joinable n th = go th.joined th.control
     go false (done v) = eqb_suc th.tid n ∙ and_true (eqb th.tid n)
     go false (at σ w K) = and_false (eqb th.tid n)
 
-abbrev pub found_at : (i : ℕ) → Option ℕ → Found
-found_at i None = Nothing
-found_at i (Some j) = At (i + j)
-
 pub record Alike (rs : List Record) (ts : List MachineThread) : Type 0 where
   pub same : (m : ℕ) (th : MachineThread) → slice_get ts m ≡ Some th → get_or rs m no_record ≡ record_of th
   pub behind : (m : ℕ) → length ts ≤ m → m < length rs → (get_or rs m no_record).state ≡ Running
   pub fits : length ts ≤ length rs
 
-shifted : (i : ℕ) (o : Option ℕ) → found_at (suc i) o ≡ found_at i (option_map suc o)
-shifted i None = refl
-shifted i (Some j) = ap At (let e : suc i + j ≡ i + suc j = omega arith in e)
+-- the place that the machine finds, in records of which the first has the place i
+abbrev from_place : (i : ℕ) → Option ℕ → Option ℕ
+from_place i o = option_map (λ (j : ℕ). i + j) o
 
-pub lowest_alike : (n : ℕ) (rs : List Record) (ts : List MachineThread) (i : ℕ) → Alike rs ts → lowest_from i rs (suc n) ≡ found_at i (lowest n ts)
-unfolding lowest_from lowest matching if_finished
-lowest_alike n [] [] i A = refl
-lowest_alike n [] (th ∷ ts) i A = let l = A.fits in absurd (omega arith)
-lowest_alike n (r ∷ rs) [] i A =
-    ap (λ (st : Status). when if_finished st (eqb r.tid (suc n)) then At i else lowest_from (suc i) rs (suc n)) (A.behind 0 (omega arith) (omega arith))
-    ∙ lowest_alike n rs [] (suc i) (record { same = λ m th h. none_is_not_some h; behind = λ m l h. A.behind (suc m) (omega arith) (omega (arith, h)); fits = omega arith })
-lowest_alike n (r ∷ rs) (th ∷ ts) i A =
-    ap (λ (b : Bool). when b then At i else lowest_from (suc i) rs (suc n)) (ap (λ (x : Record). matching x (suc n)) (A.same 0 th refl) ∙ record_joinable n th)
-    ∙ by_test (joinable n th) (lowest_alike n rs ts (suc i) (record {
+shifted : (i : ℕ) (o : Option ℕ) → from_place (i + 1) o ≡ from_place i (option_map suc o)
+shifted i None = refl
+shifted i (Some j) = ap Some (let e : i + 1 + j ≡ i + suc j = omega arith in e)
+
+lowest_from : (n : ℕ) (rs : List Record) (ts : List MachineThread) (i : ℕ) → Alike rs ts → position_from (λ r. matching r (suc n)) i rs ≡ from_place i (lowest n ts)
+unfolding lowest matching if_finished
+lowest_from n [] [] i A = refl
+lowest_from n [] (th ∷ ts) i A = let l = A.fits in absurd (omega arith)
+lowest_from n (r ∷ rs) [] i A =
+    ap (λ (st : Status). cond (if_finished st (eqb r.tid (suc n))) (Some i) (position_from (λ r. matching r (suc n)) (i + 1) rs)) (A.behind 0 (omega arith) (omega arith))
+    ∙ lowest_from n rs [] (i + 1) (record { same = λ m th h. none_is_not_some h; behind = λ m l h. A.behind (suc m) (omega arith) (omega (arith, h)); fits = omega arith })
+lowest_from n (r ∷ rs) (th ∷ ts) i A =
+    ap (λ (b : Bool). cond b (Some i) (position_from (λ r. matching r (suc n)) (i + 1) rs)) (ap (λ (x : Record). matching x (suc n)) (A.same 0 th refl) ∙ record_joinable n th)
+    ∙ by_test (joinable n th) (lowest_from n rs ts (i + 1) (record {
       same = λ m u h. A.same (suc m) u h;
       behind = λ m l h. A.behind (suc m) (omega (arith, l)) (omega (arith, h));
       fits = let l = A.fits in omega arith;
     }))
   where
-    by_test : (b : Bool) → lowest_from (suc i) rs (suc n) ≡ found_at (suc i) (lowest n ts) → (when b then At i else lowest_from (suc i) rs (suc n)) ≡ found_at i (first_or b (lowest n ts))
-    by_test true e = ap At (let z : i ≡ i + 0 = omega arith in z)
+    after : Option ℕ
+    after = position_from (λ r. matching r (suc n)) (i + 1) rs
+
+    by_test : (b : Bool) → after ≡ from_place (i + 1) (lowest n ts) → cond b (Some i) after ≡ from_place i (first_or b (lowest n ts))
+    by_test true e = ap Some (let z : i ≡ i + 0 = omega arith in z)
     by_test false e = e ∙ shifted i (lowest n ts)
+
+all_places : (o : Option ℕ) → from_place 0 o ≡ o
+all_places None = refl
+all_places (Some j) = ap Some (let z : 0 + j ≡ j = omega arith in z)
+
+pub lowest_alike : (n : ℕ) (rs : List Record) (ts : List MachineThread) → Alike rs ts → lowest_of rs (suc n) ≡ lowest n ts
+unfolding lowest_of
+lowest_alike n rs ts A = position_from-zero (λ r. matching r (suc n)) rs ∙ lowest_from n rs ts 0 A ∙ all_places (lowest n ts)
 
 -- ------------------------------------------------------------------ a thread is joined
 
@@ -195,17 +205,16 @@ module _ {p s : List ℕ} {T : Threads} {R : Replay} {t row tid : ℕ} {σ : Env
         (sym (sets_swap M.threads t j (running tid (return σ zero_value K)) (as_joined u) apart))
         (moves paused word (returning row (continuation p q.index) 0) (return σ zero_value K) (returns_word (ready A q.index (omega arith)) zero_value))
 
-  stuck : Answered p (check_limits within None) (ending Stuck T, s)
+  stuck : Answered p (check_limits within None) (Err Stuck, s)
   unfolding check_limits
   stuck = refl
 
   pub joining_goes : Answered p (check_limits within (Joins (lowest n M.threads) >>= λ N. Some (record { machine = N; things = R.things }))) (joined_step p s T t word (suc n))
-  unfolding joined_step joined_by lowest_of
+  unfolding joined_step joined_by
   joining_goes = by_found (lowest n M.threads) refl
     where
       by_found : (o : Option ℕ) → lowest n M.threads ≡ o → Answered p (check_limits within (Joins o >>= λ N. Some (record { machine = N; things = R.things }))) (joined_step p s T t word (suc n))
-      by_found None e = rw (lowest_alike n T.records M.threads 0 (records_alike A.holds), e) stuck
+      by_found None e = rw (lowest_alike n T.records M.threads (records_alike A.holds), e) stuck
       by_found (Some j) e =
           let L = lowest_found n M.threads j e in
-          let z : 0 + j ≡ j = omega arith in
-          rw (lowest_alike n T.records M.threads 0 (records_alike A.holds), e, L.there, z) (joins_one j L)
+          rw (lowest_alike n T.records M.threads (records_alike A.holds), e, L.there) (joins_one j L)

@@ -1,5 +1,5 @@
 -- The words that make a new thing, on numbers, are the machine's; past 64 of a kind they answer that a limit is passed.
-use Rattle.std.proofs.Common.{Some}
+use Rattle.std.proofs.Common.{Some, Result, Ok}
 use Prim.Native.Nat.{ℕ, suc, ◌+◌, ◌<◌, ◌≤◌}
 use mathlib.Core.Path.{◌≡◌, refl, sym, ◌∙◌, ap, subst}
 use mathlib.Core.Logic.{◌≢◌}
@@ -29,7 +29,8 @@ use Rattle.replay_control.specs.Control.{continuation, returning, stopped_at, re
 use Rattle.replay_objects.specs.declared.Slot.{Slot}
 use Rattle.replay_control.specs.declared.ControlPoint.{ControlPoint}
 use Rattle.replay_step.specs.declared.words.Act.{Act}
-use Rattle.replay_step.specs.declared.words.Act.TheVariants as act
+use Rattle.replay_step.specs.declared.words.Act.TheVariants.{Go}
+use Rattle.replay_step.specs.declared.words.Halt.{Halt}
 use Rattle.replay_objects.specs.Uses.{slot, made_of, effect_of}
 use Rattle.replay_step.specs.Slots.{slot_at, slot_put}
 use Rattle.replay_step.specs.Words.{given, with_thing, new_thing, subject, operand, effected, word_used, acted_by, acted}
@@ -193,7 +194,7 @@ module _ {p s : List ℕ} {T : Threads} {R : Replay} {t row tid : ℕ} {σ : Env
   abbrev Created : Replay
   Created = record { machine = creates M t tid σ K new; things = things_after (makes k) R.things }
 
-  abbrev Makes : Act × List ℕ → Type 0
+  abbrev Makes : Result Act Halt × List ℕ → Type 0
   Makes a = Answered p (check_limits within (Some Created)) (after_act p T t f a)
 
   counted_here : get_or s (thing_counts_at + x.kind) 0 ≡ R.things k
@@ -212,10 +213,10 @@ module _ {p s : List ℕ} {T : Threads} {R : Replay} {t row tid : ℕ} {σ : Env
       after : List ℕ
       after = s₃ N long O room
 
-      made_here : new_thing p s row (place_of p s w) x ≡ (act.Go (returning row (continuation p (place_of p s w)) (suc M.next)), after)
+      made_here : new_thing p s row (place_of p s w) x ≡ (Ok (Go (returning row (continuation p (place_of p s w)) (suc M.next))), after)
       made_here =
           rw (counted_here, N.next_stored, lt-leb 64 (R.things k) room, lt-leb 322 (suc M.next) (next_low N long O room))
-          (ap (λ (z : List ℕ). (act.Go (returning row (continuation p (place_of p s w)) (suc M.next)), z)) (thing_added N long O room))
+          (ap (λ (z : List ℕ). (Ok (Go (returning row (continuation p (place_of p s w)) (suc M.next))), z)) (thing_added N long O room))
 
   makes_none : 64 ≤ R.things k → Makes (new_thing p s row (place_of p s w) x)
   unfolding check_limits within new_thing after_act act_step

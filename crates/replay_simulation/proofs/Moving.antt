@@ -1,5 +1,5 @@
 -- What a step on numbers has to answer for a step of the machine; and that a thread which goes on to a word answers it.
-use Rattle.std.proofs.Common.{Some, slice_get}
+use Rattle.std.proofs.Common.{Some, Result, Ok, Err, slice_get}
 use Prim.Native.Nat.{ℕ, zero, suc, ◌+◌, ◌*◌, ◌<◌, ◌≤◌}
 use mathlib.Core.Path.{◌≡◌, refl, sym, ◌∙◌, ap, subst}
 use mathlib.Core.Bool.{Bool, true, false, ◌&&◌}
@@ -11,12 +11,12 @@ use lib.Dec.{leb}
 use lib.ListN.{length, get_or, set}
 use Rattle.calculus.proofs.Laws.Maps.{none_is_not_some, some_injective}
 use Rattle.threads.specs.declared.Threads.{Threads}
-use Rattle.replay_engine.specs.declared.Outcome.TheVariants.{Moved, Stuck, Past}
-use Rattle.replay_engine.specs.declared.Stepped.{Stepped}
 use Rattle.replay_control.specs.Layout.{control_point_rows_at}
 use Rattle.replay_control.specs.declared.ControlPoint.{ControlPoint}
 use Rattle.replay_control.specs.Control.{found}
-use Rattle.replay_step.specs.declared.words.Act.TheVariants as act
+use Rattle.replay_step.specs.declared.words.Act.TheVariants.{Go}
+use Rattle.replay_step.specs.declared.words.Halt.{Halt}
+use Rattle.replay_step.specs.declared.words.Halt.TheVariants.{Stuck, Past}
 use Rattle.replay_engine.specs.ControlPoints.{control_point_at, settled, went_on}
 use Rattle.replay_engine.specs.Steps.{recorded, proceeded, outcome_of, moved_to, act_step, after_act}
 use Rattle.replay_theory.specs.Run.{ObjectKind, cells, locks, rwlocks, semaphores, identifiers, thread_limit, thing_limit, within_limits, call_limit}
@@ -33,11 +33,11 @@ use Rattle.replay_simulation.proofs.Proceeding.{Paused, low, gone_to, proceeds}
 -- ------------------------------------------------------------------ what a step on numbers answers
 
 -- a line's step on the machine, and what the code hands back for it
-abbrev pub Answered : (p : List ℕ) → Outcome Replay → Stepped × List ℕ → Type 0
+abbrev pub Answered : (p : List ℕ) → Outcome Replay → Result Threads Halt × List ℕ → Type 0
 Answered p bad_form r = ⊥
-Answered p no_step r = r.0.outcome ≡ Stuck
-Answered p past_limit r = r.0.outcome ≡ Past
-Answered p (step R) r = (r.0.outcome ≡ Moved) × Holds p r.1 r.0.threads R
+Answered p no_step r = r.0 ≡ Err Stuck
+Answered p past_limit r = r.0 ≡ Err Past
+Answered p (step R) r = (T : Threads) × (r.0 ≡ Ok T) × Holds p r.1 T R
 
 -- the limits are kept while they hold
 pub within_limits_lem : (n : ℕ) (things : ObjectKind → ℕ) → n ≤ 16 → ((k : ObjectKind) → things k ≤ 64) → within_limits n things ≡ true
@@ -110,14 +110,14 @@ module _ {p s : List ℕ} {T : Threads} {R : Replay} {t tid : ℕ} (P : Paused p
       ap (λ (h : ControlPoint). h.row) (control_point_here after t found_at (F.1.long ∙ P.long) (low P)) ∙ row_tells p after t found_at d F.0
 
   abbrev Goes : Type 0
-  Goes = Answered p (check_limits within (Some (gone_to R t tid d))) (after_act p T t f (act.Go g, s))
+  Goes = Answered p (check_limits within (Some (gone_to R t tid d))) (after_act p T t f (Ok (Go g), s))
 
   go_holds : open_calls d ≤ 64 → Goes
   unfolding check_limits after_act act_step moved_to outcome_of
   go_holds few =
       let H = proceeds P g d few F in
       let e = row_after in
-      rw (within_held p (gone_to R t tid d) H, le-ltb (66 * t + 64) (get_or (proceeded p s T t g).1 (control_point_rows_at + t) 0) (omega (arith, e, few))) (refl, H)
+      rw (within_held p (gone_to R t tid d) H, le-ltb (66 * t + 64) (get_or (proceeded p s T t g).1 (control_point_rows_at + t) 0) (omega (arith, e, few))) ((proceeded p s T t g).0, refl, H)
 
   go_fails : 64 < open_calls d → Goes
   unfolding check_limits after_act act_step moved_to outcome_of

@@ -1,5 +1,5 @@
 -- The lowest pair that the numbers show is the machine's.
-use Rattle.std.proofs.Common.{Option, None as none, Some as some, slice_get}
+use Rattle.std.proofs.Common.{Option, None, Some, slice_get}
 use Prim.Native.Nat.{ℕ, zero, suc, ◌+◌, ◌-◌}
 use mathlib.Core.Path.{◌≡◌, refl, sym, ◌∙◌, ap, subst}
 use mathlib.Core.Bool.{Bool, true, false, ◌||◌}
@@ -27,11 +27,7 @@ use Rattle.replay_control.specs.declared.ControlPoint.{ControlPoint}
 use Rattle.replay_control.specs.Control.{kept, ready_at}
 use Rattle.replay_objects.specs.declared.Slot.{Slot}
 use Rattle.replay_engine.specs.declared.races.Access.{Access}
-use Rattle.replay_engine.specs.declared.races.Access.TheVariants.{None, Read, Write}
-use Rattle.replay_engine.specs.declared.races.Partner.{Partner}
-use Rattle.replay_engine.specs.declared.races.Partner.TheVariants as partner
-use Rattle.replay_engine.specs.declared.races.Pair.{Pair}
-use Rattle.replay_engine.specs.declared.races.Pair.TheVariants as pair
+use Rattle.replay_engine.specs.declared.races.Access.TheVariants.{Read, Write}
 use Rattle.replay_step.specs.Slots.{slot_at}
 use Rattle.replay_engine.specs.ControlPoints.{control_point_at}
 use Rattle.replay_engine.specs.Races.{names_cell, access_by, access_at, access_of, reads, writes, clash, partner_of, partner_from, pair_with, pair_of, lowest_pair}
@@ -52,12 +48,12 @@ use Rattle.replay_simulation.proofs.Naming.{slot_decodes}
 -- ------------------------------------------------------------------ two threads
 
 -- what a thread is about to use, as the numbers show it
-abbrev pub AccessIs : Access → Uses → Type 0
-AccessIs None u = (u.reading ≡ none) × (u.writing ≡ none)
-AccessIs (Read zero) u = ⊥
-AccessIs (Read (suc n)) u = (u.reading ≡ some n) × (u.writing ≡ none)
-AccessIs (Write zero) u = ⊥
-AccessIs (Write (suc n)) u = (u.reading ≡ none) × (u.writing ≡ some n)
+abbrev pub AccessIs : Option Access → Uses → Type 0
+AccessIs None u = (u.reading ≡ None) × (u.writing ≡ None)
+AccessIs (Some (Read zero)) u = ⊥
+AccessIs (Some (Read (suc n))) u = (u.reading ≡ Some n) × (u.writing ≡ None)
+AccessIs (Some (Write zero)) u = ⊥
+AccessIs (Some (Write (suc n))) u = (u.reading ≡ None) × (u.writing ≡ Some n)
 
 eqb_swap : (m n : ℕ) → eqb (suc m) (suc n) ≡ eqb n m
 eqb_swap m n = go (ℕ_discrete m n)
@@ -81,41 +77,33 @@ uses_both r w = record { reading = r; writing = w }
 told : {x y : Uses} {r w r' w' : Option ℕ} → (x.reading ≡ r) × (x.writing ≡ w) → (y.reading ≡ r') × (y.writing ≡ w') → uses.clash (uses_both r w) (uses_both r' w') ≡ uses.clash x y
 told (a, b) (c, d) = sym (λ i. uses.clash (uses_both (a i) (b i)) (uses_both (c i) (d i)))
 
-clash_alike : (a b : Access) (x y : Uses) → AccessIs a x → AccessIs b y → clash a b ≡ uses.clash x y
+clash_alike : (a b : Option Access) (x y : Uses) → AccessIs a x → AccessIs b y → clash a b ≡ uses.clash x y
 unfolding clash reads writes uses.clash same_cell
 clash_alike None None x y h k = told h k
-clash_alike None (Read (suc m)) x y h k = told h k
-clash_alike None (Write (suc m)) x y h k = told h k
-clash_alike (Read (suc n)) None x y h k = told h k
-clash_alike (Read (suc n)) (Read (suc m)) x y h k = told h k
-clash_alike (Read (suc n)) (Write (suc m)) x y h k = eqb_swap m n ∙ told h k
-clash_alike (Write (suc n)) None x y h k = told h k
-clash_alike (Write (suc n)) (Read (suc m)) x y h k = eqb_swap m n ∙ or_none_lem (eqb n m) ∙ told h k
-clash_alike (Write (suc n)) (Write (suc m)) x y h k = ap (λ (b : Bool). when b then true else false) (eqb_swap m n) ∙ or_last (eqb n m) ∙ told h k
-clash_alike None (Read zero) x y h k = elim k [ ]
-clash_alike None (Write zero) x y h k = elim k [ ]
-clash_alike (Read zero) b x y h k = elim h [ ]
-clash_alike (Read (suc n)) (Read zero) x y h k = elim k [ ]
-clash_alike (Read (suc n)) (Write zero) x y h k = elim k [ ]
-clash_alike (Write zero) b x y h k = elim h [ ]
-clash_alike (Write (suc n)) (Read zero) x y h k = elim k [ ]
-clash_alike (Write (suc n)) (Write zero) x y h k = elim k [ ]
+clash_alike None (Some (Read (suc m))) x y h k = told h k
+clash_alike None (Some (Write (suc m))) x y h k = told h k
+clash_alike (Some (Read (suc n))) None x y h k = told h k
+clash_alike (Some (Read (suc n))) (Some (Read (suc m))) x y h k = told h k
+clash_alike (Some (Read (suc n))) (Some (Write (suc m))) x y h k = eqb_swap m n ∙ told h k
+clash_alike (Some (Write (suc n))) None x y h k = told h k
+clash_alike (Some (Write (suc n))) (Some (Read (suc m))) x y h k = eqb_swap m n ∙ or_none_lem (eqb n m) ∙ told h k
+clash_alike (Some (Write (suc n))) (Some (Write (suc m))) x y h k = ap (λ (b : Bool). when b then true else false) (eqb_swap m n) ∙ or_last (eqb n m) ∙ told h k
+clash_alike None (Some (Read zero)) x y h k = elim k [ ]
+clash_alike None (Some (Write zero)) x y h k = elim k [ ]
+clash_alike (Some (Read zero)) b x y h k = elim h [ ]
+clash_alike (Some (Read (suc n))) (Some (Read zero)) x y h k = elim k [ ]
+clash_alike (Some (Read (suc n))) (Some (Write zero)) x y h k = elim k [ ]
+clash_alike (Some (Write zero)) b x y h k = elim h [ ]
+clash_alike (Some (Write (suc n))) (Some (Read zero)) x y h k = elim k [ ]
+clash_alike (Some (Write (suc n))) (Some (Write zero)) x y h k = elim k [ ]
 
 -- ------------------------------------------------------------------ all threads
 
-clash_none : (a : Access) → clash a None ≡ false
+clash_none : (a : Option Access) → clash a None ≡ false
 unfolding clash reads writes
 clash_none None = refl
-clash_none (Read v) = refl
-clash_none (Write v) = refl
-
-abbrev pub partner_decoded : Partner → Option ℕ
-partner_decoded partner.None = none
-partner_decoded (partner.Is j) = some j
-
-abbrev pub pair_decoded : Pair → Option (ℕ × ℕ)
-pair_decoded pair.None = none
-pair_decoded (pair.Of i j) = some (i, j)
+clash_none (Some (Read v)) = refl
+clash_none (Some (Write v)) = refl
 
 module _ (p s : List ℕ) (uses_at : ℕ → MachineThread → ℕ × Uses) (numbered : (i : ℕ) (th : MachineThread) → (uses_at i th).0 ≡ i) where
   -- what the numbers show of a thread: nothing of a joined one
@@ -123,7 +111,7 @@ module _ (p s : List ℕ) (uses_at : ℕ → MachineThread → ℕ × Uses) (num
   Shown i th = (th.joined ≡ true → access_of p s i ≡ None) × (th.joined ≡ false → AccessIs (access_of p s i) (uses_at i th).1)
 
   abbrev AllShown : (i : ℕ) → List MachineThread → Type 0
-  AllShown i ts = (m : ℕ) (th : MachineThread) → slice_get ts m ≡ some th → Shown (i + m) th
+  AllShown i ts = (m : ℕ) (th : MachineThread) → slice_get ts m ≡ Some th → Shown (i + m) th
 
   later_shown : (i : ℕ) (th : MachineThread) (ts : List MachineThread) → AllShown i (th ∷ ts) → AllShown (i + 1) ts
   later_shown i th ts all m u h = subst (λ (j : ℕ). Shown j u) (let e : i + suc m ≡ i + 1 + m = omega arith in e) (all (suc m) u h)
@@ -134,28 +122,28 @@ module _ (p s : List ℕ) (uses_at : ℕ → MachineThread → ℕ × Uses) (num
   next_live : (i : ℕ) (ts : List MachineThread) → of_live uses_at (i + 1) ts ≡ of_live uses_at (suc i) ts
   next_live i ts = ap (λ (j : ℕ). of_live uses_at j ts) (let e : i + 1 ≡ suc i = omega arith in e)
 
-  partner_alike : (a : Access) (u : Uses) → AccessIs a u → (ts : List MachineThread) (i : ℕ) → AllShown i ts → partner_decoded (partner_of p s a i (length ts)) ≡ clashing u (of_live uses_at i ts)
+  partner_alike : (a : Option Access) (u : Uses) → AccessIs a u → (ts : List MachineThread) (i : ℕ) → AllShown i ts → (partner_of p s a i (length ts)) ≡ clashing u (of_live uses_at i ts)
   unfolding partner_of clashing
   partner_alike a u is [] i all = refl
   partner_alike a u is (th ∷ ts) i all =
       by_record th.joined refl (partner_alike a u is ts (i + 1) (later_shown i th ts all) ∙ ap (clashing u) (next_live i ts))
     where
-      by_record : (j : Bool) → th.joined ≡ j → partner_decoded (partner_of p s a (i + 1) (length ts)) ≡ clashing u (of_live uses_at (suc i) ts) →
-          partner_decoded (when clash a (access_of p s i) then partner.Is i else partner_of p s a (i + 1) (length ts)) ≡ clashing u (unless j (λ l. uses_at i th ∷ l) (of_live uses_at (suc i) ts))
+      by_record : (j : Bool) → th.joined ≡ j → (partner_of p s a (i + 1) (length ts)) ≡ clashing u (of_live uses_at (suc i) ts) →
+          (when clash a (access_of p s i) then Some i else partner_of p s a (i + 1) (length ts)) ≡ clashing u (unless j (λ l. uses_at i th ∷ l) (of_live uses_at (suc i) ts))
       by_record true e rest = rw ((first_shown i th ts all).0 e, clash_none a) rest
       by_record false e rest = rw (clash_alike a (access_of p s i) u (uses_at i th).1 is ((first_shown i th ts all).1 e)) (by_clash (uses.clash u (uses_at i th).1))
         where
-          by_clash : (b : Bool) → partner_decoded (when b then partner.Is i else partner_of p s a (i + 1) (length ts)) ≡ (when b then some (uses_at i th).0 else clashing u (of_live uses_at (suc i) ts))
-          by_clash true = ap some (sym (numbered i th))
+          by_clash : (b : Bool) → (when b then Some i else partner_of p s a (i + 1) (length ts)) ≡ (when b then Some (uses_at i th).0 else clashing u (of_live uses_at (suc i) ts))
+          by_clash true = ap Some (sym (numbered i th))
           by_clash false = rest
 
   -- a thread that shows nothing has no partner
-  none_alone : (n j : ℕ) → partner_of p s None j n ≡ partner.None
+  none_alone : (n j : ℕ) → partner_of p s None j n ≡ None
   unfolding partner_of clash
   none_alone zero j = refl
   none_alone (suc n) j = none_alone n (j + 1)
 
-  pairs_alike : (ts : List MachineThread) (i : ℕ) → AllShown i ts → (count : ℕ) → count ≡ i + length ts → pair_decoded (pair_of p s count i (length ts)) ≡ lowest_among (of_live uses_at i ts)
+  pairs_alike : (ts : List MachineThread) (i : ℕ) → AllShown i ts → (count : ℕ) → count ≡ i + length ts → (pair_of p s count i (length ts)) ≡ lowest_among (of_live uses_at i ts)
   unfolding pair_of lowest_among partner_from pair_with pair_or
   pairs_alike [] i all count e = refl
   pairs_alike (th ∷ ts) i all count e =
@@ -164,20 +152,20 @@ module _ (p s : List ℕ) (uses_at : ℕ → MachineThread → ℕ × Uses) (num
       left : count - (i + 1) ≡ length ts
       left = omega (arith, e)
 
-      with_partner : (a : Partner) (later : Pair) (o : Option (ℕ × ℕ)) → pair_decoded later ≡ o → pair_decoded (pair_with i a later) ≡ pair_or i (partner_decoded a) o
-      with_partner partner.None later o h = h
-      with_partner (partner.Is j) later o h = refl
+      with_partner : (a : Option ℕ) (later o : Option (ℕ × ℕ)) → later ≡ o → pair_with i a later ≡ pair_or i (a) o
+      with_partner None later o h = h
+      with_partner (Some j) later o h = refl
 
-      by_record : (j : Bool) → th.joined ≡ j → pair_decoded (pair_of p s count (i + 1) (length ts)) ≡ lowest_among (of_live uses_at (suc i) ts) →
-          pair_decoded (pair_with i (partner_of p s (access_of p s i) (i + 1) (count - (i + 1))) (pair_of p s count (i + 1) (length ts))) ≡ lowest_among (unless j (λ l. uses_at i th ∷ l) (of_live uses_at (suc i) ts))
+      by_record : (j : Bool) → th.joined ≡ j → (pair_of p s count (i + 1) (length ts)) ≡ lowest_among (of_live uses_at (suc i) ts) →
+          (pair_with i (partner_of p s (access_of p s i) (i + 1) (count - (i + 1))) (pair_of p s count (i + 1) (length ts))) ≡ lowest_among (unless j (λ l. uses_at i th ∷ l) (of_live uses_at (suc i) ts))
       by_record true f rest = rw ((first_shown i th ts all).0 f, none_alone (count - (i + 1)) (i + 1)) rest
       by_record false f rest =
           with_partner (partner_of p s (access_of p s i) (i + 1) (count - (i + 1))) (pair_of p s count (i + 1) (length ts)) (lowest_among (of_live uses_at (suc i) ts)) rest
           ∙ (λ z. pair_or (sym (numbered i th) z) (partnered z) (lowest_among (of_live uses_at (suc i) ts)))
         where
-          partnered : partner_decoded (partner_of p s (access_of p s i) (i + 1) (count - (i + 1))) ≡ clashing (uses_at i th).1 (of_live uses_at (suc i) ts)
+          partnered : (partner_of p s (access_of p s i) (i + 1) (count - (i + 1))) ≡ clashing (uses_at i th).1 (of_live uses_at (suc i) ts)
           partnered =
-              ap (λ (n : ℕ). partner_decoded (partner_of p s (access_of p s i) (i + 1) n)) left
+              ap (λ (n : ℕ). (partner_of p s (access_of p s i) (i + 1) n)) left
               ∙ partner_alike (access_of p s i) (uses_at i th).1 ((first_shown i th ts all).1 f) ts (i + 1) (later_shown i th ts all)
               ∙ ap (clashing (uses_at i th).1) (next_live i ts)
 
@@ -185,10 +173,10 @@ module _ (p s : List ℕ) (uses_at : ℕ → MachineThread → ℕ × Uses) (num
 
 -- the cell that a value names is shown as the access f to it
 abbrev CellShown : Slot → (ℕ → Access) → (n : ℕ) → Uses → Type 0
-CellShown x f n u = AccessIs (when eqb x.kind 2 then f (suc n) else None) u
+CellShown x f n u = AccessIs (when eqb x.kind 2 then Some (f (suc n)) else None) u
 
 module _ (n : ℕ) (x : Slot) where
-  reads_cell : (sl : state.Slot) → SlotIs x sl → CellShown x Read n (uses_both (cell_value sl >> some n) none)
+  reads_cell : (sl : state.Slot) → SlotIs x sl → CellShown x Read n (uses_both (cell_value sl >> Some n) None)
   reads_cell unused h = rw h (refl, refl)
   reads_cell identifier h = rw h (refl, refl)
   reads_cell (cell v) h = rw h.0 (refl, refl)
@@ -198,7 +186,7 @@ module _ (n : ℕ) (x : Slot) where
   reads_cell (rwlock N (readers k)) h = rw h.0 (refl, refl)
   reads_cell (rwlock N writer) h = rw h.0 (refl, refl)
 
-  writes_cell : (sl : state.Slot) → SlotIs x sl → CellShown x Write n (uses_both none (cell_value sl >> some n))
+  writes_cell : (sl : state.Slot) → SlotIs x sl → CellShown x Write n (uses_both None (cell_value sl >> Some n))
   writes_cell unused h = rw h (refl, refl)
   writes_cell identifier h = rw h (refl, refl)
   writes_cell (cell v) h = rw h.0 (refl, refl)
@@ -225,35 +213,35 @@ module _ (p s : List ℕ) (row : ℕ) {q : Position} {w : Word} {n : ℕ} (r : R
 module _ (p s : List ℕ) (row : ℕ) (names : ℕ → state.Slot) (slot_of : (n : ℕ) → SlotIs (slot_at s (suc n)) (names n)) (constant : (slot_at s 0).kind ≡ 0) where
   -- the thread shows what its word is about to use
   abbrev ShowsUse : ControlPoint → Redex → Type 0
-  ShowsUse f w = AccessIs (access_at p s f) (uses_of names (some w))
+  ShowsUse f w = AccessIs (access_at p s f) (uses_of names (Some w))
 
-  silent : (f : ControlPoint) (u : Uses) → access_at p s f ≡ None → (u.reading ≡ none) × (u.writing ≡ none) → AccessIs (access_at p s f) u
-  silent f u e h = subst (λ (a : Access). AccessIs a u) (sym e) h
+  silent : (f : ControlPoint) (u : Uses) → access_at p s f ≡ None → (u.reading ≡ None) × (u.writing ≡ None) → AccessIs (access_at p s f) u
+  silent f u e h = subst (λ (a : Option Access). AccessIs a u) (sym e) h
 
   read_shows : (σ : _) (q : Position) (v : Value) {n : ℕ} → RowOf p q (Unary (part_word read)) n → ShowsUse (ready_at row q.index (code_value v)) (redex σ (machine.unary_word q read v))
   unfolding unary_traits traits uses_of if_cell access_by names_cell rule_of printed
   read_shows σ q v r =
-      subst (λ (a : Access). AccessIs a (uses_of names (some (redex σ (machine.unary_word q read v))))) (sym (ready_access p s row r (code_value v))) (by_value v)
+      subst (λ (a : Option Access). AccessIs a (uses_of names (Some (redex σ (machine.unary_word q read v))))) (sym (ready_access p s row r (code_value v))) (by_value v)
     where
-      by_value : (v : Value) → AccessIs (access_by Reads s (ready_at row q.index (code_value v))) (uses_of names (some (redex σ (machine.unary_word q read v))))
+      by_value : (v : Value) → AccessIs (access_by Reads s (ready_at row q.index (code_value v))) (uses_of names (Some (redex σ (machine.unary_word q read v))))
       by_value (int k) = rw constant (refl, refl)
       by_value (name m) = reads_cell m (slot_at s (suc m)) (names m) (slot_of m)
 
   write_shows : (σ : _) (q : Position) (v w : Value) {n : ℕ} → RowOf p q (Binary WriteWord) n → kept s row q.index ≡ code_value v → ShowsUse (ready_at row q.index (code_value w)) (redex σ (machine.write_word q v w))
   unfolding traits uses_of if_cell access_by names_cell rule_of printed
   write_shows σ q v w r held =
-      subst (λ (a : Access). AccessIs a (uses_of names (some (redex σ (machine.write_word q v w))))) (sym (ready_access p s row r (code_value w))) (rw held (by_value v))
+      subst (λ (a : Option Access). AccessIs a (uses_of names (Some (redex σ (machine.write_word q v w))))) (sym (ready_access p s row r (code_value w))) (rw held (by_value v))
     where
-      by_value : (v : Value) → AccessIs (when names_cell s (code_value v) then Write (code_value v) else None) (uses_of names (some (redex σ (machine.write_word q v w))))
+      by_value : (v : Value) → AccessIs (when names_cell s (code_value v) then Some (Write (code_value v)) else None) (uses_of names (Some (redex σ (machine.write_word q v w))))
       by_value (int k) = rw constant (refl, refl)
       by_value (name m) = writes_cell m (slot_at s (suc m)) (names m) (slot_of m)
 
   -- any other word with one part
-  part_silent : (σ : _) (q : Position) (o : calculus.Unary) (v : Value) {n : ℕ} → RowOf p q (Unary (part_word o)) n → touched (Unary (part_word o)) ≡ Nothing → ((x : Value) → (unary_traits o x).reading ≡ none) →
+  part_silent : (σ : _) (q : Position) (o : calculus.Unary) (v : Value) {n : ℕ} → RowOf p q (Unary (part_word o)) n → touched (Unary (part_word o)) ≡ Nothing → ((x : Value) → (unary_traits o x).reading ≡ None) →
       ShowsUse (ready_at row q.index (code_value v)) (redex σ (machine.unary_word q o v))
   unfolding traits uses_of if_cell
   part_silent σ q o v r no_touch no_read =
-      silent (ready_at row q.index (code_value v)) (uses_of names (some (redex σ (machine.unary_word q o v)))) (quiet p s row r (code_value v) no_touch)
+      silent (ready_at row q.index (code_value v)) (uses_of names (Some (redex σ (machine.unary_word q o v)))) (quiet p s row r (code_value v) no_touch)
       (ap (if_cell names) (no_read v), ap (if_cell names) (unary_plain o v).1)
 
   part_shows : (σ : _) (q : Position) (o : calculus.Unary) (v : Value) {n : ℕ} → RowOf p q (Unary (part_word o)) n → ShowsUse (ready_at row q.index (code_value v)) (redex σ (machine.unary_word q o v))
@@ -273,15 +261,15 @@ module _ (p s : List ℕ) (row : ℕ) (names : ℕ → state.Slot) (slot_of : (n
 
   word_shows : (σ : _) (w : machine.Word) (f : ControlPoint) → WordAt p s row f w → ShowsUse f (redex σ w)
   unfolding traits uses_of if_cell access_at rule_of printed
-  word_shows σ (machine.let_word q x v e) f (z, r, S) = subst (λ (g : ControlPoint). ShowsUse g (redex σ (machine.let_word q x v e))) (sym z) (silent (ready_at row q.index (code_value v)) (uses_both none none) (quiet p s row r (code_value v) refl) (refl, refl))
+  word_shows σ (machine.let_word q x v e) f (z, r, S) = subst (λ (g : ControlPoint). ShowsUse g (redex σ (machine.let_word q x v e))) (sym z) (silent (ready_at row q.index (code_value v)) (uses_both None None) (quiet p s row r (code_value v) refl) (refl, refl))
   word_shows σ (machine.if_word q e₁ e₂) f (z, n, r, S₁, S₂) = subst (λ (g : ControlPoint). ShowsUse g (redex σ (machine.if_word q e₁ e₂))) (sym z) (refl, refl)
   word_shows σ (machine.while_word q e) f (z, n, r, S) = subst (λ (g : ControlPoint). ShowsUse g (redex σ (machine.while_word q e))) (sym z) (refl, refl)
-  word_shows σ (machine.spawn_word q v e) f (z, n, r, S) = subst (λ (g : ControlPoint). ShowsUse g (redex σ (machine.spawn_word q v e))) (sym z) (silent (ready_at row q.index (code_value v)) (uses_both none none) (quiet p s row r (code_value v) refl) (refl, refl))
+  word_shows σ (machine.spawn_word q v e) f (z, n, r, S) = subst (λ (g : ControlPoint). ShowsUse g (redex σ (machine.spawn_word q v e))) (sym z) (silent (ready_at row q.index (code_value v)) (uses_both None None) (quiet p s row r (code_value v) refl) (refl, refl))
   word_shows σ (machine.write_word q v w) f (z, n, r, held) = subst (λ (g : ControlPoint). ShowsUse g (redex σ (machine.write_word q v w))) (sym z) (write_shows σ q v w r held)
   word_shows σ (machine.unary_word q o v) f (z, n, r, N) = subst (λ (g : ControlPoint). ShowsUse g (redex σ (machine.unary_word q o v))) (sym z) (part_shows σ q o v r)
   word_shows σ (machine.nullary_word q o) f (z, n, r, N) = subst (λ (g : ControlPoint). ShowsUse g (redex σ (machine.nullary_word q o))) (sym z) (refl, refl)
   word_shows σ (machine.unrolled_word q e) f (z, n, r, S) = subst (λ (g : ControlPoint). ShowsUse g (redex σ (machine.unrolled_word q e))) (sym z) (refl, refl)
-  word_shows σ (machine.again_word q v e) f (z, n, r, S) = subst (λ (g : ControlPoint). ShowsUse g (redex σ (machine.again_word q v e))) (sym z) (silent (ready_at row q.index (code_value v)) (uses_both none none) (quiet p s row r (code_value v) refl) (refl, refl))
+  word_shows σ (machine.again_word q v e) f (z, n, r, S) = subst (λ (g : ControlPoint). ShowsUse g (redex σ (machine.again_word q v e))) (sym z) (silent (ready_at row q.index (code_value v)) (uses_both None None) (quiet p s row r (code_value v) refl) (refl, refl))
 
 -- ------------------------------------------------------------------ the lowest pair
 
@@ -296,19 +284,19 @@ module _ (p s : List ℕ) (T : Threads) (R : Replay) (H : Holds p s T R) where
 
   control_shows : (i : ℕ) (d : Control) → ControlAt p s i (control_point_at s i) d → AccessIs (access_of p s i) (uses_of R.machine.names (next_redex d))
   unfolding access_of uses_of if_cell
-  control_shows i (done v) C = subst (λ (a : Access). AccessIs a (uses_both none none)) (sym (done_shows i (done v) refl C)) (refl, refl)
+  control_shows i (done v) C = subst (λ (a : Option Access). AccessIs a (uses_both None None)) (sym (done_shows i (done v) refl C)) (refl, refl)
   control_shows i (at σ w K) (values, W, F) = word_shows p s (control_point_at s i).row R.machine.names (λ n. slot_decodes H.names (name n)) H.names.constant σ w (control_point_at s i) W
 
-  pub lowest_pair_alike : pair_decoded (lowest_pair p s T.count) ≡ replay.lowest_pair R
+  pub lowest_pair_alike : (lowest_pair p s T.count) ≡ replay.lowest_pair R
   unfolding lowest_pair replay.lowest_pair uses_in
   lowest_pair_alike =
-      ap (λ (n : ℕ). pair_decoded (pair_of p s n 0 n)) H.sized.count
+      ap (λ (n : ℕ). (pair_of p s n 0 n)) H.sized.count
       ∙ pairs_alike p s uses_at (λ i th. refl) R.machine.threads 0 shown (length R.machine.threads) (omega arith)
     where
-      shown : (m : ℕ) (th : MachineThread) → slice_get R.machine.threads m ≡ some th → (th.joined ≡ true → access_of p s (0 + m) ≡ None) × (th.joined ≡ false → AccessIs (access_of p s (0 + m)) (uses_at (0 + m) th).1)
+      shown : (m : ℕ) (th : MachineThread) → slice_get R.machine.threads m ≡ Some th → (th.joined ≡ true → access_of p s (0 + m) ≡ None) × (th.joined ≡ false → AccessIs (access_of p s (0 + m)) (uses_at (0 + m) th).1)
       shown m th h =
           let held = H.threads m th h in
           let z : 0 + m ≡ m = omega arith in (
             λ e. ap (access_of p s) z ∙ done_shows m th.control (held.settled e) held.control,
-            λ e. subst (λ (a : Access). AccessIs a (uses_of R.machine.names (next_redex th.control))) (sym (ap (access_of p s) z)) (control_shows m th.control held.control),
+            λ e. subst (λ (a : Option Access). AccessIs a (uses_of R.machine.names (next_redex th.control))) (sym (ap (access_of p s) z)) (control_shows m th.control held.control),
           )

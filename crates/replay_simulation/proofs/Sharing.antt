@@ -1,5 +1,5 @@
 -- The words that use what a value names, on numbers, are the machine's.
-use Rattle.std.proofs.Common.{Option, None, Some}
+use Rattle.std.proofs.Common.{Option, None, Some, Ok}
 use Prim.Native.Nat.{ℕ, suc, ◌<◌}
 use mathlib.Core.Path.{◌≡◌, refl, sym, ◌∙◌, ap, subst}
 use mathlib.Core.List.{List}
@@ -101,26 +101,26 @@ module _ {p s : List ℕ} {T : Threads} {R : Replay} {t row tid : ℕ} {σ : Env
 
   -- the word becomes a value
   gives_value : (f : ControlPoint) (x : Value) →
-      Answers A f (Some (gives M t tid σ K M.names x)) (Go (given p row (place_of p s w) (code_value x)), s)
+      Answers A f (Some (gives M t tid σ K M.names x)) (Ok (Go (given p row (place_of p s w) (code_value x))), s)
   gives_value f x = becomes A s A.holds.long (λ i h. agree_all i s) A.holds.names below f x
 
   -- the word leaves something else where it was
   leaves_slot : (f : ControlPoint) (n : ℕ) (sl : state.Slot) (y : Slot) → n < M.next → SlotIs y sl →
-      Answers A f (Some (leaves M t tid σ K n sl)) (Go (given p row (place_of p s w) 0), slot_put s (suc n) y)
+      Answers A f (Some (leaves M t tid σ K n sl)) (Ok (Go (given p row (place_of p s w) 0)), slot_put s (suc n) y)
   leaves_slot f n sl y l is =
       becomes A (slot_put s (suc n) y) (slot_put_length s (suc n) y ∙ A.holds.long) (λ i h. slot_agree i s (suc n) y h)
       (names_put A.holds.names n sl y A.holds.long l is) below f zero_value
 
   -- the word asks for the use of what a value names
-  asks : (f : ControlPoint) (v : Value) (u : Option Use) (x : StepEffect) → (slot_of M.names v ≡ unused → u ≡ None) → UseIs u x →
+  asks : (f : ControlPoint) (v : Value) (u : Option Use) (x : Option StepEffect) → (slot_of M.names v ≡ unused → u ≡ None) → UseIs u x →
       Answers A f (u >>= λ y. Some (used_to M t tid σ K (name_in v) y)) (effected p s row (place_of p s w) (code_value v) x)
   unfolding effected after_act act_step check_limits
-  asks f v None x useless is = subst (λ (z : StepEffect). Answers A f None (effected p s row (place_of p s w) (code_value v) z)) (sym is) refl
+  asks f v None x useless is = subst (λ (z : Option StepEffect). Answers A f None (effected p s row (place_of p s w) (code_value v) z)) (sym is) refl
   asks f v (Some (gave y)) x useless is =
-      subst (λ (z : StepEffect). Answers A f (Some (gives M t tid σ K M.names y)) (effected p s row (place_of p s w) (code_value v) z)) (sym is) (gives_value f y)
+      subst (λ (z : Option StepEffect). Answers A f (Some (gives M t tid σ K M.names y)) (effected p s row (place_of p s w) (code_value v) z)) (sym is) (gives_value f y)
   asks f (int n) (Some (left sl)) x useless is = some_is_not_none (useless refl)
   asks f (name n) (Some (left sl)) x useless (y, e, held) =
-      subst (λ (z : StepEffect). Answers A f (Some (leaves M t tid σ K n sl)) (effected p s row (place_of p s w) (suc n) z)) (sym e)
+      subst (λ (z : Option StepEffect). Answers A f (Some (leaves M t tid σ K n sl)) (effected p s row (place_of p s w) (suc n) z)) (sym e)
       (leaves_slot f n sl y (used_below A.holds.names n (λ z. some_is_not_none (useless z))) held)
 
 write_asks : (M : Machine) (t tid : ℕ) (σ : Env) (K : List Frame) (q : Position) (v w : Value) →
@@ -151,7 +151,7 @@ module _ {p s : List ℕ} {T : Threads} {R : Replay} {t row tid : ℕ} {σ : Env
       sl : state.Slot
       sl = slot_of R.machine.names v
 
-      x : StepEffect
+      x : Option StepEffect
       x = effect_of (rule_of (code_of (Unary (part_word o)))) (slot_at s (code_value v)) (code_value v)
 
   pub write_goes : {v w : Value} (A : AtWord p s T R t row tid σ (write_word q v w) K) → RowOf p q (Binary Write) n → kept s row q.index ≡ code_value v →
@@ -168,5 +168,5 @@ module _ {p s : List ℕ} {T : Threads} {R : Replay} {t row tid : ℕ} {σ : Env
       sl : state.Slot
       sl = slot_of R.machine.names v
 
-      x : StepEffect
+      x : Option StepEffect
       x = written_of (slot_at s (code_value v)) (code_value w)

@@ -1,5 +1,5 @@
 -- A spawn on numbers is the machine's: the new thread gets a copy of the variables and goes to its first word, then the word becomes 0.
-use Rattle.std.proofs.Common.{Some, slice_get}
+use Rattle.std.proofs.Common.{Some, slice_get, Err}
 use Prim.Native.Nat.{ℕ, zero, suc, ◌+◌, ◌*◌, ◌<◌, ◌≤◌}
 use mathlib.Core.Path.{◌≡◌, refl, sym, ◌∙◌, ap, subst}
 use mathlib.Core.Logic.{◌≢◌, ◌⊎◌, inl, inr}
@@ -23,12 +23,13 @@ use Rattle.threads.specs.declared.Threads.{Threads}
 use Rattle.threads.specs.Records.{no_record}
 use Rattle.threads.specs.Threads.{spawned}
 use Rattle.replay_control.specs.Layout.{finish, kept_values_at, open_calls_at, control_point_modes_at, control_point_places_at, control_point_values_at, control_point_rows_at, space_size}
+use Rattle.replay_control.specs.Modes.{mode_of}
 use Rattle.replay_control.specs.declared.ControlPoint.{ControlPoint}
 use Rattle.replay_control.specs.Control.{variable, kept, called_from, continuation, second, control_point, entering, returning, ready_at}
 use Rattle.replay_engine.specs.ControlPoints.{control_point_at}
 use Rattle.replay_step.specs.Words.{given}
-use Rattle.replay_engine.specs.declared.Outcome.TheVariants.{Past}
-use Rattle.replay_engine.specs.Steps.{ending, proceeded, copied_from, copied, act_step, after_act, gives_zero, spawned_step}
+use Rattle.replay_step.specs.declared.words.Halt.TheVariants.{Past}
+use Rattle.replay_engine.specs.Steps.{proceeded, copied_from, copied, act_step, after_act, gives_zero, spawned_step}
 use Rattle.replay_theory.specs.Run.{thread_limit, within_limits, still_open}
 use Rattle.replay_theory.specs.Replay.{check_limits}
 use Rattle.replay_machine.specs.Environment.{Env}
@@ -96,7 +97,7 @@ module _ (s : List ℕ) (a b : ℕ) (apart : a ≢ b) (u : ℕ) (is : b ≡ 66 *
       calls = λ r in_row. copied_outside a b apart 256 s 0 (open_calls_at + r) (inr (omega (arith, low, is)));
     };
     focused = λ z. control_point
-        (copied_outside a b apart 256 s 0 (control_point_modes_at + i) (inr (omega (arith, low, is))) z)
+        (mode_of (copied_outside a b apart 256 s 0 (control_point_modes_at + i) (inr (omega (arith, low, is))) z))
         (copied_outside a b apart 256 s 0 (control_point_places_at + i) (inr (omega (arith, low, is))) z)
         (copied_outside a b apart 256 s 0 (control_point_values_at + i) (inr (omega (arith, low, is))) z)
         (copied_outside a b apart 256 s 0 (control_point_rows_at + i) (inr (omega (arith, low, is))) z);
@@ -253,7 +254,7 @@ module _ {p s : List ℕ} {T : Threads} {R : Replay} {t row tid : ℕ} {σ : Env
     with_room : Answered p (check_limits within (Some Spawns)) (spawned_step p s T t word (suc n))
     unfolding spawned_step
     with_room =
-        subst (λ (c : ℕ). Answered p (check_limits within (Some Spawns)) (when leb 16 c then (ending Past T, s) else gives_zero p t word (proceeded p (copied s row (66 * c)) (spawned T (suc n)) c (entering (66 * c) (second p q.index)))))
+        subst (λ (c : ℕ). Answered p (check_limits within (Some Spawns)) (when leb 16 c then (Err Past, s) else gives_zero p t word (proceeded p (copied s row (66 * c)) (spawned T (suc n)) c (entering (66 * c) (second p q.index)))))
         (sym A.holds.sized.count) (rw (lt-leb 16 u room) spawns_one)
 
   no_room : 16 ≤ u → Answered p (check_limits within (Some Spawns)) (spawned_step p s T t word (suc n))

@@ -1,5 +1,5 @@
 -- A step on numbers is the machine's step: thread by thread, word by word, choice by choice.
-use Rattle.std.proofs.Common.{Option, None, Some, slice_get}
+use Rattle.std.proofs.Common.{Option, None, Some, slice_get, Err}
 use Prim.Native.Nat.{ℕ, zero, suc, ◌≤◌}
 use mathlib.Core.Path.{◌≡◌, refl, sym, ap, subst}
 use mathlib.Core.Bool.{Bool, true, false}
@@ -25,17 +25,18 @@ use Rattle.threads.specs.declared.Record.{Record}
 use Rattle.threads.specs.declared.Threads.{Threads}
 use Rattle.threads.specs.Threads.{is_running, runs}
 use Rattle.replay_control.specs.Layout.{finish}
+use Rattle.replay_control.specs.Modes.{is_unrolled}
 use Rattle.replay_control.specs.declared.ControlPoint.{ControlPoint}
 use Rattle.replay_control.specs.Shapes.{shape_at, is_write, is_if}
 use Rattle.replay_control.specs.Control.{second as second_at, ready_at, stopped_at, unrolled_at}
 use Rattle.replay_objects.specs.declared.Slot.{Slot}
-use Rattle.replay_objects.specs.declared.StepEffect.TheVariants as used
-use Rattle.replay_engine.specs.declared.Outcome.TheVariants.{Stuck}
+use Rattle.replay_objects.specs.declared.StepEffect.TheVariants.{Spawns, Joins}
+use Rattle.replay_step.specs.declared.words.Halt.TheVariants.{Stuck}
 use Rattle.replay_objects.specs.Uses.{spawned_of, joined_of, effect_of}
 use Rattle.replay_step.specs.Slots.{slot_at}
 use Rattle.replay_engine.specs.ControlPoints.{control_point_at}
 use Rattle.replay_step.specs.Words.{subject, operand, effected, word_used, acted_by, acted}
-use Rattle.replay_engine.specs.Steps.{may_choose, ending, act_step, after_act, stepped_from, stepped}
+use Rattle.replay_engine.specs.Steps.{may_choose, act_step, after_act, stepped_from, stepped}
 use Rattle.replay_theory.specs.Trace.{TraceLine}
 use Rattle.replay_theory.specs.Run.{part_of_if, no_choice, unary_traits, traits, part_chosen, effect, one_more_if, things_after}
 use Rattle.replay_theory.proofs.Traits.{unary_plain}
@@ -64,8 +65,8 @@ use Rattle.replay_simulation.proofs.Called.{call_goes}
 
 -- what is asked of a slot before a thread is spawned or joined
 pub data Identified (x : Slot) (sl : state.Slot) : Type 0 where
-  is_one : if_identifier sl ≡ Some tt → joined_of x ≡ used.Joins → spawned_of x ≡ used.Spawns → Identified x sl
-  is_none : if_identifier sl ≡ None → joined_of x ≡ used.Stuck → spawned_of x ≡ used.Stuck → Identified x sl
+  is_one : if_identifier sl ≡ Some tt → joined_of x ≡ Some Joins → spawned_of x ≡ Some Spawns → Identified x sl
+  is_none : if_identifier sl ≡ None → joined_of x ≡ None → spawned_of x ≡ None → Identified x sl
 
 identified : (x : Slot) (sl : state.Slot) → SlotIs x sl → Identified x sl
 unfolding joined_of spawned_of
@@ -89,11 +90,11 @@ module _ (p s : List ℕ) (row c : ℕ) {q : Position} {n : ℕ} (v : ℕ) where
 
 -- ------------------------------------------------------------------ choices
 
-refuses : (p : List ℕ) (f : ControlPoint) → eqb f.mode 4 ≡ false → is_if (shape_at p f.at) ≡ false → (c : ℕ) → may_choose p f (suc c) ≡ false
+refuses : (p : List ℕ) (f : ControlPoint) → is_unrolled f.mode ≡ false → is_if (shape_at p f.at) ≡ false → (c : ℕ) → may_choose p f (suc c) ≡ false
 unfolding may_choose
 refuses p f a b c = rw (ne_eqb (suc c) 0 (λ e. omega (arith, e))) (go (eqb (suc c) 1))
   where
-    go : (x : Bool) → (when x then (when eqb f.mode 4 then true else is_if (shape_at p f.at)) else false) ≡ false
+    go : (x : Bool) → (when x then (when is_unrolled f.mode then true else is_if (shape_at p f.at)) else false) ≡ false
     go true = rw (a, b)
     go false = refl
 
@@ -101,7 +102,7 @@ too_large : (p : List ℕ) (f : ControlPoint) (c : ℕ) → may_choose p f (suc 
 unfolding may_choose
 too_large p f c = rw (ne_eqb (suc (suc c)) 0 (λ e. omega (arith, e)), ne_eqb (suc (suc c)) 1 (λ e. omega (arith, e)))
 
-stuck : (p s : List ℕ) (T : Threads) → Answered p (check_limits within None) (ending Stuck T, s)
+stuck : (p s : List ℕ) (T : Threads) → Answered p (check_limits within None) (Err Stuck, s)
 unfolding check_limits
 stuck p s T = refl
 
@@ -132,7 +133,7 @@ module _ {p s : List ℕ} {T : Threads} {R : Replay} {t row tid : ℕ} {σ : Env
   choice_none f c e h = rw (h, e) (stuck p s T)
 
   -- a word with nothing to choose
-  plain : {f g : ControlPoint} → f ≡ g → ((c : ℕ) → part_chosen (redex σ w) c ≡ no_choice c) → eqb g.mode 4 ≡ false →
+  plain : {f g : ControlPoint} → f ≡ g → ((c : ℕ) → part_chosen (redex σ w) c ≡ no_choice c) → is_unrolled g.mode ≡ false →
       is_if (shape_at p g.at) ≡ false → Takes first g 0 → (c : ℕ) → WordLine f c
   unfolding no_choice
   plain {g = g} z is a b G c = subst (λ (h : ControlPoint). WordLine h c) (sym z) (by_choice c)
@@ -153,7 +154,7 @@ module _ {p s : List ℕ} {T : Threads} {R : Replay} {t row tid : ℕ} {σ : Env
       by_choice (suc (suc c)) = choice_none g (suc (suc c)) (is (suc (suc c))) (too_large p g c)
 
   -- a join, or a spawn, of what is no identifier
-  no_identifier : (f : ControlPoint) (k v : ℕ) → Answers A f None (effected p s row k v used.Stuck)
+  no_identifier : (f : ControlPoint) (k v : ℕ) → Answers A f None (effected p s row k v None)
   unfolding check_limits after_act effected act_step
   no_identifier f k v = refl
 

@@ -16,7 +16,7 @@ use Rattle.calculus.specs.Reduction.{◌>>=◌, ◌>>◌, cell_value, lock_state
 use Rattle.workspace.specs.Layout.{rule_of, code_of, printed}
 use Rattle.replay_objects.specs.declared.Slot.{Slot}
 use Rattle.replay_objects.specs.declared.StepEffect.{StepEffect}
-use Rattle.replay_objects.specs.declared.StepEffect.TheVariants.{Returns, Updates, Stuck}
+use Rattle.replay_objects.specs.declared.StepEffect.TheVariants.{Returns, Updates}
 use Rattle.replay_objects.specs.Uses.{slot, read_of, locked_of, unlocked_of, posted_of, waited_of, rdlocked_of, rdunlocked_of, wrlocked_of, wrunlocked_of, effect_of}
 use Rattle.replay_machine.specs.Environment.{Env}
 use Rattle.replay_machine.specs.Control.{Frame}
@@ -148,10 +148,10 @@ module _ (M : Machine) (i tid : ℕ) (σ : Env) (K : List Frame) where
 -- ------------------------------------------------------------------ on numbers
 
 -- what the code makes of it
-abbrev pub UseIs : Option Use → StepEffect → Type 0
-UseIs None u = u ≡ Stuck
-UseIs (Some (gave v)) u = u ≡ Returns (code_value v)
-UseIs (Some (left sl)) u = (y : Slot) × (u ≡ Updates y) × SlotIs y sl
+abbrev pub UseIs : Option Use → Option StepEffect → Type 0
+UseIs None u = u ≡ None
+UseIs (Some (gave v)) u = u ≡ Some (Returns (code_value v))
+UseIs (Some (left sl)) u = (y : Slot) × (u ≡ Some (Updates y)) × SlotIs y sl
 
 -- a count that can still be raised
 abbrev pub Roomy : state.Slot → Type 0
@@ -167,7 +167,7 @@ module _ (x : Slot) where
   unfolding read_of
   read_used unused h = rw h
   read_used identifier h = rw h
-  read_used (cell v) h = rw h.0 (ap Returns h.1)
+  read_used (cell v) h = rw h.0 (ap (λ (v : ℕ). Some (Returns v)) h.1)
   read_used (a_lock opened) h = rw h.0
   read_used (a_lock closed) h = rw h.0
   read_used (semaphore c) h = rw h.0

@@ -7,4 +7,4 @@ mod slots;
 mod words;
 
 pub use slots::slot_at;
-pub use words::{Act, gives, reduce};
+pub use words::{Act, Halt, gives, reduce};

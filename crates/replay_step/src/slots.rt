@@ -8,25 +8,27 @@ use replay_objects::{Slot, UNUSED};
 use workspace::{at, index};
 
 // What a value names.
+#[tactic(auto, unfolding(crate::specs::Slots::slot_at))]
 pub fn slot_at(space: &[u32], v: u32) -> Slot
     ensures { result ≡ slot_at space.now v }
 {
-    if v < VALUE_LIMIT {
-        let i = index(v);
+    if VALUE_LIMIT <= v {
         return Slot {
-            kind: at(space, THING_KINDS + i),
-            first: at(space, THING_FIRSTS + i),
-            second: at(space, THING_SECONDS + i),
+            kind: UNUSED,
+            first: 0,
+            second: 0,
         };
     }
+    let i = index(v);
     Slot {
-        kind: UNUSED,
-        first: 0,
-        second: 0,
+        kind: at(space, THING_KINDS + i),
+        first: at(space, THING_FIRSTS + i),
+        second: at(space, THING_SECONDS + i),
     }
 }
 
 // A value names this from now on.
+#[tactic(auto, unfolding(crate::specs::Slots::slot_put))]
 pub(crate) fn put_slot(space: &mut [u32], v: u32, x: Slot)
     ensures { space.new ≡ slot_put space.old v x }
 {

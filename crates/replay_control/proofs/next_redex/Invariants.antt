@@ -1,12 +1,7 @@
--- The loop's invariant: what is found from here is what is found from the start.
-use mathlib.Core.Path.{◌≡◌}
-use Prim.Native.Nat.{◌-◌}
-use lib.ListN.{length}
+-- What is found from here is what is found from the start.
+use Rattle.std.proofs.Common.{◌≡◌, ◌-◌}
 use Rattle.replay_control.specs.Control.{found}
 use Rattle.replay_control.proofs.next_redex.Given as goal
 
-abbrev pub invariant-loop-i : goal.invariant-loop-i
-invariant-loop-i l = (length l.space ≡ length l.initial.space) × (found 2048 l.program l.initial.space l.initial.g ≡ found (2048 - l.i) l.program l.space l.g)
-
-abbrev pub decreases-loop-i : goal.decreases-loop-i
-decreases-loop-i l = 2048 - l.i
+abbrev pub invariant-loop : goal.invariant-loop
+invariant-loop l = found 2048 l.program l.initial.space l.initial.g ≡ found (2048 - l.counter) l.program l.space l.g
