@@ -1,4 +1,5 @@
 -- A line by the answer of its step.
+use Rattle.std.proofs.Common.{Option, None}
 use Prim.Native.Nat.{ℕ, ◌+◌, ◌≤◌}
 use mathlib.Core.Path.{◌≡◌, refl, subst}
 use mathlib.Core.List.{List}
@@ -7,9 +8,8 @@ use Rattle.trace.specs.declared.TraceLine.TheVariants.{Move, Malformed}
 use Rattle.replay_engine.specs.declared.Outcome.TheVariants.{Moved, Stuck, Past}
 use Rattle.replay_engine.specs.declared.Stepped.{Stepped}
 use Rattle.replay_engine.specs.Steps.{stepped}
-use Rattle.replay_theory.specs.declared.FirstRace.{FirstRace}
+use Rattle.replay_theory.specs.declared.Race.{Race}
 use Rattle.replay_theory.specs.declared.Ending.TheVariants.{TraceForm, NoStep, PastLimit}
-use Rattle.replay_loop.specs.declared.Progress.TheVariants.{Goes}
 use Rattle.replay_loop.specs.declared.Point.{Point}
 use Rattle.replay_loop.specs.Play.{race_after, stopped_by, by_outcome, after_step, line_done}
 
@@ -17,8 +17,8 @@ pub few_left : {x : Stepped × List ℕ} {r : Stepped} {s : List ℕ} → x ≡ 
 few_left e few = subst (λ (y : Stepped × List ℕ). y.0.threads.count ≤ 16) e few
 
 module _ (p : List ℕ) (q : Point) (next : ℕ) (x : Stepped × List ℕ) (r : Stepped) (s : List ℕ) (e : x ≡ (r, s)) where
-  pub after_moved : r.outcome ≡ Moved → {race : FirstRace} → race ≡ race_after p s r.threads.count q.race (q.steps + 1) →
-      after_step p q next x ≡ (record { progress = Goes; threads = r.threads; at = next; steps = q.steps + 1; race = race }, s)
+  pub after_moved : r.outcome ≡ Moved → {race : Option Race} → race ≡ race_after p s r.threads.count q.race (q.steps + 1) →
+      after_step p q next x ≡ (record { ending = None; threads = r.threads; at = next; steps = q.steps + 1; race = race }, s)
   unfolding after_step by_outcome
   after_moved m h = rw (e, m, h) refl
 

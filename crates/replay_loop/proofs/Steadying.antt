@@ -16,19 +16,18 @@ use Rattle.replay_engine.specs.declared.Stepped.{Stepped}
 use Rattle.replay_engine.specs.Steps.{stepped}
 use Rattle.threads.specs.declared.Threads.{Threads}
 use Rattle.replay_simulation.proofs.Resting.{rest_at}
-use Rattle.replay_loop.specs.declared.Progress.{Progress}
-use Rattle.replay_loop.specs.declared.Progress.TheVariants.{Goes, Stops}
 use Rattle.replay_loop.specs.declared.Point.{Point}
 use Rattle.replay_loop.specs.Play.{stopped_by, by_outcome, after_step, line_done, Steady}
+use Rattle.replay_theory.specs.declared.Ending.{Ending}
 use Rattle.replay_engine.proofs.Counting.{stepped_few}
 
--- what is owed of a point behind a line, by its progress
-abbrev Onward : Progress → (piece : List ℕ) → (before after : Point) → Type 0
-Onward (Stops e) piece q q' = Unit {0}
-Onward Goes piece q q' = Steady piece q' × (q.at < q'.at)
+-- what is owed of a point behind a line, by whether it goes on
+abbrev Onward : Option Ending → (piece : List ℕ) → (before after : Point) → Type 0
+Onward (Some e) piece q q' = Unit {0}
+Onward None piece q q' = Steady piece q' × (q.at < q'.at)
 
 abbrev Leads : (piece : List ℕ) → (before : Point) → Point × List ℕ → Type 0
-Leads piece q r = Onward r.0.progress piece q r.0
+Leads piece q r = Onward r.0.ending piece q r.0
 
 module _ (p s piece : List ℕ) (q : Point) (S : Steady piece q) where
   by_outcome_lem : (o : Outcome) (s' : List ℕ) (T : Threads) (next : ℕ) → T.count ≤ 16 → q.at < next → next ≤ length piece → Leads piece q (by_outcome o p s' T q next, s')
@@ -62,8 +61,8 @@ module _ (p s piece : List ℕ) (q : Point) (S : Steady piece q) where
           let rest = rest_at piece q.at fs r S.in_piece e in
           by_numbers (numerals fs) (length piece - length r) rest.further rest.in_text_lem
 
-  pub line_steady : {q' : Point} {s' : List ℕ} → line_done p s q (move_in (length piece) (line_at (drop q.at piece))) ≡ (q', s') → q'.progress ≡ Goes → Steady piece q' × (q.at < q'.at)
-  line_steady {q'} {s'} e z = subst (λ (x : Progress). Onward x piece q q') z (subst (Leads piece q) e line_leads)
+  pub line_steady : {q' : Point} {s' : List ℕ} → line_done p s q (move_in (length piece) (line_at (drop q.at piece))) ≡ (q', s') → q'.ending ≡ None → Steady piece q' × (q.at < q'.at)
+  line_steady {q'} {s'} e z = subst (λ (x : Option Ending). Onward x piece q q') z (subst (Leads piece q) e line_leads)
 
 pub may_go : (piece : List ℕ) (q : Point) → Steady piece q → q.at < length piece → (q.at ≤ length piece) × (q.steps < 18446744073709551615) × (q.threads.count ≤ 16)
 may_go piece q S h = (S.in_piece, let b = S.room in omega (arith, b, h), S.few)

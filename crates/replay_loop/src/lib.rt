@@ -10,71 +10,49 @@ ghost use Rattle.replay_theory.specs.declared.Replayed.{Replayed as Whole};
 ghost use Rattle.replay_loop.specs.Play.{race_after, stopped_by, after_step, line_done, Steady, LoopPre, LoopPost};
 
 use replay_engine::{Outcome, Pair};
-use replay_theory::{Ending, FirstRace};
+use replay_theory::{Ending, Race};
 use threads::Threads;
 use trace::TraceLine;
 
-// Whether a run goes on, or what has stopped it.
+// A run between two lines of its trace: what has stopped it, unless it goes on; its threads, the byte of the next line in the piece at
+// hand, the steps done and the first race so far, both counted from the start of the trace.
 #[derive(Clone, Copy)]
-pub enum Progress {
-    Goes,
-    Stops(Ending),
-}
-
-// A run between two lines of its trace: its threads, the byte of the next line in the piece at hand, the steps done and the first race
-// so far, both counted from the start of the trace.
-#[derive(Drop)]
 pub struct Point {
-    pub progress: Progress,
+    pub ending: Option<Ending>,
     pub threads: Threads,
     pub at: usize,
     pub steps: usize,
-    pub race: FirstRace,
+    pub race: Option<Race>,
 }
 
-// The first race so far, once the state of that number is looked at; it has so many threads.
+// The first race so far, once the state of that number is looked at, which has `count` threads.
 pub fn race_after(
     program: &[u32],
     space: &[u32],
     count: u32,
-    race: FirstRace,
+    race: Option<Race>,
     state: usize,
-) -> FirstRace
+) -> Option<Race>
     requires { count ≤ 16 }
     ensures { result ≡ race_after program.now space.now count race state }
 {
-    match race {
-        FirstRace::Found {
-            state: _,
-            lower: _,
-            other: _,
-        } => race,
-        FirstRace::None => match replay_engine::lowest_pair(program, space, count) {
-            Pair::None => FirstRace::None,
-            Pair::Of(i, j) => FirstRace::Found {
-                state,
-                lower: i,
-                other: j,
-            },
-        },
+    if race.is_some() {
+        return race;
+    }
+    match replay_engine::lowest_pair(program, space, count) {
+        Pair::None => None,
+        Pair::Of(lower, other) => Some(Race { state, lower, other }),
     }
 }
 
 // The same run, stopped.
+#[tactic(auto, unfolding(crate::specs::Play::stopped_by))]
 fn stopped(p: Point, ending: Ending) -> Point
     ensures { result ≡ stopped_by p ending }
 {
-    let threads = p.threads;
-    let at = p.at;
-    let steps = p.steps;
-    let race = p.race;
-    let progress = Progress::Stops(ending);
     Point {
-        progress,
-        threads,
-        at,
-        steps,
-        race,
+        ending: Some(ending),
+        ..p
     }
 }
 
@@ -91,22 +69,15 @@ fn move_on(
     ensures { after_step program.now p next (stepped program.now space.old p.threads thread choice) ≡ (result, space.new) }
 {
     let line = p.steps + 1;
-    let before = p.race;
     let done = replay_engine::step(program, space, p.threads, thread, choice);
-    let threads = done.threads;
-    let outcome = done.outcome;
-    match outcome {
-        Outcome::Moved => {
-            let count = threads.count as u32;
-            let race = race_after(program, space, count, before, line);
-            Point {
-                progress: Progress::Goes,
-                threads,
-                at: next,
-                steps: line,
-                race,
-            }
-        }
+    match done.outcome {
+        Outcome::Moved => Point {
+            ending: None,
+            threads: done.threads,
+            at: next,
+            steps: line,
+            race: race_after(program, space, done.threads.count as u32, p.race, line),
+        },
         Outcome::Stuck => stopped(p, Ending::NoStep(line)),
         Outcome::Past => stopped(p, Ending::PastLimit(line)),
     }
@@ -127,17 +98,13 @@ fn next_line(program: &[u32], space: &mut [u32], piece: &[u8], p: Point) -> Poin
 // The lines of the piece from there on, until one stops the run.
 pub fn play(program: &[u32], space: &mut [u32], piece: &[u8], start: Point) -> Point
     requires { Steady piece.now start }
-    ensures { (whole : List Line → Whole) → LoopPre whole program.now space.old piece.now start → LoopPost result.progress whole program.now space.new result }
+    ensures { (whole : List Line → Whole) → LoopPre whole program.now space.old piece.now start → LoopPost result.ending whole program.now space.new result }
 {
     let mut p = start;
     while p.at < piece.len() {
         p = next_line(program, space, piece, p);
-        let progress = p.progress;
-        match progress {
-            Progress::Stops(_) => {
-                return p;
-            }
-            Progress::Goes => {}
+        if p.ending.is_some() {
+            return p;
         }
     }
     p
