@@ -1,5 +1,5 @@
 -- A line done on numbers is the machine's line: the run goes on to the same end, or ends so.
-use Rattle.std.proofs.Common.{Option, None, Some}
+use Rattle.std.proofs.Common.{Option, None, Some, Result}
 use Rattle.std.specs.Prelude.{is_some}
 use Prim.Native.Nat.{ℕ, suc, ◌+◌, ◌-◌, ◌<◌, ◌≤◌}
 use mathlib.Core.Path.{◌≡◌, refl, sym, ◌∙◌, ap, subst}
@@ -13,7 +13,8 @@ use Rattle.spec.specs.Text.{Line, closed, unclosed, lines, on_line as text_line}
 use Rattle.lexer.specs.Views.{line_at}
 use Rattle.lexer.specs.Numbers.{stored}
 use Rattle.trace.specs.Lines.{move_in}
-use Rattle.replay_engine.specs.declared.Stepped.{Stepped}
+use Rattle.replay_step.specs.declared.words.Halt.{Halt}
+use Rattle.threads.specs.declared.Threads.{Threads}
 use Rattle.replay_engine.specs.Steps.{stepped}
 use Rattle.replay_theory.specs.Trace.{TraceLine, trace_line}
 use Rattle.replay_theory.specs.Replay.{Outcome, bad_form, no_step, past_limit, step, check_limits, line_outcome}
@@ -75,7 +76,7 @@ module _ (whole : List Line → Replayed) (p s piece : List ℕ) (q : Point) (P 
   answers h l = line_answered p s q.threads R q.steps P.held P.counts (few h) l
 
   -- the answer to a line that lists a move
-  by_answer : (o : Outcome Replay) (r : Stepped × List ℕ) (next : ℕ) (rest : List Line) → Answered p o r → ((R' : Replay) → o ≡ step R' → CountsWithin (suc q.steps) R'.machine.names) →
+  by_answer : (o : Outcome Replay) (r : Result Threads Halt × List ℕ) (next : ℕ) (rest : List Line) → Answered p o r → ((R' : Replay) → o ≡ step R' → CountsWithin (suc q.steps) R'.machine.names) →
       lines (drop next piece) ≡ rest →
       ((ls : List Line) → play_on q.steps q.race o (λ R'. play_from (q.steps + 1) (or_race q.race (q.steps + 1) (machine.lowest_pair R')) R' (rest ++ ls)) ≡ whole ls) →
       LineTells whole p piece (after_step p q next r)
@@ -83,14 +84,14 @@ module _ (whole : List Line → Replayed) (p s piece : List ℕ) (q : Point) (P 
   by_answer bad_form r next rest a counts left e = absurd a
   by_answer no_step r next rest a counts left e = rw a e
   by_answer past_limit r next rest a counts left e = rw a e
-  by_answer (step R') r next rest (m, H) counts left e = rw m (
+  by_answer (step R') r next rest (T, m, H) counts left e = rw m (
       record {
         going = refl;
         run = R';
         held = H;
         counts = subst (λ (k : ℕ). CountsWithin k R'.machine.names) (let z : suc q.steps ≡ q.steps + 1 = omega arith in z) (counts R' refl);
         comes_to = λ ls.
-            ap (λ (x : Option (ℕ × ℕ)). play_from (q.steps + 1) (or_race q.race (q.steps + 1) x) R' (lines (drop next piece) ++ ls)) (lowest_pair_alike p r.1 r.0.threads R' H)
+            ap (λ (x : Option (ℕ × ℕ)). play_from (q.steps + 1) (or_race q.race (q.steps + 1) x) R' (lines (drop next piece) ++ ls)) (lowest_pair_alike p r.1 T R' H)
             ∙ ap (λ (x : List Line). play_from (q.steps + 1) (or_race q.race (q.steps + 1) (machine.lowest_pair R')) R' (x ++ ls)) left ∙ e ls;
       }
       )

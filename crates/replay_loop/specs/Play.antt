@@ -1,12 +1,10 @@
 -- The lines of a trace in turn, on numbers.
-use Rattle.std.specs.Prelude.{ℕ, Option, None, Some, ◌+◌, ◌-◌, ◌<◌, ◌≤◌, ◌≡◌, List, ◌++◌, length, drop}
+use Rattle.std.specs.Prelude.{ℕ, Option, None, Some, Result, Ok, Err, ◌+◌, ◌-◌, ◌<◌, ◌≤◌, ◌≡◌, List, ◌++◌, length, drop}
 use Rattle.spec.specs.Text.{Line, lines}
 use Rattle.threads.specs.declared.Threads.{Threads}
-use Rattle.trace.specs.declared.TraceLine.{TraceLine}
-use Rattle.trace.specs.declared.TraceLine.TheVariants.{Move, Malformed}
-use Rattle.replay_engine.specs.declared.Outcome.{Outcome}
-use Rattle.replay_engine.specs.declared.Outcome.TheVariants.{Moved, Stuck, Past}
-use Rattle.replay_engine.specs.declared.Stepped.{Stepped}
+use Rattle.trace.specs.declared.Move.{Move}
+use Rattle.replay_step.specs.declared.words.Halt.{Halt}
+use Rattle.replay_step.specs.declared.words.Halt.TheVariants.{Stuck, Past}
 use Rattle.replay_engine.specs.Steps.{stepped}
 use Rattle.replay_engine.specs.Races.{lowest_pair}
 use Rattle.replay_theory.specs.declared.Ending.{Ending}
@@ -15,12 +13,11 @@ use Rattle.replay_theory.specs.declared.Race.{Race}
 use Rattle.replay_theory.specs.declared.Replayed.{Replayed}
 use Rattle.replay_machine.specs.Replay.{Replay, or_race, ended, play_from}
 use Rattle.replay_simulation.proofs.Holds.{Holds}
-use Rattle.replay_simulation.proofs.Racing.{pair_decoded}
 use Rattle.replay_simulation.proofs.Posting.{CountsWithin}
 use Rattle.replay_loop.specs.declared.Point.{Point}
 
 unfoldable pub race_after : (p s : List ℕ) (count : ℕ) → Option Race → (state : ℕ) → Option Race
-race_after p s n race k = or_race race k (pair_decoded (lowest_pair p s n))
+race_after p s n race k = or_race race k (lowest_pair p s n)
 
 unfoldable pub stopped_by : Point → Ending → Point
 stopped_by q e = record { ending = Some e; threads = q.threads; at = q.at; steps = q.steps; race = q.race }
@@ -29,17 +26,17 @@ stopped_by q e = record { ending = Some e; threads = q.threads; at = q.at; steps
 abbrev pub point_after : (p s : List ℕ) → Threads → (at : ℕ) → Point → Point
 point_after p s T at q = record { ending = None; threads = T; at = at; steps = q.steps + 1; race = race_after p s T.count q.race (q.steps + 1) }
 
-unfoldable pub by_outcome : Outcome → (p s : List ℕ) → Threads → Point → (next : ℕ) → Point
-by_outcome Moved p s T q next = point_after p s T next q
-by_outcome Stuck p s T q next = stopped_by q (NoStep (q.steps + 1))
-by_outcome Past p s T q next = stopped_by q (PastLimit (q.steps + 1))
+unfoldable pub by_outcome : Result Threads Halt → (p s : List ℕ) → Point → (next : ℕ) → Point
+by_outcome (Ok T) p s q next = point_after p s T next q
+by_outcome (Err Stuck) p s q next = stopped_by q (NoStep (q.steps + 1))
+by_outcome (Err Past) p s q next = stopped_by q (PastLimit (q.steps + 1))
 
-unfoldable pub after_step : (p : List ℕ) → Point → (next : ℕ) → Stepped × List ℕ → Point × List ℕ
-after_step p q next (r, s) = (by_outcome r.outcome p s r.threads q next, s)
+unfoldable pub after_step : (p : List ℕ) → Point → (next : ℕ) → Result Threads Halt × List ℕ → Point × List ℕ
+after_step p q next (r, s) = (by_outcome r p s q next, s)
 
-unfoldable pub line_done : (p s : List ℕ) → Point → TraceLine → Point × List ℕ
-line_done p s q (Move t c next) = after_step p q next (stepped p s q.threads t c)
-line_done p s q Malformed = (stopped_by q (TraceForm (q.steps + 1)), s)
+unfoldable pub line_done : (p s : List ℕ) → Point → Option Move → Point × List ℕ
+line_done p s q (Some m) = after_step p q m.next (stepped p s q.threads m.thread m.choice)
+line_done p s q None = (stopped_by q (TraceForm (q.steps + 1)), s)
 
 -- ------------------------------------------------------------------ what the numbers stand for
 

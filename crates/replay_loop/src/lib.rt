@@ -9,10 +9,10 @@ ghost use Rattle.replay_engine.specs.Steps.{stepped};
 ghost use Rattle.replay_theory.specs.declared.Replayed.{Replayed as Whole};
 ghost use Rattle.replay_loop.specs.Play.{race_after, stopped_by, after_step, line_done, Steady, LoopPre, LoopPost};
 
-use replay_engine::{Outcome, Pair};
+use replay_engine::Halt;
 use replay_theory::{Ending, Race};
 use threads::Threads;
-use trace::TraceLine;
+use trace::Move;
 
 // A run between two lines of its trace: what has stopped it, unless it goes on; its threads, the byte of the next line in the piece at
 // hand, the steps done and the first race so far, both counted from the start of the trace.
@@ -26,6 +26,7 @@ pub struct Point {
 }
 
 // The first race so far, once the state of that number is looked at, which has `count` threads.
+#[tactic(auto, unfolding(crate::specs::Play::race_after, replay_machine::specs::Replay::or_race, replay_theory::specs::Replay::race_or))]
 pub fn race_after(
     program: &[u32],
     space: &[u32],
@@ -33,16 +34,17 @@ pub fn race_after(
     race: Option<Race>,
     state: usize,
 ) -> Option<Race>
-    requires { count ≤ 16 }
     ensures { result ≡ race_after program.now space.now count race state }
 {
     if race.is_some() {
         return race;
     }
-    match replay_engine::lowest_pair(program, space, count) {
-        Pair::None => None,
-        Pair::Of(lower, other) => Some(Race { state, lower, other }),
-    }
+    let (lower, other) = replay_engine::lowest_pair(program, space, count)?;
+    Some(Race {
+        state,
+        lower,
+        other,
+    })
 }
 
 // The same run, stopped.
@@ -56,42 +58,36 @@ fn stopped(p: Point, ending: Ending) -> Point
     }
 }
 
-// A line that lists that thread and that choice; the line behind it begins at the byte `next`.
-fn move_on(
-    program: &[u32],
-    space: &mut [u32],
-    p: Point,
-    thread: u32,
-    choice: u32,
-    next: usize,
-) -> Point
+// A line that lists that move.
+#[tactic(auto, unfolding(crate::specs::Play::after_step, crate::specs::Play::by_outcome))]
+fn move_on(program: &[u32], space: &mut [u32], p: Point, m: Move) -> Point
     requires { (p.steps < 18446744073709551615) × (p.threads.count ≤ 16) }
-    ensures { after_step program.now p next (stepped program.now space.old p.threads thread choice) ≡ (result, space.new) }
+    ensures { after_step program.now p m.next (stepped program.now space.old p.threads m.thread m.choice) ≡ (result, space.new) }
 {
     let line = p.steps + 1;
-    let done = replay_engine::step(program, space, p.threads, thread, choice);
-    match done.outcome {
-        Outcome::Moved => Point {
+    match replay_engine::step(program, space, p.threads, m.thread, m.choice) {
+        Ok(threads) => Point {
             ending: None,
-            threads: done.threads,
-            at: next,
+            threads,
+            at: m.next,
             steps: line,
-            race: race_after(program, space, done.threads.count as u32, p.race, line),
+            race: race_after(program, space, threads.count as u32, p.race, line),
         },
-        Outcome::Stuck => stopped(p, Ending::NoStep(line)),
-        Outcome::Past => stopped(p, Ending::PastLimit(line)),
+        Err(Halt::Stuck) => stopped(p, Ending::NoStep(line)),
+        Err(Halt::Past) => stopped(p, Ending::PastLimit(line)),
     }
 }
 
 // The next line.
+#[tactic(auto, unfolding(crate::specs::Play::line_done))]
 fn next_line(program: &[u32], space: &mut [u32], piece: &[u8], p: Point) -> Point
     requires { (p.at ≤ length piece.now) × (p.steps < 18446744073709551615) × (p.threads.count ≤ 16) }
     ensures { line_done program.now space.old p (move_in (length piece.now) (line_at (drop p.at piece.now))) ≡ (result, space.new) }
 {
     let line = p.steps + 1;
     match trace::line_at(piece, p.at) {
-        TraceLine::Move(thread, choice, next) => move_on(program, space, p, thread, choice, next),
-        TraceLine::Malformed => stopped(p, Ending::TraceForm(line)),
+        Some(m) => move_on(program, space, p, m),
+        None => stopped(p, Ending::TraceForm(line)),
     }
 }
 
