@@ -8,7 +8,7 @@ use crate::calls;
 use spec::{BinaryWord, LeafWord, Role, UnaryWord, Word};
 
 // What a step does with its number, and the smallest and the largest that it may be.
-#[derive(Drop)]
+#[derive(Clone, Copy)]
 struct Number {
     role: Role,
     least: u32,
@@ -28,6 +28,7 @@ fn numbered(role: Role, least: u32, largest: u32) -> Number
     }
 }
 
+#[tactic(auto, unfolding(spec::specs::Words::role, spec::specs::Words::least_value, spec::specs::Words::largest_value))]
 fn leaf_number(w: LeafWord) -> Number
     ensures { result ≡ number_of (Leaf w) }
 {
@@ -41,6 +42,7 @@ fn leaf_number(w: LeafWord) -> Number
     }
 }
 
+#[tactic(auto, unfolding(spec::specs::Words::role, spec::specs::Words::least_value, spec::specs::Words::largest_value))]
 fn unary_number(w: UnaryWord) -> Number
     ensures { result ≡ number_of (Unary w) }
 {
@@ -50,6 +52,7 @@ fn unary_number(w: UnaryWord) -> Number
     numbered(Role::Neither, 0, 0)
 }
 
+#[tactic(auto, unfolding(spec::specs::Words::role, spec::specs::Words::least_value, spec::specs::Words::largest_value))]
 fn binary_number(w: BinaryWord) -> Number
     ensures { result ≡ number_of (Binary w) }
 {
@@ -75,22 +78,19 @@ fn number_of(w: Word) -> Number
 pub fn role_of(w: Word) -> Role
     ensures { result ≡ role w }
 {
-    let n = number_of(w);
-    n.role
+    number_of(w).role
 }
 
 // The smallest v that a step with this word may have.
 pub fn least_of(w: Word) -> u32
     ensures { result ≡ least_value w }
 {
-    let n = number_of(w);
-    n.least
+    number_of(w).least
 }
 
 // The largest v that a step with this word may have.
 pub fn limit_of(w: Word) -> u32
     ensures { result ≡ largest_value w }
 {
-    let n = number_of(w);
-    n.largest
+    number_of(w).largest
 }

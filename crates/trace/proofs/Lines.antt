@@ -7,7 +7,7 @@ use Prim.Native.Nat.{ℕ, suc, ◌+◌, ◌-◌, ◌≤◌, ◌<◌}
 use native.Mathlib.Omega.{arith}
 use lib.Dec.{eqb}
 use lib.ListN.{length, get_or, take, drop, length-drop}
-use lib.Seq.{get_or-drop, drop-drop}
+use lib.Seq.{get_or-drop, drop-drop, take-length}
 use borrow.Author.Tests.{lt-ltb, le-ltb, eq-eqb, ne_eqb, eqb-true}
 use Rattle.spec.specs.Choice.{when◌then◌else◌}
 use Rattle.spec.specs.Text.{Field, numeral}
@@ -21,6 +21,12 @@ use Rattle.trace.specs.declared.Closed.{Closed}
 use Rattle.trace.specs.Lines.{move_of, move_in, closed_number, closed_by, choice_by}
 
 -- ------------------------------------------------------------------ one field
+
+-- the width of the field at a byte is that of what is left there
+pub ends_at : (from w : ℕ) (text : List ℕ) → w ≡ width (take (length text - from) (drop from text)) → from + w ≡ from + width (drop from text)
+ends_at from w text e =
+    let all : take (length text - from) (drop from text) ≡ drop from text = rw (← length-drop from text) (take-length (drop from text)) in
+    ap (λ (n : ℕ). from + n) (e ∙ ap width all)
 
 -- what the code found of the field at a byte
 module _ (end from to : ℕ) (text : List ℕ) (le : from ≤ length text) (is : to ≡ from + width (drop from text)) where

@@ -2,7 +2,7 @@
 // cursor of `lexer` is for sheets, which have one.
 #![tactic(auto)]
 
-ghost use Rattle.std.specs.Prelude.{◌≡◌, ◌+◌, ◌≤◌, length, drop};
+ghost use Rattle.std.specs.Prelude.{◌≡◌, ◌≤◌, length, drop};
 ghost use Rattle.lexer.specs.Views.{width, line_at};
 ghost use Rattle.trace.specs.Lines.{closed_by, move_in};
 
@@ -23,17 +23,16 @@ struct Closed {
     next: usize,
 }
 
-// The byte behind a field: a comma, a byte 10, or the end of the text.
-fn field_end(text: &[u8], from: usize) -> usize
-    requires { from ≤ length text.now }
-    ensures { result ≡ from + width (drop from text.now) }
+// How many bytes stand in front of the comma, the byte 10 or the end that ends the first field.
+fn field_width(rest: &[u8]) -> usize
+    ensures { result ≡ width rest.now }
 {
-    for to in from..text.len() {
-        if FieldEnd::of(text[to]).is_some() {
-            return to;
+    for (i, byte) in rest.iter().enumerate() {
+        if FieldEnd::of(*byte).is_some() {
+            return i;
         }
     }
-    text.len()
+    rest.len()
 }
 
 // The numeral at a byte, where that byte closes it.
@@ -41,7 +40,7 @@ fn number_before(text: &[u8], from: usize, end: u8) -> Option<Closed>
     requires { from ≤ length text.now }
     ensures { result ≡ closed_by end from (drop from text.now) }
 {
-    let to = field_end(text, from);
+    let to = from + field_width(&text[from..]);
     if text.len() <= to || text[to] != end {
         return None;
     }
