@@ -5,7 +5,7 @@ use Rattle.replay_control.specs.declared.Mode.TheVariants.{Enter, Return, Stoppe
 use Rattle.replay_control.specs.Modes.{mode_number, mode_of}
 
 pub mode_read : (m : Mode) → mode_of (mode_number m) ≡ m
-unfolding mode_number mode_of
+unfolding mode_of
 mode_read Enter = refl
 mode_read Return = refl
 mode_read Stopped = refl

@@ -7,7 +7,7 @@ use Rattle.replay_control.specs.Shapes.{shape_at, is_write}
 use Rattle.replay_control.specs.declared.ControlPoint.{ControlPoint}
 use Rattle.replay_control.specs.declared.Mode.{Mode}
 use Rattle.replay_control.specs.declared.Mode.TheVariants.{Enter, Return, Stopped, Ready, Unrolled, Done}
-use Rattle.replay_control.specs.Modes.{on_its_way, is_enter}
+use Rattle.replay_control.specs.Modes.{on_its_way, is}
 use Rattle.workspace.specs.declared.Shape.{Shape}
 use Rattle.workspace.specs.declared.Shape.TheVariants.{Variable, Constant, NoPart, While, OnePart, Call, Let, If, Spawn, Write}
 
@@ -97,10 +97,10 @@ unfoldable pub returned_space : (p s : List ℕ) (r c v : ℕ) → List ℕ
 returned_space p s r c v = when half_written p c then set s (kept_values_at + 256 * r + c) v else s
 
 unfoldable pub advanced : (p s : List ℕ) → ControlPoint → ControlPoint
-advanced p s f = when is_enter f.mode then entered p s f.row f.at else returned p s f.row f.at f.value
+advanced p s f = when is f.mode Enter then entered p s f.row f.at else returned p s f.row f.at f.value
 
 unfoldable pub advanced_space : (p s : List ℕ) → ControlPoint → List ℕ
-advanced_space p s f = when is_enter f.mode then s else returned_space p s f.row f.at f.value
+advanced_space p s f = when is f.mode Enter then s else returned_space p s f.row f.at f.value
 
 -- ------------------------------------------------------------------ the loop
 

@@ -36,7 +36,6 @@ pub enum Mode {
 
 impl Mode {
     // The number that stands for it in the lent space.
-    #[tactic(auto, unfolding(crate::specs::Modes::mode_number))]
     pub fn number(self) -> u32
         ensures { result ≡ mode_number self }
     {

@@ -5,7 +5,8 @@ use Rattle.workspace.specs.Layout.{words_at, rule_of, touch_of}
 use Rattle.workspace.specs.declared.Touch.{Touch}
 use Rattle.workspace.specs.declared.Touch.TheVariants.{Nothing, Reads, Writes}
 use Rattle.replay_control.specs.declared.ControlPoint.{ControlPoint}
-use Rattle.replay_control.specs.Modes.{is_ready}
+use Rattle.replay_control.specs.declared.Mode.TheVariants.{Ready}
+use Rattle.replay_control.specs.Modes.{is}
 use Rattle.replay_control.specs.Control.{kept}
 use Rattle.replay_step.specs.Slots.{slot_at}
 use Rattle.replay_engine.specs.ControlPoints.{control_point_at}
@@ -24,7 +25,7 @@ access_by Reads s f = let v = f.value in when names_cell s v then Some (Read v) 
 access_by Writes s f = let v = kept s f.row f.at in when names_cell s v then Some (Write v) else None
 
 unfoldable pub access_at : (p s : List ℕ) → ControlPoint → Option Access
-access_at p s f = when is_ready f.mode then access_by (touch_of (rule_of (get_or p (words_at + f.at) 0))) s f else None
+access_at p s f = when is f.mode Ready then access_by (touch_of (rule_of (get_or p (words_at + f.at) 0))) s f else None
 
 unfoldable pub access_of : (p s : List ℕ) (t : ℕ) → Option Access
 access_of p s t = access_at p s (control_point_at s t)

@@ -7,7 +7,8 @@ use Rattle.threads.specs.Threads.{started, spawned, finished, joined, runs}
 use Rattle.replay_control.specs.Layout.{environments_at, control_point_rows_at, thing_counts_at, next_value_at, thing_kinds_at}
 use Rattle.replay_control.specs.declared.ControlPoint.{ControlPoint}
 use Rattle.replay_control.specs.Shapes.{shape_at, is_if}
-use Rattle.replay_control.specs.Modes.{is_unrolled}
+use Rattle.replay_control.specs.declared.Mode.TheVariants.{Unrolled}
+use Rattle.replay_control.specs.Modes.{is}
 use Rattle.replay_control.specs.Control.{variable, second, root_of, entering}
 use Rattle.replay_engine.specs.ControlPoints.{control_point_at, went_on}
 use Rattle.replay_step.specs.Words.{given, acted}
@@ -19,7 +20,7 @@ use Rattle.replay_step.specs.declared.words.Halt.TheVariants.{Stuck, Past}
 unfoldable pub may_choose : (p : List ℕ) → ControlPoint → (choice : ℕ) → Bool
 may_choose p f c =
     when eqb c 0 then true
-    else when eqb c 1 then (when is_unrolled f.mode then true else is_if (shape_at p f.at))
+    else when eqb c 1 then (when is f.mode Unrolled then true else is_if (shape_at p f.at))
     else false
 
 -- ------------------------------------------------------------------ going on

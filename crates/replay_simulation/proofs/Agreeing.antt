@@ -217,10 +217,10 @@ control_point_here s t f long m = λ z. control_point (modes z) (places z) (give
     modes : mode_of (get_or (set s₃ (control_point_rows_at + t) f.row) (control_point_modes_at + t) 0) ≡ f.mode
     modes =
         ap mode_of (
-          get_or-set_other s₃ (control_point_rows_at + t) (control_point_modes_at + t) f.row 0 (λ e. omega (arith, e))
-              ∙ get_or-set_other s₂ (control_point_values_at + t) (control_point_modes_at + t) f.value 0 (λ e. omega (arith, e))
-              ∙ get_or-set_other s₁ (control_point_places_at + t) (control_point_modes_at + t) f.at 0 (λ e. omega (arith, e))
-              ∙ get_or-set_same s (control_point_modes_at + t) (mode_number f.mode) 0 (omega (arith, long, m))
+        get_or-set_other s₃ (control_point_rows_at + t) (control_point_modes_at + t) f.row 0 (λ e. omega (arith, e))
+        ∙ get_or-set_other s₂ (control_point_values_at + t) (control_point_modes_at + t) f.value 0 (λ e. omega (arith, e))
+        ∙ get_or-set_other s₁ (control_point_places_at + t) (control_point_modes_at + t) f.at 0 (λ e. omega (arith, e))
+        ∙ get_or-set_same s (control_point_modes_at + t) (mode_number f.mode) 0 (omega (arith, long, m))
         )
         ∙ mode_read f.mode
 

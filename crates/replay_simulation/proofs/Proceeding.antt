@@ -8,7 +8,7 @@ use mathlib.Core.List.{List, [], ◌∷◌}
 use native.Mathlib.Omega.{arith}
 use native.Mathlib.Decide.{ℕ_discrete}
 use borrow.Author.Tests.{lt-ltb}
-use lib.Dec.{eqb, ltb}
+use lib.Dec.{ltb}
 use lib.ListN.{length, get_or, set, length-set}
 use lib.Seq.{get_or-set_same, get_or-set_other}
 use Rattle.spec.specs.Choice.{when◌then◌else◌}
@@ -21,7 +21,8 @@ use Rattle.threads.specs.declared.Threads.{Threads}
 use Rattle.threads.specs.Records.{no_record}
 use Rattle.threads.specs.Threads.{turned, finished}
 use Rattle.replay_control.specs.Layout.{thing_counts_at, next_value_at, thing_kinds_at, thing_firsts_at, thing_seconds_at, space_size}
-use Rattle.replay_control.specs.Modes.{is_at_end}
+use Rattle.replay_control.specs.declared.Mode.TheVariants.{Done}
+use Rattle.replay_control.specs.Modes.{is}
 use Rattle.replay_control.specs.declared.ControlPoint.{ControlPoint}
 use Rattle.replay_control.specs.Control.{found}
 use Rattle.replay_objects.specs.Uses.{slot}
@@ -60,20 +61,20 @@ names_same s s' {names = names} h N = record {
 -- ------------------------------------------------------------------ the record
 
 -- whether the loop found no word
-mode_tells : (p s : List ℕ) (t : ℕ) (f : ControlPoint) (d : Control) → ControlAt p s t f d → is_at_end f.mode ≡ is_done d
-mode_tells p s t f (done v) C = ap (λ (g : ControlPoint). is_at_end g.mode) C
+mode_tells : (p s : List ℕ) (t : ℕ) (f : ControlPoint) (d : Control) → ControlAt p s t f d → is f.mode Done ≡ is_done d
+mode_tells p s t f (done v) C = ap (λ (g : ControlPoint). is g.mode Done) C
 mode_tells p s t f (at σ w K) (values, W, F) = word_tells w W
   where
-    word_tells : (w : machine.Word) → WordAt p s f.row f w → is_at_end f.mode ≡ false
-    word_tells (machine.let_word q x v e) W = ap (λ (g : ControlPoint). is_at_end g.mode) W.0
-    word_tells (machine.if_word q e₁ e₂) W = ap (λ (g : ControlPoint). is_at_end g.mode) W.0
-    word_tells (machine.while_word q e) W = ap (λ (g : ControlPoint). is_at_end g.mode) W.0
-    word_tells (machine.spawn_word q v e) W = ap (λ (g : ControlPoint). is_at_end g.mode) W.0
-    word_tells (machine.write_word q v w) W = ap (λ (g : ControlPoint). is_at_end g.mode) W.0
-    word_tells (machine.unary_word q o v) W = ap (λ (g : ControlPoint). is_at_end g.mode) W.0
-    word_tells (machine.nullary_word q o) W = ap (λ (g : ControlPoint). is_at_end g.mode) W.0
-    word_tells (machine.unrolled_word q e) W = ap (λ (g : ControlPoint). is_at_end g.mode) W.0
-    word_tells (machine.again_word q v e) W = ap (λ (g : ControlPoint). is_at_end g.mode) W.0
+    word_tells : (w : machine.Word) → WordAt p s f.row f w → is f.mode Done ≡ false
+    word_tells (machine.let_word q x v e) W = ap (λ (g : ControlPoint). is g.mode Done) W.0
+    word_tells (machine.if_word q e₁ e₂) W = ap (λ (g : ControlPoint). is g.mode Done) W.0
+    word_tells (machine.while_word q e) W = ap (λ (g : ControlPoint). is g.mode Done) W.0
+    word_tells (machine.spawn_word q v e) W = ap (λ (g : ControlPoint). is g.mode Done) W.0
+    word_tells (machine.write_word q v w) W = ap (λ (g : ControlPoint). is g.mode Done) W.0
+    word_tells (machine.unary_word q o v) W = ap (λ (g : ControlPoint). is g.mode Done) W.0
+    word_tells (machine.nullary_word q o) W = ap (λ (g : ControlPoint). is g.mode Done) W.0
+    word_tells (machine.unrolled_word q e) W = ap (λ (g : ControlPoint). is g.mode Done) W.0
+    word_tells (machine.again_word q v e) W = ap (λ (g : ControlPoint). is g.mode Done) W.0
 
 abbrev running_record : (tid : ℕ) → Record
 running_record tid = record { state = Running; tid = suc tid }

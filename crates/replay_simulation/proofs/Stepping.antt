@@ -25,7 +25,8 @@ use Rattle.threads.specs.declared.Record.{Record}
 use Rattle.threads.specs.declared.Threads.{Threads}
 use Rattle.threads.specs.Threads.{is_running, runs}
 use Rattle.replay_control.specs.Layout.{finish}
-use Rattle.replay_control.specs.Modes.{is_unrolled}
+use Rattle.replay_control.specs.declared.Mode.TheVariants.{Unrolled}
+use Rattle.replay_control.specs.Modes.{is}
 use Rattle.replay_control.specs.declared.ControlPoint.{ControlPoint}
 use Rattle.replay_control.specs.Shapes.{shape_at, is_write, is_if}
 use Rattle.replay_control.specs.Control.{second as second_at, ready_at, stopped_at, unrolled_at}
@@ -90,11 +91,11 @@ module _ (p s : List ℕ) (row c : ℕ) {q : Position} {n : ℕ} (v : ℕ) where
 
 -- ------------------------------------------------------------------ choices
 
-refuses : (p : List ℕ) (f : ControlPoint) → is_unrolled f.mode ≡ false → is_if (shape_at p f.at) ≡ false → (c : ℕ) → may_choose p f (suc c) ≡ false
+refuses : (p : List ℕ) (f : ControlPoint) → is f.mode Unrolled ≡ false → is_if (shape_at p f.at) ≡ false → (c : ℕ) → may_choose p f (suc c) ≡ false
 unfolding may_choose
 refuses p f a b c = rw (ne_eqb (suc c) 0 (λ e. omega (arith, e))) (go (eqb (suc c) 1))
   where
-    go : (x : Bool) → (when x then (when is_unrolled f.mode then true else is_if (shape_at p f.at)) else false) ≡ false
+    go : (x : Bool) → (when x then (when is f.mode Unrolled then true else is_if (shape_at p f.at)) else false) ≡ false
     go true = rw (a, b)
     go false = refl
 
@@ -133,7 +134,7 @@ module _ {p s : List ℕ} {T : Threads} {R : Replay} {t row tid : ℕ} {σ : Env
   choice_none f c e h = rw (h, e) (stuck p s T)
 
   -- a word with nothing to choose
-  plain : {f g : ControlPoint} → f ≡ g → ((c : ℕ) → part_chosen (redex σ w) c ≡ no_choice c) → is_unrolled g.mode ≡ false →
+  plain : {f g : ControlPoint} → f ≡ g → ((c : ℕ) → part_chosen (redex σ w) c ≡ no_choice c) → is g.mode Unrolled ≡ false →
       is_if (shape_at p g.at) ≡ false → Takes first g 0 → (c : ℕ) → WordLine f c
   unfolding no_choice
   plain {g = g} z is a b G c = subst (λ (h : ControlPoint). WordLine h c) (sym z) (by_choice c)

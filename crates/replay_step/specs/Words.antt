@@ -6,7 +6,8 @@ use Rattle.replay_control.specs.Layout.{environments_at, thing_counts_at, next_v
 use Rattle.replay_control.specs.declared.ControlPoint.{ControlPoint}
 use Rattle.workspace.specs.declared.Shape.{Shape}
 use Rattle.workspace.specs.declared.Shape.TheVariants.{Variable, Constant, NoPart, While, OnePart, Call, Let, If, Spawn as SpawnShape, Write}
-use Rattle.replay_control.specs.Modes.{is_stopped, is_ready}
+use Rattle.replay_control.specs.declared.Mode.TheVariants.{Stopped, Ready}
+use Rattle.replay_control.specs.Modes.{is}
 use Rattle.replay_control.specs.Shapes.{shape_at, is_write}
 use Rattle.replay_control.specs.Control.{kept, continuation, second, behind, entering, returning, stopped_at, unrolled_at}
 use Rattle.replay_objects.specs.declared.Slot.{Slot}
@@ -30,8 +31,8 @@ branched p r k c = when eqb c 0 then entering r (behind k) else entering r (seco
 
 unfoldable pub looped : (p : List ℕ) → ControlPoint → (choice : ℕ) → ControlPoint
 looped p f c =
-    when is_stopped f.mode then unrolled_at f.row f.at
-    else when is_ready f.mode then stopped_at f.row f.at
+    when is f.mode Stopped then unrolled_at f.row f.at
+    else when is f.mode Ready then stopped_at f.row f.at
     else when eqb c 0 then entering f.row (behind f.at)
     else given p f.row f.at 0
 
@@ -54,7 +55,7 @@ unfoldable pub subject : (p s : List ℕ) → ControlPoint → ℕ
 subject p s f = when is_write (shape_at p f.at) then kept s f.row f.at else f.value
 
 unfoldable pub operand : (p : List ℕ) → ControlPoint → ℕ
-operand p f = when is_stopped f.mode then get_or p (values_at + f.at) 0 else f.value
+operand p f = when is f.mode Stopped then get_or p (values_at + f.at) 0 else f.value
 
 unfoldable pub effected : (p s : List ℕ) (r k v : ℕ) → Option StepEffect → Result Act Halt × List ℕ
 effected p s r k v (Some (Returns w)) = (Ok (Go (given p r k w)), s)
