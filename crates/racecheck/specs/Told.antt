@@ -3,13 +3,12 @@ use Rattle.std.specs.Prelude.{List, ℕ, Option, None, Some}
 use Rattle.spec.specs.Verdict.{verdict, returned}
 use Rattle.spec.specs.Workspace.{workspace_size}
 use Rattle.spec.specs.declared.Returned.{Returned}
-use Rattle.answers.specs.declared.line.Outcome.{Outcome}
-use Rattle.answers.specs.declared.line.Outcome.TheVariants.{Answered, Unread}
+use Rattle.spec.specs.declared.Answer.{Answer}
 
--- by an outcome
-unfoldable pub told : Outcome → Option Returned
-told (Answered a) = Some (returned a)
-told Unread = None
+-- by an answer, or by none
+unfoldable pub told : Option Answer → Option Returned
+told (Some a) = Some (returned a)
+told None = None
 
 -- of two files, each with its text if it was read: document 01's answer to both
 unfoldable pub told_of : (program split : Option (List ℕ)) → Option Returned

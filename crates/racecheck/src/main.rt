@@ -6,34 +6,31 @@ ghost use Rattle.std.specs.Prelude.{◌≡◌, length, Some};
 ghost use Rattle.file_io.specs.Files.{Within, text_in};
 ghost use Rattle.racecheck.specs.Told.{told, told_of};
 
-use answers::Outcome;
-use file_io::{Contents, is_given, read_program, read_split, tell, write_all};
+use file_io::{is_given, read_program, read_split, tell, write_all};
+use spec::Answer;
 use std::fs::Files;
 
 // Judges two texts in a work space of its own.
-fn judge(program: &[u8], split: &[u8]) -> Outcome
-    ensures { told result ≡ told_of (Some program.now) (Some split.now) }
+fn judge(program: &[u8], split: &[u8]) -> Answer
+    ensures { told (Some result) ≡ told_of (Some program.now) (Some split.now) }
 {
     let mut work = [0u32; 16384];
-    Outcome::Answered(checker::check(program, split, &mut work))
+    checker::check(program, split, &mut work)
 }
 
-// What is told of the two files as they were read, each into its buffer.
-fn outcome_of(program: &[u8], p: Contents, split: &[u8], s: Contents) -> Outcome
+// What is told of the two files as they were read, each into its buffer: the answer to them, or none if one could not be read.
+#[tactic(auto, unfolding(crate::specs::Told::told, crate::specs::Told::told_of))]
+fn outcome_of(program: &[u8], p: Option<usize>, split: &[u8], s: Option<usize>) -> Option<Answer>
     requires { Within p (length program.now) × Within s (length split.now) }
     ensures { told result ≡ told_of (text_in p program.now) (text_in s split.now) }
 {
-    let Contents::Bytes(m) = p else {
-        return Outcome::Unread;
-    };
-    let Contents::Bytes(n) = s else {
-        return Outcome::Unread;
-    };
-    judge(&program[..m], &split[..n])
+    let m = p?;
+    let n = s?;
+    Some(judge(&program[..m], &split[..n]))
 }
 
 // Both files are read before anything is judged.
-fn run<R: Files>(rt: &R) -> Outcome {
+fn run<R: Files>(rt: &R) -> Option<Answer> {
     let mut program = [0u8; 16385];
     let mut split = [0u8; 65537];
     let p = read_program(rt, &mut program);
@@ -50,7 +47,7 @@ fn main(rt: HostRuntime) {
             &mut err,
             b"usage: racecheck, with no argument, in a folder with program.txt and split.txt\n",
         );
-        tell(&mut out, Outcome::Unread);
+        tell(&mut out, None);
         return;
     }
     tell(&mut out, run(&rt));

@@ -1,13 +1,11 @@
 -- The line that tells of a pair: its parts, and its length.
 use mathlib.Core.Path.{◌≡◌, refl}
-use mathlib.Core.List.{List, [], ◌∷◌, ◌++◌, map}
+use mathlib.Core.List.{[], ◌∷◌, ◌++◌, map}
 use Prim.Native.Nat.{ℕ, ◌+◌, ◌≤◌, ◌<◌}
 use native.Mathlib.Omega.{arith}
 use lib.ListN.{length, length-append}
 use Rattle.spec.specs.Text.{bytes}
 use Rattle.text_theory.specs.Text.{decimal, line}
-use Rattle.writer.specs.Buffer.{WrittenAt}
-use Rattle.writer.proofs.Buffer.{written_length}
 use Rattle.text_theory.proofs.Decimal.{decimal_length}
 use Rattle.racedrill.specs.Line.{drill_line}
 
@@ -20,19 +18,11 @@ module _ (x p s : ℕ) where
   unfolding line
   numbers_long = rw (length-append (decimal x), length-append (decimal p), length-append (decimal s)) (omega arith)
 
-  head_long : length (bytes "DRILL,") ≡ 6
-  unfolding bytes
-  head_long = refl
-
   -- a number of 32 bits has at most ten digits
-  line_short : x < 4294967296 → p < 4294967296 → s < 4294967296 → length (drill_line x p s) ≤ 39
+  pub line_short : x < 4294967296 → p < 4294967296 → s < 4294967296 → length (drill_line x p s) ≤ 39
+  unfolding bytes
   line_short hx hp hs =
       let lx = decimal_length 10 x (omega arith) (omega arith) in
       let lp = decimal_length 10 p (omega arith) (omega arith) in
       let ls = decimal_length 10 s (omega arith) (omega arith) in
-      rw (line_parts, length-append (bytes "DRILL,")) (omega (arith, head_long, numbers_long))
-
--- a buffer of 40 bytes has room for it
-pub line_fits : {x p s n : ℕ} {d d' : List ℕ} → x < 4294967296 → p < 4294967296 → s < 4294967296 → 40 ≤ length d
-    → WrittenAt d d' 0 (drill_line x p s) n → n ≤ length d'
-line_fits {x} {p} {s} hx hp hs room w = let l = line_short x p s hx hp hs in omega (arith, w.moved, written_length w)
+      rw line_parts (omega (arith, numbers_long))

@@ -6,8 +6,7 @@ use Rattle.drill_theory.specs.Draw.{drawn}
 use Rattle.drill_theory.specs.Pair.{program_of, split_of}
 use Rattle.racedrill.specs.declared.seed.Seed.{Seed}
 use Rattle.racedrill.specs.declared.seed.Seed.TheVariants.{Given, Absent}
-use Rattle.racedrill.specs.declared.pair.Pair.{Pair}
-use Rattle.racedrill.specs.declared.pair.Pair.TheVariants.{Made, NoSeed}
+use Rattle.drill.specs.declared.Drilled.{Drilled}
 
 pub record Drill : Type 0 where
   pub next : ℕ
@@ -28,14 +27,14 @@ pair_of (Given seed) = Some (record {
 })
 
 -- what an answer of the code shows, with the texts in front of two buffers
-unfoldable pub shown : Pair → (program split : List ℕ) → Option Drill
-shown NoSeed program split = None
-shown (Made x p s) program split = Some (record {
-  next = x;
-  program_length = p;
-  split_length = s;
-  program = take p program;
-  split = take s split;
+unfoldable pub shown : Option Drilled → (program split : List ℕ) → Option Drill
+shown None program split = None
+shown (Some d) program split = Some (record {
+  next = d.next;
+  program_length = d.program;
+  split_length = d.split;
+  program = take d.program program;
+  split = take d.split split;
 })
 
 -- buffers of these lengths have room for any sheet

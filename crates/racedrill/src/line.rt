@@ -1,13 +1,18 @@
 // The line that tells of a pair that was made.
+ghost use Rattle.std.specs.Prelude.{◌≤◌};
 ghost use Rattle.writer.specs.Buffer.{WrittenAt};
 ghost use Rattle.racedrill.specs.Line.{drill_line};
 
-use writer::{write_bytes, write_numbers};
+use drill::Drilled;
+use writer::Writer;
 
-// Writes `DRILL,` and three numbers in front of a buffer, and hands back the place behind them.
-pub(crate) fn write_line(buffer: &mut [u8], next: u32, program: u32, split: u32) -> usize
-    ensures { WrittenAt buffer.old buffer.new 0 (drill_line next program split) result }
+// Writes `DRILL,` and three numbers in front of a buffer, and hands back its length.
+pub(crate) fn write_line(buffer: &mut [u8], drilled: Drilled) -> usize
+    ensures line { WrittenAt buffer.old buffer.new 0 (drill_line drilled.next drilled.program drilled.split) result }
+    ensures short { result ≤ 39 }
 {
-    let headed = write_bytes(buffer, 0, b"DRILL,");
-    write_numbers(buffer, headed, &[next, program, split])
+    let mut writer = Writer::new(buffer);
+    writer.bytes(b"DRILL,");
+    writer.numbers(&[drilled.next, drilled.program, drilled.split]);
+    writer.position()
 }

@@ -11,9 +11,10 @@ ghost use Rattle.std.specs.Prelude.{◌≡◌, ◌≤◌, length};
 ghost use Rattle.spec.specs.Text.{bytes};
 ghost use Rattle.racedrill.specs.Made.{FileOf, TextsOf, LineOf};
 
-use file_io::{Making, is_given, make_file, remove_file, write_all};
+use drill::Drilled;
+use file_io::{Unmade, is_given, make_file, remove_file, write_all};
 use line::write_line;
-use pair::{Pair, pair_of};
+use pair::pair_of;
 use std::env::Env;
 use std::fs::Files;
 use std::io::Write;
@@ -30,11 +31,11 @@ fn write_unmade<W: Write>(out: &mut W) {
 }
 
 // Tells of the pair that a word asks for. The line is made first and written by one call.
-fn write_drill<W: Write>(out: &mut W, word: &[u8], next: u32, program: u32, split: u32)
-    requires { LineOf word.now next program split }
+fn write_drill<W: Write>(out: &mut W, word: &[u8], drilled: Drilled)
+    requires { LineOf word.now drilled.next drilled.program drilled.split }
 {
     let mut line = [0u8; 40];
-    let n = write_line(&mut line, next, program, split);
+    let n = write_line(&mut line, drilled);
     write_all(out, &line[..n]);
 }
 
@@ -43,16 +44,11 @@ fn make<R: Files + Env, E: Write>(rt: &R, err: &mut E, word: &[u8], name: &str, 
     requires { FileOf word.now name.now text.now }
 {
     match make_file(rt, name, text) {
-        Making::Made(_) => true,
-        Making::Taken => {
-            complain(err, name, b" is there already\n");
-            false
-        }
-        Making::Unwritten => {
-            complain(err, name, b" can't be written\n");
-            false
-        }
+        Ok(_) => return true,
+        Err(Unmade::Taken) => complain(err, name, b" is there already\n"),
+        Err(Unmade::Unwritten) => complain(err, name, b" can't be written\n"),
     }
+    false
 }
 
 // Takes back the program sheet, which was made just before. No other file is ever removed.
@@ -88,26 +84,20 @@ fn make_both<R: Files + Env, E: Write>(
 fn run<R: Files + Env, W: Write, E: Write>(rt: &R, out: &mut W, err: &mut E, word: &[u8]) {
     let mut program = [0u8; 16384];
     let mut split = [0u8; 65536];
-    match pair_of(word, &mut program, &mut split) {
-        Pair::Made {
-            next: x,
-            program: p,
-            split: s,
-        } => {
-            if make_both(rt, err, word, &program[..p as usize], &split[..s as usize]) {
-                write_drill(out, word, x, p, s);
-            } else {
-                write_unmade(out);
-            }
-        }
-        Pair::NoSeed => {
-            complain(
-                err,
-                "the seed",
-                b" is a number from 0 to 4294967295, without leading zeros\n",
-            );
-            write_unmade(out);
-        }
+    let Some(drilled) = pair_of(word, &mut program, &mut split) else {
+        complain(
+            err,
+            "the seed",
+            b" is a number from 0 to 4294967295, without leading zeros\n",
+        );
+        return write_unmade(out);
+    };
+    let program = &program[..drilled.program as usize];
+    let split = &split[..drilled.split as usize];
+    if make_both(rt, err, word, program, split) {
+        write_drill(out, word, drilled);
+    } else {
+        write_unmade(out);
     }
 }
 
@@ -115,10 +105,7 @@ fn run<R: Files + Env, W: Write, E: Write>(rt: &R, out: &mut W, err: &mut E, wor
 fn word_in<R: Env>(rt: &R, buffer: &mut [u8]) -> usize
     ensures { result ≤ length buffer.new }
 {
-    match rt.arg(1, buffer) {
-        Ok(n) => n,
-        Err(_) => 0,
-    }
+    rt.arg(1, buffer).unwrap_or(0)
 }
 
 // One argument: the seed. A longer word than ten bytes is no numeral below 2^32.

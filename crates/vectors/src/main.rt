@@ -19,136 +19,89 @@ const SIZE: usize = 16384;
 // What every number of a work space is before a check: not 0, so that one that was cleared is told from one that was not.
 const MARK: u32 = 7;
 
-// The index of the first such byte from `from` on; the length of the text where there is none.
-fn find(text: &[u8], from: usize, byte: u8) -> usize
-    requires { from ≤ length text.now }
-    ensures { (from ≤ result) × (result ≤ length text.now) }
+// How long the first line of a text is, without its byte 10.
+fn line_length(text: &[u8]) -> usize
+    ensures { result ≤ length text.now }
 {
-    let mut i = from;
-    while i < text.len() {
-        if text[i] == byte {
-            return i;
-        }
-        i += 1;
-    }
-    i
-}
-
-// What a byte of a line stands for: a bar for byte 10, any other for itself.
-fn meant(byte: u8) -> u8 {
-    if byte == b'|' { b'\n' } else { byte }
+    text.iter()
+        .position(|byte| *byte == b'\n')
+        .unwrap_or(text.len())
 }
 
 // Every bar of the text becomes byte 10.
 fn unbar(text: &mut [u8]) {
-    let mut i = 0;
-    while i < text.len() {
-        text[i] = meant(text[i]);
-        i += 1;
+    for byte in text {
+        if *byte == b'|' {
+            *byte = b'\n';
+        }
     }
 }
 
 // Whether every number of the slice is `x`.
 fn all_are(numbers: &[u32], x: u32) -> bool {
-    let mut i = 0;
-    while i < numbers.len() {
-        if numbers[i] != x {
-            return false;
-        }
-        i += 1;
-    }
-    true
+    numbers.iter().all(|number| *number == x)
 }
 
-// Whether a check left the work space as document 01 wants: the first 16,384 numbers are 0 and those behind them hold the mark.
-fn is_cleared(work: &[u32]) -> bool {
-    if work.len() < SIZE {
-        return false;
+// What a check did to a work space of marks. Document 01 wants the first 16,384 numbers to be 0, and those behind them to hold the mark; in
+// a shorter one nothing is to change.
+fn state(work: &[u32]) -> &'static str {
+    match work.split_at_checked(SIZE) {
+        Some((front, behind)) => {
+            if all_are(front, 0) && all_are(behind, MARK) {
+                "cleared"
+            } else {
+                "not cleared"
+            }
+        }
+        None => {
+            if all_are(work, MARK) {
+                "kept"
+            } else {
+                "changed"
+            }
+        }
     }
-    all_are(&work[0..SIZE], 0) && all_are(&work[SIZE..], MARK)
 }
 
 // The answer to the pair on a line. A line with no tab is a program beside an empty split.
 fn answer_to(line: &[u8], work: &mut [u32]) -> Answer {
-    let tab = find(line, 0, b'\t');
-    if tab == line.len() {
-        return checker::check(line, b"", work);
-    }
-    let next = tab + 1;
-    checker::check(&line[0..tab], &line[next..], work)
-}
-
-// The four numbers that an answer returns, parted by commas, and a word behind them, on a line.
-fn write_numbers<P: Print>(rt: &P, answer: Answer, word: &str) {
-    let four = answers::numbers_of(answer);
-    let number = four.number;
-    let line = four.line;
-    let condition = four.condition;
-    let location = four.location;
-    let _ = println!(rt; "{number},{line},{condition},{location} {word}");
-}
-
-// An answer and whether the work space was cleared, on a line.
-fn write_cleared<P: Print>(rt: &P, answer: Answer, cleared: bool) {
-    if cleared {
-        write_numbers(rt, answer, "cleared");
-    } else {
-        write_numbers(rt, answer, "not cleared");
+    match line.iter().position(|byte| *byte == b'\t') {
+        Some(tab) => checker::check(&line[..tab], &line[tab + 1..], work),
+        None => checker::check(line, b"", work),
     }
 }
 
-// An answer and whether the work space is as it was, on a line.
-fn write_kept<P: Print>(rt: &P, answer: Answer, kept: bool) {
-    if kept {
-        write_numbers(rt, answer, "kept");
-    } else {
-        write_numbers(rt, answer, "changed");
-    }
+// Checks the pair on a line in a work space of marks. Writes a line: the four numbers that the answer returns, parted by commas, and what
+// became of the work space.
+fn run_in<P: Print>(rt: &P, line: &[u8], work: &mut [u32]) {
+    let four = answers::numbers_of(answer_to(line, work));
+    let state = state(work);
+    let _ = println!(rt;
+        "{},{},{},{} {state}",
+        four.number, four.line, four.condition, four.location
+    );
 }
 
-// Checks a pair in a work space with 16 numbers more than document 01 asks for.
-fn run_long<P: Print>(rt: &P, line: &[u8]) {
-    let mut work = [MARK; SIZE + 16];
-    let answer = answer_to(line, &mut work);
-    write_cleared(rt, answer, is_cleared(&work));
-}
-
-// Checks a pair in a work space just as long as document 01 asks for.
-fn run_exact<P: Print>(rt: &P, line: &[u8]) {
-    let mut work = [MARK; SIZE];
-    let answer = answer_to(line, &mut work);
-    write_cleared(rt, answer, is_cleared(&work));
-}
-
-// Checks a pair in a work space with one number less than document 01 asks for.
-fn run_short<P: Print>(rt: &P, line: &[u8]) {
-    let mut work = [MARK; SIZE - 1];
-    let answer = answer_to(line, &mut work);
-    write_kept(rt, answer, all_are(&work, MARK));
-}
-
-// Checks the pair on a line whose bars are still bars.
+// Checks the pair on a line whose bars are still bars, in a work space with 16 numbers more than document 01 asks for.
 fn run_line<P: Print>(rt: &P, line: &mut [u8]) {
     unbar(line);
-    run_long(rt, line);
+    run_in(rt, line, &mut [MARK; SIZE + 16]);
 }
 
 // Checks every pair of the text in turn. A last line with no byte 10 counts too.
 fn run_lines<P: Print>(rt: &P, text: &mut [u8]) {
-    let mut from = 0;
-    while from < text.len() {
-        let end = find(text, from, b'\n');
-        run_line(rt, &mut text[from..end]);
-        from = end + 1;
+    for line in text.split_inclusive_mut(|byte| *byte == b'\n') {
+        let end = line_length(line);
+        run_line(rt, &mut line[..end]);
     }
 }
 
 // Every pair, then the first of them again in a work space just long enough and in one that is too short.
 fn run<P: Print>(rt: &P, text: &mut [u8]) {
-    let first = find(text, 0, b'\n');
+    let first = line_length(text);
     run_lines(rt, text);
-    run_exact(rt, &text[0..first]);
-    run_short(rt, &text[0..first]);
+    run_in(rt, &text[..first], &mut [MARK; SIZE]);
+    run_in(rt, &text[..first], &mut [MARK; SIZE - 1]);
 }
 
 // Reads until the buffer is full, the input ends or a read fails, and hands back how many bytes stand in front of the buffer.
@@ -158,9 +111,8 @@ fn read_full<R: Read>(input: &mut R, buffer: &mut [u8]) -> usize
     let mut done = 0;
     while done < buffer.len() {
         match input.read(&mut buffer[done..]) {
-            Ok(0) => return done,
+            Ok(0) | Err(_) => return done,
             Ok(n) => done += n,
-            Err(_) => return done,
         }
     }
     done

@@ -11,19 +11,19 @@ unfolding program_limit split_limit
 pair_of-requires g c = search rules
 
 pub slice_bounds-program-end : goal.slice_bounds-program-end
-slice_bounds-program-end g c = (shown_within _ _ _ _ c.in-Made.is c.pair_of.ensures).0
+slice_bounds-program-end g c = (shown_within _ _ _ _ c.in-Some.ensures).0
 
-pub slice_bounds-make_both-end : goal.slice_bounds-make_both-end
-slice_bounds-make_both-end g c = sym (length-take-le _ _ (shown_within _ _ _ _ c.in-Made.is c.pair_of.ensures).0)
+pub slice_bounds-program-end-2 : goal.slice_bounds-program-end-2
+slice_bounds-program-end-2 g c = sym (length-take-le _ _ (shown_within _ _ _ _ c.in-Some.ensures).0)
 
 pub slice_bounds-split-end : goal.slice_bounds-split-end
-slice_bounds-split-end g c = (shown_within _ _ _ _ c.in-Made.is c.pair_of.ensures).1
+slice_bounds-split-end g c = (shown_within _ _ _ _ c.in-Some.ensures).1
 
-pub slice_bounds-make_both-end-in-Made : goal.slice_bounds-make_both-end-in-Made
-slice_bounds-make_both-end-in-Made g c = sym (length-take-le _ _ (shown_within _ _ _ _ c.in-Made.is c.pair_of.ensures).1)
+pub slice_bounds-split-end-2 : goal.slice_bounds-split-end-2
+slice_bounds-split-end-2 g c = sym (length-take-le _ _ (shown_within _ _ _ _ c.in-Some.ensures).1)
 
 pub make_both-requires : goal.make_both-requires
-make_both-requires g c = texts_shown _ _ _ _ c.in-Made.is c.pair_of.ensures
+make_both-requires g c = texts_shown _ _ _ _ c.in-Some.ensures
 
 pub write_drill-requires : goal.write_drill-requires
-write_drill-requires g c = line_shown _ _ _ _ c.in-Made.is c.pair_of.ensures
+write_drill-requires g c = line_shown _ _ _ _ c.in-Some.ensures

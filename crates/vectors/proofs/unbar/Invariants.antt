@@ -1,9 +1,0 @@
--- A store keeps the length.
-use Rattle.std.proofs.Common.{length, ◌-◌, ◌≡◌}
-use Rattle.vectors.proofs.unbar.Given as goal
-
-abbrev pub invariant-loop-i : goal.invariant-loop-i
-invariant-loop-i l = length l.text ≡ length l.initial.text
-
-abbrev pub decreases-loop-i : goal.decreases-loop-i
-decreases-loop-i l = length l.initial.text - l.i
