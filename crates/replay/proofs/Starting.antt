@@ -1,5 +1,5 @@
 -- The start of a replay: from the sheet that the space holds to the point in front of the first line.
-use Rattle.std.proofs.Common.{Result, Ok, Err}
+use Rattle.std.proofs.Common.{Option, None, Result, Ok, Err}
 use Prim.Native.Nat.{ℕ, ◌+◌, ◌<◌, ◌≤◌}
 use mathlib.Core.Path.{◌≡◌, refl, sym, ◌∙◌, ap, subst}
 use mathlib.Core.List.{List, [], ◌∷◌, map}
@@ -29,8 +29,7 @@ use Rattle.program.specs.Sheet.{Answered}
 use Rattle.program.specs.declared.ProgramRead.{ProgramRead}
 use Rattle.program.specs.declared.ProgramRead.TheVariants.{Read, Refused}
 use Rattle.replay_theory.specs.Replay.{replay_space, judged}
-use Rattle.replay_theory.specs.declared.FirstRace.{FirstRace}
-use Rattle.replay_theory.specs.declared.FirstRace.TheVariants.{None}
+use Rattle.replay_theory.specs.declared.Race.{Race}
 use Rattle.replay_machine.specs.Replay.{start_replay, or_race, play_from, play}
 use Rattle.replay_simulation.proofs.Bodies.{all_size, AllStanding, FirstsAt, VariablesAt, ProgramStands, program_stands}
 use Rattle.replay_simulation.proofs.Ranging.{ParametersLow, well_formed_ranged, well_formed_parameters}
@@ -38,7 +37,6 @@ use Rattle.replay_simulation.proofs.Holds.{Holds}
 use Rattle.replay_simulation.proofs.Starting.{start_held}
 use Rattle.replay_simulation.proofs.Racing.{lowest_pair_alike}
 use Rattle.replay_simulation.proofs.Posting.{start_counts}
-use Rattle.replay_loop.specs.declared.Progress.TheVariants.{Goes}
 use Rattle.replay_loop.specs.Play.{race_after, GoesTo}
 use Rattle.replay.specs.Start.{Copied, HeldAs, Held}
 
@@ -51,14 +49,14 @@ module _ (p s : List ℕ) (long : length s ≡ space_size) (P : Program) (A : Pr
   pub start_count : T.count ≤ 16
   start_count = let l = held.sized.fits in let k = held.sized.count in omega (arith, l, k)
 
-  pub start_goes : {race : FirstRace} → race ≡ race_after p s' T.count None 0 →
-      GoesTo (play (start_replay P)) p s' (record { progress = Goes; threads = T; at = 0; steps = 0; race = race })
+  pub start_goes : {race : Option Race} → race ≡ race_after p s' T.count None 0 →
+      GoesTo (play (start_replay P)) p s' (record { ending = None; threads = T; at = 0; steps = 0; race = race })
   unfolding play race_after
   start_goes {race} h = record {
     run = start_replay P;
     held = held;
     counts = start_counts P;
-    comes_to = λ ls. ap (λ (x : FirstRace). play_from 0 x (start_replay P) ls) (h ∙ ap (or_race None 0) (lowest_pair_alike p s' T (start_replay P) held));
+    comes_to = λ ls. ap (λ (x : Option Race). play_from 0 x (start_replay P) ls) (h ∙ ap (or_race None 0) (lowest_pair_alike p s' T (start_replay P) held));
   }
 
 -- ------------------------------------------------------------------ the columns

@@ -1,5 +1,5 @@
 -- What is asked of the numbers when a replay starts.
-use Rattle.std.specs.Prelude.{ℕ, ◌<◌, ◌≤◌, ◌≡◌, List, length, get_or}
+use Rattle.std.specs.Prelude.{ℕ, None, Some, ◌<◌, ◌≤◌, ◌≡◌, List, length, get_or}
 use Rattle.spec.specs.Program.{Program, program}
 use Rattle.program.specs.Sheet.{Answered}
 use Rattle.program.specs.declared.ProgramRead.{ProgramRead}
@@ -7,8 +7,6 @@ use Rattle.replay_control.specs.Layout.{continuations_at, program_size, space_si
 use Rattle.spec.specs.declared.Refusal.{Refusal}
 use Rattle.threads.specs.Threads.{started}
 use Rattle.replay_theory.specs.declared.Ending.TheVariants.{Refused}
-use Rattle.replay_theory.specs.declared.FirstRace.TheVariants.{None}
-use Rattle.replay_loop.specs.declared.Progress.TheVariants.{Stops}
 use Rattle.replay_loop.specs.declared.Point.{Point}
 use Rattle.replay_simulation.proofs.Bodies.{all_size, AllStanding, AllRanged, FirstsAt, VariablesAt, ProgramStands}
 
@@ -48,4 +46,4 @@ pub record Held (s : List ℕ) (steps procedures : ℕ) : Type 0 where
 
 -- a run that the refusal of its sheet has stopped
 unfoldable pub refused_point : Refusal → Point
-refused_point r = record { progress = Stops (Refused r); threads = started 1; at = 0; steps = 0; race = None }
+refused_point r = record { ending = Some (Refused r); threads = started 1; at = 0; steps = 0; race = None }

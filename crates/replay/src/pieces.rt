@@ -8,36 +8,18 @@ ghost use Rattle.replay_loop.specs.Play.{LoopPost};
 ghost use Rattle.replay.specs.Pieces.{ends_line, telling, RunOf};
 
 use replay_control::layout::SPACE;
-use replay_loop::{Point, Progress, play};
+use replay_loop::{Point, play};
 use replay_theory::{Ending, Replayed, Report};
+use threads::LIMIT;
 
 // Goes on with the lines of a piece, in a space of just the size. A run whose counts have no room for them stays as it is.
 fn go_on(job: &[u32], space: &mut [u32], run: Point, piece: &[u8]) -> Point
-    ensures { (whole : List Line → Whole) → LoopPost run.progress whole job.now space.old run → run.steps + length piece.now < 18446744073709551616 → LoopPost result.progress (λ ls. whole (lines piece.now ++ ls)) job.now space.new result }
+    ensures { (whole : List Line → Whole) → LoopPost run.ending whole job.now space.old run → run.steps + length piece.now < 18446744073709551616 → LoopPost result.ending (λ ls. whole (lines piece.now ++ ls)) job.now space.new result }
 {
-    let progress = run.progress;
-    let threads = run.threads;
-    let steps = run.steps;
-    let race = run.race;
-    match progress {
-        Progress::Stops(_) => {
-            return run;
-        }
-        Progress::Goes => {}
-    }
-    if threads::LIMIT < threads.count {
+    if run.ending.is_some() || LIMIT < run.threads.count || usize::MAX - piece.len() < run.steps {
         return run;
     }
-    if 18446744073709551615 - piece.len() < steps {
-        return run;
-    }
-    let start = Point {
-        progress: Progress::Goes,
-        threads,
-        at: 0,
-        steps,
-        race,
-    };
+    let start = Point { at: 0, ..run };
     play(job, space, piece, start)
 }
 
@@ -66,15 +48,11 @@ pub fn told(run: Point) -> Replayed
     ensures said { result ≡ telling run }
     ensures answer { (program trace job space : List ℕ) → RunOf program trace job space run → result ≡ replayed (length space) program trace }
 {
-    let progress = run.progress;
-    let steps = run.steps;
-    let race = run.race;
-    let report = Report { steps, race };
-    match progress {
-        Progress::Stops(ending) => Replayed { ending, report },
-        Progress::Goes => {
-            let ending = Ending::Done;
-            Replayed { ending, report }
-        }
+    Replayed {
+        ending: run.ending.unwrap_or(Ending::Done),
+        report: Report {
+            steps: run.steps,
+            race: run.race,
+        },
     }
 }

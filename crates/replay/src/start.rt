@@ -4,7 +4,7 @@ ghost use Rattle.spec.specs.Program.{Program};
 ghost use Rattle.spec.specs.declared.Refusal.TheVariants.{ShortWorkspace};
 ghost use Rattle.replay_theory.specs.Replay.{replay_space, judged, refused as refused_by};
 ghost use Rattle.replay_machine.specs.Replay.{start_replay, play as played, replayed as played_of};
-ghost use Rattle.replay_control.specs.Layout.{program_size};
+ghost use Rattle.replay_control.specs.Layout.{program_size, space_size};
 ghost use Rattle.replay_simulation.proofs.Bodies.{ProgramStands};
 ghost use Rattle.replay_loop.specs.Play.{LoopPost};
 ghost use Rattle.replay.specs.Start.{SheetIn, Copied, Runs, HeldAs, Held, refused_point};
@@ -12,41 +12,32 @@ ghost use Rattle.replay.specs.Pieces.{job_size, telling, RunOf};
 
 use program::ProgramRead;
 use replay_control::layout::{CONTINUATIONS, PROGRAM, SPACE};
-use replay_control::put;
-use replay_loop::{Point, Progress, race_after};
-use replay_theory::{Ending, FirstRace};
+use replay_loop::{Point, race_after};
+use replay_theory::Ending;
 use spec::Refusal;
 use threads::Threads;
-use workspace::at;
 
 // The start of a linked program.
 fn first_point(job: &[u32], space: &mut [u32]) -> Point
     requires { Runs job.now space.old }
-    ensures { ((P : Program) → ProgramStands job.now P.procedures P.root → LoopPost result.progress (played (start_replay P)) job.now space.new result) × (result.steps ≡ 0) }
+    ensures { ((P : Program) → ProgramStands job.now P.procedures P.root → LoopPost result.ending (played (start_replay P)) job.now space.new result) × (result.steps ≡ 0) }
 {
     let threads = replay_engine::start(job, space);
-    let count = threads.count as u32;
-    let race = race_after(job, space, count, FirstRace::None, 0);
     Point {
-        progress: Progress::Goes,
+        ending: None,
         threads,
         at: 0,
         steps: 0,
-        race,
+        race: race_after(job, space, threads.count as u32, None, 0),
     }
 }
 
 // The columns of the program that the space holds: its steps, as the reader of program sheets left them.
 fn copy_columns(columns: &mut [u32], space: &[u32])
-    requires { length columns.old ≡ program_size }
+    requires { (length columns.old ≡ program_size) × (length space.now ≡ space_size) }
     ensures { Copied space.now columns.new }
 {
-    let mut i: usize = 0;
-    while i < CONTINUATIONS {
-        let v = at(space, i);
-        put(columns, i, v);
-        i += 1;
-    }
+    columns[..CONTINUATIONS].copy_from_slice(&space[..CONTINUATIONS]);
 }
 
 // Reads a program sheet in the front of the space, which has more room than its reader asks for.
@@ -60,12 +51,10 @@ fn read_program(program: &[u8], space: &mut [u32]) -> ProgramRead
 // The run of the program of so many steps and procedures that the space holds: its columns become the job, and the space the run's.
 fn begin_held(job: &mut [u32], space: &mut [u32], steps: usize, procedures: usize) -> Point
     requires { (length job.old ≡ program_size) × Held space.old steps procedures }
-    ensures { ((P : Program) → HeldAs P space.old steps procedures → LoopPost result.progress (played (start_replay P)) job.new space.new result) × (result.steps ≡ 0) }
+    ensures { ((P : Program) → HeldAs P space.old steps procedures → LoopPost result.ending (played (start_replay P)) job.new space.new result) × (result.steps ≡ 0) }
 {
-    let n = steps as u32;
-    let m = procedures as u32;
     copy_columns(job, space);
-    replay_control::link(job, n, m);
+    replay_control::link(job, steps as u32, procedures as u32);
     first_point(job, space)
 }
 
@@ -73,24 +62,23 @@ fn begin_held(job: &mut [u32], space: &mut [u32], steps: usize, procedures: usiz
 const PROGRAM_LIMIT: usize = 16384;
 
 // A run that the refusal of its sheet has stopped.
+#[tactic(auto, unfolding(crate::specs::Start::refused_point))]
 fn refused_point(r: Refusal) -> Point
     ensures { result ≡ refused_point r }
 {
-    let progress = Progress::Stops(Ending::Refused(r));
-    let threads = Threads::start(1);
     Point {
-        progress,
-        threads,
+        ending: Some(Ending::Refused(r)),
+        threads: Threads::start(1),
         at: 0,
         steps: 0,
-        race: FirstRace::None,
+        race: None,
     }
 }
 
 // Begins with a program in a job and a space of just the size.
 fn begin_in(program: &[u8], job: &mut [u32], space: &mut [u32]) -> Point
     requires { (length job.old ≡ program_size) × (length space.old ≡ replay_space) }
-    ensures { LoopPost result.progress (played_of (judged replay_space program.now)) job.new space.new result × (result.steps ≡ 0) }
+    ensures { LoopPost result.ending (played_of (judged replay_space program.now)) job.new space.new result × (result.steps ≡ 0) }
 {
     if PROGRAM_LIMIT < program.len() {
         return refused_point(Refusal::LongProgram);

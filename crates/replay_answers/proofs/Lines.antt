@@ -1,14 +1,13 @@
 -- The line of a replay: its parts, and its length.
 use Rattle.std.proofs.Common.{Option, None, Some}
-use mathlib.Core.Path.{◌≡◌, refl, sym, ap, ◌∙◌, subst}
-use mathlib.Core.List.{List, [], ◌∷◌, ◌++◌, append_assoc}
+use mathlib.Core.Path.{◌≡◌, refl, sym, ap, ◌∙◌}
+use mathlib.Core.List.{List, [], ◌∷◌, ◌++◌, append_assoc, append-nil}
 use mathlib.Core.Bool.{false}
 use Prim.Native.Nat.{ℕ, ◌+◌, ◌≤◌, ◌<◌}
 use native.Mathlib.Omega.{arith}
 use lib.ListN.{length, length-append}
 use Rattle.spec.specs.Text.{bytes, Field}
 use Rattle.text_theory.specs.Text.{decimal, line}
-use Rattle.writer.specs.Buffer.{WrittenAt}
 use Rattle.text_theory.proofs.Decimal.{decimal_length}
 use Rattle.replay_theory.specs.Replay.{returned_for}
 use Rattle.replay_theory.specs.declared.Race.{Race}
@@ -43,9 +42,9 @@ race_parts race =
     ∙ ap (λ (l : List ℕ). (decimal race.state ++ (44 ∷ [])) ++ l) (next_field (decimal race.lower) (decimal race.other) [])
 
 pub four_parts : (x : Numbers) → opened (number_fields x)
-    ≡ (decimal x.number ++ (44 ∷ [])) ++ ((decimal x.line ++ (44 ∷ [])) ++ ((decimal x.condition ++ (44 ∷ [])) ++ ((decimal x.location ++ (44 ∷ [])) ++ [])))
+    ≡ (decimal x.number ++ (44 ∷ [])) ++ ((decimal x.line ++ (44 ∷ [])) ++ ((decimal x.condition ++ (44 ∷ [])) ++ (decimal x.location ++ (44 ∷ []))))
 unfolding opened number_fields
-four_parts x = refl
+four_parts x = rw (append-nil (decimal x.location ++ (44 ∷ []))) refl
 
 module _ (steps : ℕ) {found : Option Race} where
   pub ran_parts : found ≡ None → line (ran_with steps found) [] ≡ bytes "RAN," ++ (decimal steps ++ (10 ∷ []))
@@ -94,32 +93,11 @@ long_number n h = decimal_length 20 n (omega arith) (omega arith)
 
 race_long : (race : Race) → length (line (race_fields race) [])
     ≡ length (decimal race.state) + length (decimal race.lower) + length (decimal race.other) + 3
-race_long race =
-    rw (
-      race_parts,
-      length-append (decimal race.state ++ (44 ∷ [])),
-      length-append (decimal race.state),
-      length-append (decimal race.lower ++ (44 ∷ [])),
-      length-append (decimal race.lower),
-      length-append (decimal race.other),
-    )
-    (omega arith)
+race_long race = rw race_parts (simp length-append (omega arith))
 
 four_long : (x : Numbers) → length (opened (number_fields x))
     ≡ length (decimal x.number) + length (decimal x.line) + length (decimal x.condition) + length (decimal x.location) + 4
-four_long x =
-    rw (
-      four_parts,
-      length-append (decimal x.number ++ (44 ∷ [])),
-      length-append (decimal x.number),
-      length-append (decimal x.line ++ (44 ∷ [])),
-      length-append (decimal x.line),
-      length-append (decimal x.condition ++ (44 ∷ [])),
-      length-append (decimal x.condition),
-      length-append (decimal x.location ++ (44 ∷ [])),
-      length-append (decimal x.location),
-    )
-    (omega arith)
+four_long x = rw four_parts (simp length-append (omega arith))
 
 -- a state of 64 bits, and threads of 32
 pub record SmallRace (race : Race) : Type 0 where
@@ -177,7 +155,7 @@ module _ (x : Numbers) (steps : ℕ) {found : Option Race} (k : Small x) (h : st
       rw (refused_raced_parts x steps e, length-append (opened (number_fields x)), length-append (decimal steps ++ (44 ∷ [])), length-append (decimal steps))
       (omega (arith, four_short x k, race_short race r))
 
--- ------------------------------------------------------------------ what is written is the line
+-- ------------------------------------------------------------------ the line of an outcome
 
 not_done : (ending : Ending) → (ending ≡ Done → ⊥) → is_done ending ≡ false
 unfolding is_done
@@ -187,24 +165,15 @@ not_done (TraceForm k) h = refl
 not_done (NoStep k) h = refl
 not_done (PastLimit k) h = refl
 
-module _ {d d' : List ℕ} {n : ℕ} where
-  pub written_short : {s : List ℕ} {most : ℕ} → length s ≤ most → WrittenAt d d' 0 s n → n ≤ most
-  written_short h w = omega (arith, w.moved)
-
-  -- a line, said in another way
-  reworded : {s t : List ℕ} → s ≡ t → WrittenAt d d' 0 s n → WrittenAt d d' 0 t n
-  reworded e w = subst (λ (s : List ℕ). WrittenAt d d' 0 s n) e w
-
-  pub ran_written : {o : Option Replayed} {r : Replayed} → o ≡ Some r → r.ending ≡ Done
-      → WrittenAt d d' 0 (line (ran_fields r.report) []) n → WrittenAt d d' 0 (output_line o) n
+module _ {o : Option Replayed} where
+  pub ran_line : {r : Replayed} → o ≡ Some r → r.ending ≡ Done → output_line o ≡ line (ran_fields r.report) []
   unfolding replayed_fields output_line is_done
-  ran_written e h w = reworded (sym (ap output_line e ∙ rw h)) w
+  ran_line e h = ap output_line e ∙ rw h
 
-  pub refused_written : {o : Option Replayed} {r : Replayed} {x : Numbers} → o ≡ Some r → (r.ending ≡ Done → ⊥) → x ≡ returned_for r.ending
-      → WrittenAt d d' 0 (line (refused_fields x r.report) []) n → WrittenAt d d' 0 (output_line o) n
+  pub refused_line : {r : Replayed} {x : Numbers} → o ≡ Some r → (r.ending ≡ Done → ⊥) → x ≡ returned_for r.ending → output_line o ≡ line (refused_fields x r.report) []
   unfolding replayed_fields output_line
-  refused_written {r = r} e h f w = reworded (ap (λ (y : Numbers). line (refused_fields y r.report) []) f ∙ sym (ap output_line e ∙ rw (not_done r.ending h))) w
+  refused_line {r} e h f = ap output_line e ∙ rw (not_done r.ending h) (ap (λ (y : Numbers). line (refused_fields y r.report) []) (sym f))
 
-  pub unread_written : {o : Option Replayed} → o ≡ None → WrittenAt d d' 0 (bytes "UNREAD" ++ (10 ∷ [])) n → WrittenAt d d' 0 (output_line o) n
+  pub unread_line : o ≡ None → output_line o ≡ bytes "UNREAD" ++ (10 ∷ [])
   unfolding bytes line output_line
-  unread_written e w = reworded (sym (ap output_line e)) w
+  unread_line e = ap output_line e

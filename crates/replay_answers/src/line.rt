@@ -1,66 +1,77 @@
 // The line that `racereplay` writes, made in a lent buffer.
-ghost use Rattle.std.specs.Prelude.{◌≡◌, [], ◌≤◌};
+ghost use Rattle.std.specs.Prelude.{[], ◌≤◌, length};
 ghost use Rattle.text_theory.specs.Text.{line};
-ghost use Rattle.writer.specs.Buffer.{WrittenAt};
+ghost use Rattle.writer.specs.Buffer.{Writes, WrittenAt};
 ghost use Rattle.replay_answers.specs.Line.{race_fields, ran_fields, number_fields, refused_fields, opened, output_line};
 
 use crate::ending_numbers;
 use replay_theory::{Ending, Numbers, Race, Replayed, Report};
-use writer::{write_bytes, write_field};
+use writer::Writer;
 
 // The state of a race and its two threads, which close a line.
-fn write_race(buffer: &mut [u8], at: usize, race: Race) -> usize
-    ensures { WrittenAt buffer.old buffer.new at (line (race_fields race) []) result }
+fn write_race(writer: &mut Writer, race: Race)
+    ensures { Writes writer.old writer.new (line (race_fields race) []) }
 {
-    let counted = write_field(buffer, at, race.state as u64, b',');
-    let first = write_field(buffer, counted, race.lower as u64, b',');
-    write_field(buffer, first, race.other as u64, b'\n')
+    writer.field(race.state as u64, b',');
+    writer.field(u64::from(race.lower), b',');
+    writer.field(u64::from(race.other), b'\n');
 }
 
 // The line of a trace that is done.
-fn write_ran(buffer: &mut [u8], report: Report) -> usize
-    ensures written_at { WrittenAt buffer.old buffer.new 0 (line (ran_fields report) []) result }
-    ensures upper_bound { result ≤ 69 }
+fn write_ran(writer: &mut Writer, report: Report)
+    ensures written { Writes writer.old writer.new (line (ran_fields report) []) }
+    ensures short { length (line (ran_fields report) []) ≤ 69 }
 {
-    let steps = report.steps as u64;
     match report.race {
         None => {
-            let headed = write_bytes(buffer, 0, b"RAN,");
-            write_field(buffer, headed, steps, b'\n')
+            writer.bytes(b"RAN,");
+            writer.field(report.steps as u64, b'\n');
         }
         Some(race) => {
-            let headed = write_bytes(buffer, 0, b"RACE,");
-            let counted = write_field(buffer, headed, steps, b',');
-            write_race(buffer, counted, race)
+            writer.bytes(b"RACE,");
+            writer.field(report.steps as u64, b',');
+            write_race(writer, race);
         }
     }
 }
 
 // Four numbers inside a line.
-fn write_four(buffer: &mut [u8], at: usize, x: Numbers) -> usize
-    ensures { WrittenAt buffer.old buffer.new at (opened (number_fields x)) result }
+fn write_four(writer: &mut Writer, x: Numbers)
+    ensures { Writes writer.old writer.new (opened (number_fields x)) }
 {
-    let numbered = write_field(buffer, at, x.number as u64, b',');
-    let placed = write_field(buffer, numbered, x.line as u64, b',');
-    let judged = write_field(buffer, placed, x.condition as u64, b',');
-    write_field(buffer, judged, x.location as u64, b',')
+    writer.field(u64::from(x.number), b',');
+    writer.field(x.line as u64, b',');
+    writer.field(u64::from(x.condition), b',');
+    writer.field(u64::from(x.location), b',');
 }
 
 // The line of a refusal.
-fn write_refused(buffer: &mut [u8], x: Numbers, report: Report) -> usize
-    ensures written_at { WrittenAt buffer.old buffer.new 0 (line (refused_fields x report) []) result }
-    ensures upper_bound { result ≤ 130 }
+fn write_refused(writer: &mut Writer, x: Numbers, report: Report)
+    ensures written { Writes writer.old writer.new (line (refused_fields x report) []) }
+    ensures short { length (line (refused_fields x report) []) ≤ 130 }
 {
-    let steps = report.steps as u64;
-    let headed = write_bytes(buffer, 0, b"REFUSE,");
-    let told = write_four(buffer, headed, x);
+    writer.bytes(b"REFUSE,");
+    write_four(writer, x);
     match report.race {
-        None => write_field(buffer, told, steps, b'\n'),
+        None => writer.field(report.steps as u64, b'\n'),
         Some(race) => {
-            let counted = write_field(buffer, told, steps, b',');
-            let named = write_bytes(buffer, counted, b"RACE,");
-            write_race(buffer, named, race)
+            writer.field(report.steps as u64, b',');
+            writer.bytes(b"RACE,");
+            write_race(writer, race);
         }
+    }
+}
+
+fn write_outcome(writer: &mut Writer, outcome: Option<Replayed>)
+    ensures written { Writes writer.old writer.new (output_line outcome) }
+    ensures short { length (output_line outcome) ≤ 130 }
+{
+    let Some(Replayed { ending, report }) = outcome else {
+        return writer.bytes(b"UNREAD\n");
+    };
+    match ending {
+        Ending::Done => write_ran(writer, report),
+        _ => write_refused(writer, ending_numbers(ending), report),
     }
 }
 
@@ -69,11 +80,7 @@ pub fn write_line(buffer: &mut [u8], outcome: Option<Replayed>) -> usize
     ensures line { WrittenAt buffer.old buffer.new 0 (output_line outcome) result }
     ensures short { result ≤ 130 }
 {
-    let Some(Replayed { ending, report }) = outcome else {
-        return write_bytes(buffer, 0, b"UNREAD\n");
-    };
-    match ending {
-        Ending::Done => write_ran(buffer, report),
-        _ => write_refused(buffer, ending_numbers(ending), report),
-    }
+    let mut writer = Writer::new(buffer);
+    write_outcome(&mut writer, outcome);
+    writer.position()
 }

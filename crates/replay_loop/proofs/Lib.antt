@@ -1,4 +1,2 @@
-pub mod Races
 pub mod Steadying
 pub mod Playing
-pub mod Moves

@@ -1,5 +1,6 @@
 -- A line done on numbers is the machine's line: the run goes on to the same end, or ends so.
-use Rattle.std.proofs.Common.{Option, None, Some}
+use Rattle.std.proofs.Common.{Option, None, Some, Result}
+use Rattle.std.specs.Prelude.{is_some}
 use Prim.Native.Nat.{ℕ, suc, ◌+◌, ◌-◌, ◌<◌, ◌≤◌}
 use mathlib.Core.Path.{◌≡◌, refl, sym, ◌∙◌, ap, subst}
 use mathlib.Core.Bool.{Bool, true, false}
@@ -12,7 +13,8 @@ use Rattle.spec.specs.Text.{Line, closed, unclosed, lines, on_line as text_line}
 use Rattle.lexer.specs.Views.{line_at}
 use Rattle.lexer.specs.Numbers.{stored}
 use Rattle.trace.specs.Lines.{move_in}
-use Rattle.replay_engine.specs.declared.Stepped.{Stepped}
+use Rattle.replay_step.specs.declared.words.Halt.{Halt}
+use Rattle.threads.specs.declared.Threads.{Threads}
 use Rattle.replay_engine.specs.Steps.{stepped}
 use Rattle.replay_theory.specs.Trace.{TraceLine, trace_line}
 use Rattle.replay_theory.specs.Replay.{Outcome, bad_form, no_step, past_limit, step, check_limits, line_outcome}
@@ -26,18 +28,21 @@ use Rattle.replay_simulation.proofs.Posting.{CountsWithin, stepped_counts}
 use Rattle.replay_simulation.proofs.Lining.{LineDecoded, open_line, shut_line, line_decodes}
 use Rattle.replay_simulation.proofs.Resting.{RestAt, rest_at}
 use Rattle.replay_simulation.proofs.Stored.{line_answered}
-use Rattle.replay_loop.specs.declared.Progress.{Progress}
-use Rattle.replay_loop.specs.declared.Progress.TheVariants.{Goes, Stops}
 use Rattle.replay_loop.specs.declared.Point.{Point}
 use Rattle.replay_loop.specs.Play.{race_after, stopped_by, by_outcome, after_step, line_done, Steady, LoopPre, LoopPost}
 
--- what is known of a run behind a line, by its progress
-abbrev pub Tells : Progress → (whole : List Line → Replayed) (p s piece : List ℕ) → Point → Type 0
-Tells (Stops e) whole p s piece q = (ls : List Line) → ended e q.steps q.race ≡ whole ls
-Tells Goes whole p s piece q = LoopPre whole p s piece q
+-- what is known of a run behind a line, by whether it goes on
+abbrev pub Tells : Option Ending → (whole : List Line → Replayed) (p s piece : List ℕ) → Point → Type 0
+Tells (Some e) whole p s piece q = (ls : List Line) → ended e q.steps q.race ≡ whole ls
+Tells None whole p s piece q = LoopPre whole p s piece q
+
+-- a run that nothing has stopped
+pub goes_on : (x : Option Ending) → is_some x ≡ false → x ≡ None
+goes_on None z = refl
+goes_on (Some e) z = absurd (let y : ◌≡◌ {A = ℕ} 0 1 = cc in omega arith)
 
 abbrev pub LineTells : (whole : List Line → Replayed) (p piece : List ℕ) → Point × List ℕ → Type 0
-LineTells whole p piece r = Tells r.0.progress whole p r.1 piece r.0
+LineTells whole p piece r = Tells r.0.ending whole p r.1 piece r.0
 
 limited_step : (o : Option Replay) (R : Replay) → check_limits within o ≡ step R → o ≡ Some R
 unfolding check_limits
@@ -71,7 +76,7 @@ module _ (whole : List Line → Replayed) (p s piece : List ℕ) (q : Point) (P 
   answers h l = line_answered p s q.threads R q.steps P.held P.counts (few h) l
 
   -- the answer to a line that lists a move
-  by_answer : (o : Outcome Replay) (r : Stepped × List ℕ) (next : ℕ) (rest : List Line) → Answered p o r → ((R' : Replay) → o ≡ step R' → CountsWithin (suc q.steps) R'.machine.names) →
+  by_answer : (o : Outcome Replay) (r : Result Threads Halt × List ℕ) (next : ℕ) (rest : List Line) → Answered p o r → ((R' : Replay) → o ≡ step R' → CountsWithin (suc q.steps) R'.machine.names) →
       lines (drop next piece) ≡ rest →
       ((ls : List Line) → play_on q.steps q.race o (λ R'. play_from (q.steps + 1) (or_race q.race (q.steps + 1) (machine.lowest_pair R')) R' (rest ++ ls)) ≡ whole ls) →
       LineTells whole p piece (after_step p q next r)
@@ -79,14 +84,14 @@ module _ (whole : List Line → Replayed) (p s piece : List ℕ) (q : Point) (P 
   by_answer bad_form r next rest a counts left e = absurd a
   by_answer no_step r next rest a counts left e = rw a e
   by_answer past_limit r next rest a counts left e = rw a e
-  by_answer (step R') r next rest (m, H) counts left e = rw m (
+  by_answer (step R') r next rest (T, m, H) counts left e = rw m (
       record {
         going = refl;
         run = R';
         held = H;
         counts = subst (λ (k : ℕ). CountsWithin k R'.machine.names) (let z : suc q.steps ≡ q.steps + 1 = omega arith in z) (counts R' refl);
         comes_to = λ ls.
-            ap (λ (x : Option (ℕ × ℕ)). play_from (q.steps + 1) (or_race q.race (q.steps + 1) x) R' (lines (drop next piece) ++ ls)) (lowest_pair_alike p r.1 r.0.threads R' H)
+            ap (λ (x : Option (ℕ × ℕ)). play_from (q.steps + 1) (or_race q.race (q.steps + 1) x) R' (lines (drop next piece) ++ ls)) (lowest_pair_alike p r.1 T R' H)
             ∙ ap (λ (x : List Line). play_from (q.steps + 1) (or_race q.race (q.steps + 1) (machine.lowest_pair R')) R' (x ++ ls)) left ∙ e ls;
       }
       )
@@ -123,9 +128,9 @@ module _ (whole : List Line → Replayed) (p s piece : List ℕ) (q : Point) (P 
       by_lines (l ∷ ls) e = by_line_lem h l ls e (line_decodes (drop q.at piece) l ls (length piece) e)
 
   -- the end of the piece
-  pub piece_done : length piece ≤ q.at → LoopPost q.progress whole p s q
+  pub piece_done : length piece ≤ q.at → LoopPost q.ending whole p s q
   unfolding lines
-  piece_done h = subst (λ (x : Progress). LoopPost x whole p s q) (sym P.going)
+  piece_done h = subst (λ (x : Option Ending). LoopPost x whole p s q) (sym P.going)
       (record { run = P.run; held = P.held; counts = P.counts; comes_to = rw (drop_of_length-le piece {i = q.at} h) at P.comes_to })
 
   -- ---- what a caller of a line knows
@@ -133,12 +138,15 @@ module _ (whole : List Line → Replayed) (p s piece : List ℕ) (q : Point) (P 
   abbrev After : Point → List ℕ → Type 0
   After q' s' = line_done p s q (move_in (length piece) (line_at (drop q.at piece))) ≡ (q', s')
 
-  told_after : (q' : Point) (s' : List ℕ) → q.at < length piece → After q' s' → Tells q'.progress whole p s' piece q'
+  told_after : (q' : Point) (s' : List ℕ) → q.at < length piece → After q' s' → Tells q'.ending whole p s' piece q'
   told_after q' s' h e = subst (LineTells whole p piece) e (line_tells h)
 
-  pub line_stops : {q' : Point} {s' : List ℕ} {ending : Ending} → q.at < length piece → After q' s' → q'.progress ≡ Stops ending → LoopPost q'.progress whole p s' q'
-  line_stops {q'} {s'} {ending} h e z =
-      subst (λ (x : Progress). LoopPost x whole p s' q') (sym z) (subst (λ (x : Progress). Tells x whole p s' piece q') z (told_after q' s' h e))
+  stopped_tells : (x : Option Ending) (s' : List ℕ) (q' : Point) → is_some x ≡ true → Tells x whole p s' piece q' → LoopPost x whole p s' q'
+  stopped_tells (Some e) s' q' z t = t
+  stopped_tells None s' q' z t = absurd (let y : ◌≡◌ {A = ℕ} 0 1 = cc in omega arith)
 
-  pub line_goes : {q' : Point} {s' : List ℕ} → q.at < length piece → After q' s' → q'.progress ≡ Goes → LoopPre whole p s' piece q'
-  line_goes {q'} {s'} h e z = subst (λ (x : Progress). Tells x whole p s' piece q') z (told_after q' s' h e)
+  pub line_stops : {q' : Point} {s' : List ℕ} → q.at < length piece → After q' s' → is_some q'.ending ≡ true → LoopPost q'.ending whole p s' q'
+  line_stops {q'} {s'} h e z = stopped_tells q'.ending s' q' z (told_after q' s' h e)
+
+  pub line_goes : {q' : Point} {s' : List ℕ} → q.at < length piece → After q' s' → is_some q'.ending ≡ false → LoopPre whole p s' piece q'
+  line_goes {q'} {s'} h e z = subst (λ (x : Option Ending). Tells x whole p s' piece q') (goes_on q'.ending z) (told_after q' s' h e)

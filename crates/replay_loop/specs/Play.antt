@@ -1,47 +1,42 @@
 -- The lines of a trace in turn, on numbers.
-use Rattle.std.specs.Prelude.{ℕ, ◌+◌, ◌-◌, ◌<◌, ◌≤◌, ◌≡◌, List, ◌++◌, length, drop}
+use Rattle.std.specs.Prelude.{ℕ, Option, None, Some, Result, Ok, Err, ◌+◌, ◌-◌, ◌<◌, ◌≤◌, ◌≡◌, List, ◌++◌, length, drop}
 use Rattle.spec.specs.Text.{Line, lines}
 use Rattle.threads.specs.declared.Threads.{Threads}
-use Rattle.trace.specs.declared.TraceLine.{TraceLine}
-use Rattle.trace.specs.declared.TraceLine.TheVariants.{Move, Malformed}
-use Rattle.replay_engine.specs.declared.Outcome.{Outcome}
-use Rattle.replay_engine.specs.declared.Outcome.TheVariants.{Moved, Stuck, Past}
-use Rattle.replay_engine.specs.declared.Stepped.{Stepped}
+use Rattle.trace.specs.declared.Move.{Move}
+use Rattle.replay_step.specs.declared.words.Halt.{Halt}
+use Rattle.replay_step.specs.declared.words.Halt.TheVariants.{Stuck, Past}
 use Rattle.replay_engine.specs.Steps.{stepped}
 use Rattle.replay_engine.specs.Races.{lowest_pair}
 use Rattle.replay_theory.specs.declared.Ending.{Ending}
 use Rattle.replay_theory.specs.declared.Ending.TheVariants.{TraceForm, NoStep, PastLimit}
-use Rattle.replay_theory.specs.declared.FirstRace.{FirstRace}
+use Rattle.replay_theory.specs.declared.Race.{Race}
 use Rattle.replay_theory.specs.declared.Replayed.{Replayed}
 use Rattle.replay_machine.specs.Replay.{Replay, or_race, ended, play_from}
 use Rattle.replay_simulation.proofs.Holds.{Holds}
-use Rattle.replay_simulation.proofs.Racing.{pair_decoded}
 use Rattle.replay_simulation.proofs.Posting.{CountsWithin}
 use Rattle.replay_loop.specs.declared.Point.{Point}
-use Rattle.replay_loop.specs.declared.Progress.{Progress}
-use Rattle.replay_loop.specs.declared.Progress.TheVariants.{Stops, Goes}
 
-unfoldable pub race_after : (p s : List ℕ) (count : ℕ) → FirstRace → (state : ℕ) → FirstRace
-race_after p s n race k = or_race race k (pair_decoded (lowest_pair p s n))
+unfoldable pub race_after : (p s : List ℕ) (count : ℕ) → Option Race → (state : ℕ) → Option Race
+race_after p s n race k = or_race race k (lowest_pair p s n)
 
 unfoldable pub stopped_by : Point → Ending → Point
-stopped_by q e = record { progress = Stops e; threads = q.threads; at = q.at; steps = q.steps; race = q.race }
+stopped_by q e = record { ending = Some e; threads = q.threads; at = q.at; steps = q.steps; race = q.race }
 
 -- a step is done: what the space and the records are after it
 abbrev pub point_after : (p s : List ℕ) → Threads → (at : ℕ) → Point → Point
-point_after p s T at q = record { progress = Goes; threads = T; at = at; steps = q.steps + 1; race = race_after p s T.count q.race (q.steps + 1) }
+point_after p s T at q = record { ending = None; threads = T; at = at; steps = q.steps + 1; race = race_after p s T.count q.race (q.steps + 1) }
 
-unfoldable pub by_outcome : Outcome → (p s : List ℕ) → Threads → Point → (next : ℕ) → Point
-by_outcome Moved p s T q next = point_after p s T next q
-by_outcome Stuck p s T q next = stopped_by q (NoStep (q.steps + 1))
-by_outcome Past p s T q next = stopped_by q (PastLimit (q.steps + 1))
+unfoldable pub by_outcome : Result Threads Halt → (p s : List ℕ) → Point → (next : ℕ) → Point
+by_outcome (Ok T) p s q next = point_after p s T next q
+by_outcome (Err Stuck) p s q next = stopped_by q (NoStep (q.steps + 1))
+by_outcome (Err Past) p s q next = stopped_by q (PastLimit (q.steps + 1))
 
-unfoldable pub after_step : (p : List ℕ) → Point → (next : ℕ) → Stepped × List ℕ → Point × List ℕ
-after_step p q next (r, s) = (by_outcome r.outcome p s r.threads q next, s)
+unfoldable pub after_step : (p : List ℕ) → Point → (next : ℕ) → Result Threads Halt × List ℕ → Point × List ℕ
+after_step p q next (r, s) = (by_outcome r p s q next, s)
 
-unfoldable pub line_done : (p s : List ℕ) → Point → TraceLine → Point × List ℕ
-line_done p s q (Move t c next) = after_step p q next (stepped p s q.threads t c)
-line_done p s q Malformed = (stopped_by q (TraceForm (q.steps + 1)), s)
+unfoldable pub line_done : (p s : List ℕ) → Point → Option Move → Point × List ℕ
+line_done p s q (Some m) = after_step p q m.next (stepped p s q.threads m.thread m.choice)
+line_done p s q None = (stopped_by q (TraceForm (q.steps + 1)), s)
 
 -- ------------------------------------------------------------------ what the numbers stand for
 
@@ -53,7 +48,7 @@ pub record Steady (piece : List ℕ) (q : Point) : Type 0 where
 
 -- the numbers hold a run of the machine; what is left of the piece, and whatever lines come behind it, come to what `whole` says of those lines
 pub record LoopPre (whole : List Line → Replayed) (p s piece : List ℕ) (q : Point) : Type 0 where
-  pub going : q.progress ≡ Goes
+  pub going : q.ending ≡ None
   pub run : Replay
   pub held : Holds p s q.threads run
   pub counts : CountsWithin q.steps run.machine.names
@@ -66,6 +61,6 @@ pub record GoesTo (whole : List Line → Replayed) (p s : List ℕ) (q : Point) 
   pub counts : CountsWithin q.steps run.machine.names
   pub comes_to : (ls : List Line) → play_from q.steps q.race run ls ≡ whole ls
 
-abbrev pub LoopPost : Progress → (whole : List Line → Replayed) (p s : List ℕ) → Point → Type 0
-LoopPost (Stops e) whole p s q = (ls : List Line) → ended e q.steps q.race ≡ whole ls
-LoopPost Goes whole p s q = GoesTo whole p s q
+abbrev pub LoopPost : Option Ending → (whole : List Line → Replayed) (p s : List ℕ) → Point → Type 0
+LoopPost (Some e) whole p s q = (ls : List Line) → ended e q.steps q.race ≡ whole ls
+LoopPost None whole p s q = GoesTo whole p s q

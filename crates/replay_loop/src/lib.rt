@@ -9,135 +9,98 @@ ghost use Rattle.replay_engine.specs.Steps.{stepped};
 ghost use Rattle.replay_theory.specs.declared.Replayed.{Replayed as Whole};
 ghost use Rattle.replay_loop.specs.Play.{race_after, stopped_by, after_step, line_done, Steady, LoopPre, LoopPost};
 
-use replay_engine::{Outcome, Pair};
-use replay_theory::{Ending, FirstRace};
+use replay_engine::Halt;
+use replay_theory::{Ending, Race};
 use threads::Threads;
-use trace::TraceLine;
+use trace::Move;
 
-// Whether a run goes on, or what has stopped it.
+// A run between two lines of its trace: what has stopped it, unless it goes on; its threads, the byte of the next line in the piece at
+// hand, the steps done and the first race so far, both counted from the start of the trace.
 #[derive(Clone, Copy)]
-pub enum Progress {
-    Goes,
-    Stops(Ending),
-}
-
-// A run between two lines of its trace: its threads, the byte of the next line in the piece at hand, the steps done and the first race
-// so far, both counted from the start of the trace.
-#[derive(Drop)]
 pub struct Point {
-    pub progress: Progress,
+    pub ending: Option<Ending>,
     pub threads: Threads,
     pub at: usize,
     pub steps: usize,
-    pub race: FirstRace,
+    pub race: Option<Race>,
 }
 
-// The first race so far, once the state of that number is looked at; it has so many threads.
+// The first race so far, once the state of that number is looked at, which has `count` threads.
+#[tactic(auto, unfolding(crate::specs::Play::race_after, replay_machine::specs::Replay::or_race, replay_theory::specs::Replay::race_or))]
 pub fn race_after(
     program: &[u32],
     space: &[u32],
     count: u32,
-    race: FirstRace,
+    race: Option<Race>,
     state: usize,
-) -> FirstRace
-    requires { count ≤ 16 }
+) -> Option<Race>
     ensures { result ≡ race_after program.now space.now count race state }
 {
-    match race {
-        FirstRace::Found {
-            state: _,
-            lower: _,
-            other: _,
-        } => race,
-        FirstRace::None => match replay_engine::lowest_pair(program, space, count) {
-            Pair::None => FirstRace::None,
-            Pair::Of(i, j) => FirstRace::Found {
-                state,
-                lower: i,
-                other: j,
-            },
-        },
+    if race.is_some() {
+        return race;
     }
+    let (lower, other) = replay_engine::lowest_pair(program, space, count)?;
+    Some(Race {
+        state,
+        lower,
+        other,
+    })
 }
 
 // The same run, stopped.
+#[tactic(auto, unfolding(crate::specs::Play::stopped_by))]
 fn stopped(p: Point, ending: Ending) -> Point
     ensures { result ≡ stopped_by p ending }
 {
-    let threads = p.threads;
-    let at = p.at;
-    let steps = p.steps;
-    let race = p.race;
-    let progress = Progress::Stops(ending);
     Point {
-        progress,
-        threads,
-        at,
-        steps,
-        race,
+        ending: Some(ending),
+        ..p
     }
 }
 
-// A line that lists that thread and that choice; the line behind it begins at the byte `next`.
-fn move_on(
-    program: &[u32],
-    space: &mut [u32],
-    p: Point,
-    thread: u32,
-    choice: u32,
-    next: usize,
-) -> Point
+// A line that lists that move.
+#[tactic(auto, unfolding(crate::specs::Play::after_step, crate::specs::Play::by_outcome))]
+fn move_on(program: &[u32], space: &mut [u32], p: Point, m: Move) -> Point
     requires { (p.steps < 18446744073709551615) × (p.threads.count ≤ 16) }
-    ensures { after_step program.now p next (stepped program.now space.old p.threads thread choice) ≡ (result, space.new) }
+    ensures { after_step program.now p m.next (stepped program.now space.old p.threads m.thread m.choice) ≡ (result, space.new) }
 {
     let line = p.steps + 1;
-    let before = p.race;
-    let done = replay_engine::step(program, space, p.threads, thread, choice);
-    let threads = done.threads;
-    let outcome = done.outcome;
-    match outcome {
-        Outcome::Moved => {
-            let count = threads.count as u32;
-            let race = race_after(program, space, count, before, line);
-            Point {
-                progress: Progress::Goes,
-                threads,
-                at: next,
-                steps: line,
-                race,
-            }
-        }
-        Outcome::Stuck => stopped(p, Ending::NoStep(line)),
-        Outcome::Past => stopped(p, Ending::PastLimit(line)),
+    match replay_engine::step(program, space, p.threads, m.thread, m.choice) {
+        Ok(threads) => Point {
+            ending: None,
+            threads,
+            at: m.next,
+            steps: line,
+            race: race_after(program, space, threads.count as u32, p.race, line),
+        },
+        Err(Halt::Stuck) => stopped(p, Ending::NoStep(line)),
+        Err(Halt::Past) => stopped(p, Ending::PastLimit(line)),
     }
 }
 
 // The next line.
+#[tactic(auto, unfolding(crate::specs::Play::line_done))]
 fn next_line(program: &[u32], space: &mut [u32], piece: &[u8], p: Point) -> Point
     requires { (p.at ≤ length piece.now) × (p.steps < 18446744073709551615) × (p.threads.count ≤ 16) }
     ensures { line_done program.now space.old p (move_in (length piece.now) (line_at (drop p.at piece.now))) ≡ (result, space.new) }
 {
     let line = p.steps + 1;
     match trace::line_at(piece, p.at) {
-        TraceLine::Move(thread, choice, next) => move_on(program, space, p, thread, choice, next),
-        TraceLine::Malformed => stopped(p, Ending::TraceForm(line)),
+        Some(m) => move_on(program, space, p, m),
+        None => stopped(p, Ending::TraceForm(line)),
     }
 }
 
 // The lines of the piece from there on, until one stops the run.
 pub fn play(program: &[u32], space: &mut [u32], piece: &[u8], start: Point) -> Point
     requires { Steady piece.now start }
-    ensures { (whole : List Line → Whole) → LoopPre whole program.now space.old piece.now start → LoopPost result.progress whole program.now space.new result }
+    ensures { (whole : List Line → Whole) → LoopPre whole program.now space.old piece.now start → LoopPost result.ending whole program.now space.new result }
 {
     let mut p = start;
     while p.at < piece.len() {
         p = next_line(program, space, piece, p);
-        let progress = p.progress;
-        match progress {
-            Progress::Stops(_) => {
-                return p;
-            }
-            Progress::Goes => {}
+        if p.ending.is_some() {
+            return p;
         }
     }
     p

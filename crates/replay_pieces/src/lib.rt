@@ -13,23 +13,16 @@ ghost use Rattle.replay_kept.specs.Kept.{kept_size, told_numbers};
 ghost use Rattle.replay_pieces.specs.Pieces.{roomy as roomy_for, answer_number, FrontUsed, RunIn, KeptRun};
 
 use replay_control::layout::PROGRAM;
-use replay_kept::{GOES, KEPT, Told, at, short_told, told_in};
+use replay_kept::{GOES, KEPT, Told, short_told, told_in};
 use runs::{keep, point_in};
 
 // The number of the answer where a buffer is too short.
 const SHORT: u32 = 1;
 
-// Whether the buffers of the job and of the run are long enough.
-fn roomy(job: &[u32], run: &[u64]) -> bool
-    ensures { result ≡ roomy_for job.now run.now }
-{
-    PROGRAM <= job.len() && KEPT <= run.len()
-}
-
 // Begins in a job and a run of just the size.
-fn begin_in(program: &[u8], job: &mut [u32], space: &mut [u32], run: &mut [u64]) -> u32
-    requires { (length job.old ≡ job_size) × (length run.old ≡ kept_size) }
-    ensures { RunIn program.now [] job.new space.new run.new × (result ≡ answer_number (length space.old) program.now []) × (length space.old < replay_space → space.new ≡ space.old) × FrontUsed replay_space space.old space.new }
+fn begin_in(program: &[u8], job: &mut [u32], space: &mut [u32], run: &mut [u64; KEPT]) -> u32
+    requires { length job.old ≡ job_size }
+    ensures { RunIn program.now [] job.new space.new run.new × (result ≡ answer_number (length space.old) program.now []) × (length space.old < replay_space → space.new ≡ space.old) × FrontUsed replay_space space.old space.new × (length run.new ≡ kept_size) }
 {
     let point = replay::begin(program, job, space);
     keep(run, point)
@@ -51,24 +44,23 @@ pub fn begin(program: &[u8], job: &mut [u32], space: &mut [u32], run: &mut [u64]
     ensures kept { length space.old < replay_space → space.new ≡ space.old }
     ensures free { FrontUsed job_size job.old job.new × FrontUsed replay_space space.old space.new × FrontUsed kept_size run.old run.new }
 {
-    if roomy(job, run) {
-        return begin_in(program, &mut job[..PROGRAM], space, &mut run[..KEPT]);
+    if job.len() < PROGRAM {
+        return SHORT;
     }
-    SHORT
+    match run.first_chunk_mut() {
+        Some(run) => begin_in(program, &mut job[..PROGRAM], space, run),
+        None => SHORT,
+    }
 }
 
 // Goes on with the lines of a piece, in a job and a run of just the size. A run that has stopped stays as it is.
-fn go_on(job: &[u32], space: &mut [u32], run: &mut [u64], piece: &[u8]) -> u32
-    requires { length run.old ≡ kept_size }
-    ensures { ((program trace : List ℕ) → RunIn program trace job.now space.old run.old → ends_line trace ≡ true → (replayed (length space.old) program trace).report.steps + length piece.now < 18446744073709551616 → RunIn program (trace ++ piece.now) job.now space.new run.new × (result ≡ answer_number (length space.old) program (trace ++ piece.now))) × (length space.old < replay_space → space.new ≡ space.old) × FrontUsed replay_space space.old space.new }
+fn go_on(job: &[u32], space: &mut [u32], run: &mut [u64; KEPT], piece: &[u8]) -> u32
+    ensures { ((program trace : List ℕ) → RunIn program trace job.now space.old run.old → ends_line trace ≡ true → (replayed (length space.old) program trace).report.steps + length piece.now < 18446744073709551616 → RunIn program (trace ++ piece.now) job.now space.new run.new × (result ≡ answer_number (length space.old) program (trace ++ piece.now))) × (length space.old < replay_space → space.new ≡ space.old) × FrontUsed replay_space space.old space.new × (length run.new ≡ kept_size) }
 {
-    if at(run, GOES) == 0 {
-        let told = told_in(run);
-        let ending = told.ending;
-        return ending.number;
+    if run[GOES] == 0 {
+        return told_in(run).ending.number;
     }
-    let point = point_in(run);
-    let after = replay::more(job, space, point, piece);
+    let after = replay::more(job, space, point_in(run), piece);
     keep(run, after)
 }
 
@@ -88,10 +80,13 @@ pub fn more(job: &[u32], space: &mut [u32], run: &mut [u64], piece: &[u8]) -> u3
     ensures kept { length space.old < replay_space → space.new ≡ space.old }
     ensures free { FrontUsed replay_space space.old space.new × FrontUsed kept_size run.old run.new }
 {
-    if roomy(job, run) {
-        return go_on(&job[..PROGRAM], space, &mut run[..KEPT], piece);
+    if job.len() < PROGRAM {
+        return SHORT;
     }
-    SHORT
+    match run.first_chunk_mut() {
+        Some(run) => go_on(&job[..PROGRAM], space, run, piece),
+        None => SHORT,
+    }
 }
 
 // What a run tells:
@@ -103,8 +98,8 @@ pub fn told(run: &[u64]) -> Told
     ensures short { length run.now < kept_size → result ≡ told_numbers (refused_by ShortWorkspace) }
     ensures unchanged { run.exit.now ≡ run.entry.now }
 {
-    if run.len() < KEPT {
-        return short_told();
+    match run.first_chunk() {
+        Some(run) => told_in(run),
+        None => short_told(),
     }
-    told_in(&run[..KEPT])
 }

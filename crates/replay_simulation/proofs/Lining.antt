@@ -11,15 +11,14 @@ use Rattle.spec.specs.Reading.{program_sheet, good, Place, passed, next_line, nu
 use Rattle.lexer.specs.Views.{line_at}
 use Rattle.lexer.specs.Numbers.{stored}
 use Rattle.lexer.proofs.Lines.{next_open, next_closed}
-use Rattle.trace.specs.declared.TraceLine.{TraceLine as LineRead}
-use Rattle.trace.specs.declared.TraceLine.TheVariants as line
+use Rattle.trace.specs.declared.Move.{Move}
 use Rattle.trace.specs.Lines.{move_of, move_in}
 use Rattle.replay_theory.specs.Trace.{TraceLine, two_numbers, spelled, trace_line}
 
 -- what the code hands back for a line that lists a move, or none; `next` is the byte behind it
-abbrev pub line_is : Option TraceLine → (next : ℕ) → LineRead
-line_is None next = line.Malformed
-line_is (Some l) next = line.Move (stored l.thread) (stored l.choice) next
+abbrev pub line_is : Option TraceLine → (next : ℕ) → Option Move
+line_is None next = None
+line_is (Some l) next = Some (record { thread = stored l.thread; choice = stored l.choice; next = next })
 
 numbers_decodes : (o : Option (List ℕ)) (next : ℕ) → move_of o next ≡ line_is (spelled o) next
 unfolding move_of spelled two_numbers
@@ -47,7 +46,7 @@ stopped (Ok x) = 0
 
 -- the first of the lines of t, and those behind it, in a text of n bytes
 pub data LineDecoded (t : List ℕ) (l : Line) (ls : List Line) (n : ℕ) : Type 0 where
-  open_line : move_in n (line_at t) ≡ line.Malformed → trace_line l ≡ None → LineDecoded t l ls n
+  open_line : move_in n (line_at t) ≡ None → trace_line l ≡ None → LineDecoded t l ls n
   shut_line : (fs : List Field) (r : List ℕ) → line_at t ≡ Some (fs, r) → move_in n (line_at t) ≡ line_is (trace_line l) (n - length r) → lines r ≡ ls → LineDecoded t l ls n
 
 pub line_decodes : (t : List ℕ) (l : Line) (ls : List Line) (n : ℕ) → lines t ≡ l ∷ ls → LineDecoded t l ls n

@@ -1,26 +1,9 @@
--- By the answer of the step.
+-- There is room for the threads after a step.
 use native.Mathlib.Omega.{arith}
 use Rattle.replay_engine.proofs.Counting.{stepped_few}
-use Rattle.replay_loop.proofs.Moves.{few_left, after_moved, after_stuck, after_past}
 use Rattle.replay_loop.proofs.move_on.Goals as goal
 
-pub overflow_cast-count : goal.overflow_cast-count
-overflow_cast-count c =
-    let low = few_left c.step-done.ensures (stepped_few _ _ _ _ _ c.requires.1) in
-    omega (arith, low)
-
-pub race_after-race-requires : goal.race_after-race-requires
-race_after-race-requires c =
-    few_left c.step-done.ensures (stepped_few _ _ _ _ _ c.requires.1)
-
-pub returns-in-Moved : goal.returns-in-Moved
-returns-in-Moved c =
-    after_moved _ _ _ _ _ _ c.step-done.ensures c.in-Moved.is c.race_after-race.ensures
-
-pub returns-in-Stuck : goal.returns-in-Stuck
-returns-in-Stuck c =
-    after_stuck _ _ _ _ _ _ c.step-done.ensures c.in-Stuck.is c.stopped.ensures
-
-pub returns-in-Past : goal.returns-in-Past
-returns-in-Past c =
-    after_past _ _ _ _ _ _ c.step-done.ensures c.in-Past.is c.stopped-in-Past.ensures
+pub overflow_cast-threads : goal.overflow_cast-threads
+overflow_cast-threads c =
+    let few = rw (c.step.ensures, c.in-Ok.is) at (stepped_few c.args.program.now c.args.space.now c.args.p.threads c.args.m.thread c.args.m.choice c.requires.1) in
+    omega (arith, few)

@@ -6,5 +6,5 @@ pub returns : goal.returns
 returns c =
     let begun = c.begin-point.ensures in
     let (long, behind) = begun.free in
-    let (run, number) = run_in _ _ _ _ _ _ _ _ long (begun.begun c.requires.0) c.keep.ensures in
-    (run, number, begun.kept, record { long = long; behind = behind })
+    let (run, number) = run_in _ _ _ _ _ _ _ _ long (begun.begun c.requires) c.keep.ensures in
+    (run, number, begun.kept, record { long = long; behind = behind }, c.keep.array_long)

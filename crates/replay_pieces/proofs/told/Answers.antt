@@ -1,25 +1,13 @@
 -- A run that is too short holds none; of another the numbers are told.
-use mathlib.Core.Path.{refl, sym, ◌∙◌}
-use native.Mathlib.Omega.{arith}
-use lib.Seq.{length-take-le}
-use Rattle.replay_kept.specs.Kept.{kept_size}
+use mathlib.Core.Logic.{inr}
+use mathlib.Core.Path.{◌∙◌}
 use Rattle.replay_pieces.proofs.Resuming.{answer_in}
-use Rattle.replay_pieces.proofs.Lending.{room_there}
+use Rattle.replay_pieces.proofs.Lending.{no_room}
 use Rattle.replay_pieces.proofs.told.Goals as goal
 
-pub returns-then-run-lt-KEPT : goal.returns-then-run-lt-KEPT
-returns-then-run-lt-KEPT c = record {
-  answer = λ program trace job space K. absurd (let fits = (room_there job _ K.room).1 in let t = c.if-run-lt-KEPT.true in omega (arith, fits, t));
-  short = λ l. c.short_told.ensures;
-  unchanged = refl;
-}
+pub returns-in-None-clause-answer : goal.returns-in-None-clause-answer
+returns-in-None-clause-answer c = λ program trace job space K. no_room _ _ (inr c.in-None.ensures.cases) K.room
 
-pub slice_bounds-told_in-end : goal.slice_bounds-told_in-end
-slice_bounds-told_in-end c = sym (length-take-le kept_size c.args.run.now c.if-run-lt-KEPT.false)
-
-pub returns : goal.returns
-returns c = record {
-  answer = λ program trace job space K. c.told_in.ensures ∙ answer_in program trace _ space _ K.held;
-  short = λ l. absurd (let t = c.if-run-lt-KEPT.false in omega (arith, l, t));
-  unchanged = refl;
-}
+pub returns-in-Some-clause-answer : goal.returns-in-Some-clause-answer
+returns-in-Some-clause-answer c = λ program trace job space K. 
+    c.told_in.ensures ∙ rw c.in-Some.ensures.cases.same (answer_in program trace _ space _ K.held)

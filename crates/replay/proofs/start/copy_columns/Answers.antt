@@ -1,16 +1,18 @@
-use mathlib.Core.Path.{sym, ◌∙◌}
-use Rattle.replay.proofs.Copying.{copy_none, copy_more, copy_all}
+use mathlib.Core.Path.{refl, sym, ◌∙◌}
+use native.Mathlib.Omega.{arith}
+use Rattle.replay_control.specs.Layout.{continuations_at}
+use Rattle.replay.proofs.Copying.{front_long, columns_copied}
 use Rattle.replay.proofs.start.copy_columns.Goals as goal
 
-pub loop-i-init : goal.loop-i-init
-loop-i-init c = copy_none _ _ c.requires
+pub slice_bounds-copy_from_slice-end-2 : goal.slice_bounds-copy_from_slice-end-2
+slice_bounds-copy_from_slice-end-2 c = front_long continuations_at refl c.args.columns.now (omega (arith, c.requires.0))
 
-pub loop-i-preserved : goal.loop-i-preserved
-loop-i-preserved c =
-    copy_more _ _ _ _ c.loop-i-test.true c.loop-i.invariant c.at-v.ensures c.put.ensures
+pub slice_bounds-copy_from_slice-end-3 : goal.slice_bounds-copy_from_slice-end-3
+slice_bounds-copy_from_slice-end-3 c = front_long continuations_at refl c.args.space.now (omega (arith, c.requires.1))
 
-pub shape_of-columns : goal.shape_of-columns
-shape_of-columns c = c.loop-i.invariant.long ∙ sym c.requires
+pub copy_from_slice-requires : goal.copy_from_slice-requires
+copy_from_slice-requires c =
+    sym (front_long continuations_at refl c.args.columns.now (omega (arith, c.requires.0))) ∙ front_long continuations_at refl c.args.space.now (omega (arith, c.requires.1))
 
 pub returns : goal.returns
-returns c = copy_all _ _ _ c.loop-i-test.false c.loop-i.invariant
+returns c = columns_copied continuations_at refl _ _ _ c.requires.0 c.requires.1 c.copy_from_slice.ensures.after

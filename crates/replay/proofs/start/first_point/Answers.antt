@@ -4,18 +4,18 @@ use native.Mathlib.Omega.{arith}
 use Rattle.replay.proofs.Starting.{start_count, start_goes}
 use Rattle.replay.proofs.start.first_point.Goals as goal
 
-pub overflow_cast-count : goal.overflow_cast-count
-overflow_cast-count c =
+pub overflow_cast-threads : goal.overflow_cast-threads
+overflow_cast-threads c =
     let low = start_count _ _ c.requires.long c.requires.listed c.requires.stands _ _ c.start-threads.ensures in
     omega (arith, low)
 
-pub race_after-race-requires : goal.race_after-race-requires
-race_after-race-requires c =
+pub race_after-requires : goal.race_after-requires
+race_after-requires c =
     start_count _ _ c.requires.long c.requires.listed c.requires.stands _ _ c.start-threads.ensures
 
 pub returns : goal.returns
 returns c = (
   λ P A.
-      start_goes _ _ c.requires.long P A _ _ c.start-threads.ensures c.race_after-race.ensures,
+      start_goes _ _ c.requires.long P A _ _ c.start-threads.ensures c.race_after.ensures,
   refl,
 )

@@ -7,7 +7,7 @@ use Rattle.replay_pieces.proofs.runs.keep.Goals as goal
 
 pub returns : goal.returns
 returns c =
-    let told = c.numbers_told-told.ensures ∙ ap told_numbers c.told.ensures.said in (
-      keeps _ _ _ c.goes_number-goes.ensures told c.raced_number-raced.ensures c.keep_records.ensures.0 c.keep_front.ensures,
+    let told = c.from-told.ensures ∙ ap told_numbers c.told.ensures.said in (
+      keeps c.args.p _ _ c.is_none.ensures told c.is_some.ensures c.keep_records.ensures.0 c.keep_front.ensures,
       ap (λ (t : Told). t.ending.number) told,
     )
