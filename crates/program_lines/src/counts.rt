@@ -1,9 +1,12 @@
 // Line 1 of a program sheet: its heading, and the numbers of steps and of procedures.
-ghost use Rattle.std.specs.Prelude.{◌≤◌, length};
-ghost use Rattle.spec.specs.declared.ProgramHeading.TheVariants.{P, P2};
-ghost use Rattle.program_lines.specs.Lines.{HeadedAt, CountShown};
+ghost use Rattle.std.specs.Prelude.{◌≡◌, ◌≤◌, length};
+ghost use Rattle.spec.specs.Text.{look_up};
+ghost use Rattle.spec.specs.Program.{program_headings};
+ghost use Rattle.lexer.specs.Cursors.{Placed};
+ghost use Rattle.program_lines.specs.Lines.{CountsAfter, CountShown};
 
-use crate::tails::{Pair, Tail, last_number, last_pair};
+use crate::tails::{last_number, last_pair};
+use keywords::spelled;
 use lexer::{Cursor, Span};
 use spec::{ProgramHeading, Refusal};
 
@@ -13,71 +16,59 @@ const STEP_LIMIT: u32 = 256;
 // The most procedures that a program may have.
 const PROCEDURE_LIMIT: u32 = 16;
 
-// The heading, the numbers of steps and of procedures, and the cursor behind line 1; or the refusal of that line.
-#[derive(Drop)]
-pub enum CountLine {
-    Count(ProgramHeading, u32, u32, Cursor),
-    Refused(Refusal),
+// What line 1 says, and the cursor after it.
+#[derive(Clone, Copy, PartialEq, Eq)]
+pub struct CountLine {
+    pub heading: ProgramHeading,
+    pub steps: u32,
+    pub procedures: u32,
+    pub next: Cursor,
 }
 
-// Line 1 with the heading `P`: `P,n`.
-fn plain_count(text: &[u8], top: Cursor, field: Span) -> CountLine
-    requires { HeadedAt text.now top field P }
-    ensures { CountShown text.now result }
+// The heading that a field spells.
+fn heading_of(field: &[u8]) -> Option<ProgramHeading>
+    ensures { result ≡ look_up program_headings field.now }
 {
-    let end = field.end;
-    let next = field.next;
-    let Tail::Value(n, behind) = last_number(text, end, next) else {
-        return CountLine::Refused(Refusal::ProgramForm(1));
-    };
-    if n < 1 {
-        return CountLine::Refused(Refusal::ProgramRange(1));
-    }
-    if STEP_LIMIT < n {
-        return CountLine::Refused(Refusal::ProgramRange(1));
-    }
-    CountLine::Count(ProgramHeading::P, n, 0, behind)
+    spelled(field, b"P", ProgramHeading::P).or(spelled(field, b"P2", ProgramHeading::P2))
 }
 
-// Line 1 with the heading `P2`: `P2,n,k`.
-fn full_count(text: &[u8], top: Cursor, field: Span) -> CountLine
-    requires { HeadedAt text.now top field P2 }
-    ensures { CountShown text.now result }
+// The numbers of steps and of procedures after the heading, `P,n` or `P2,n,k`, and the cursor after the line.
+fn counts_after(text: &[u8], field: Span, heading: ProgramHeading) -> Option<(u32, u32, Cursor)>
+    requires { Placed text.now field.next }
+    ensures { CountsAfter text.now field heading result }
 {
-    let end = field.end;
-    let next = field.next;
-    let Pair::Values(n, k, behind) = last_pair(text, end, next) else {
-        return CountLine::Refused(Refusal::ProgramForm(1));
-    };
-    if n < 1 {
-        return CountLine::Refused(Refusal::ProgramRange(1));
+    match heading {
+        ProgramHeading::P => {
+            let (steps, next) = last_number(text, field)?;
+            Some((steps, 0, next))
+        }
+        ProgramHeading::P2 => last_pair(text, field),
     }
-    if STEP_LIMIT < n {
-        return CountLine::Refused(Refusal::ProgramRange(1));
-    }
-    if PROCEDURE_LIMIT < k {
-        return CountLine::Refused(Refusal::ProgramRange(1));
-    }
-    CountLine::Count(ProgramHeading::P2, n, k, behind)
 }
 
 // Line 1, `P,n` or `P2,n,k`.
-pub fn count_line(text: &[u8]) -> CountLine
+pub fn count_line(text: &[u8]) -> Result<CountLine, Refusal>
     requires { length text.now ≤ 16384 }
     ensures { CountShown text.now result }
 {
     let top = Cursor::start();
     if top.at_end(text) {
-        return CountLine::Refused(Refusal::ProgramForm(1));
+        return Err(Refusal::ProgramForm(1));
     }
     let field = top.field(text);
-    let from = field.from;
-    let to = field.to;
-    if keywords::same(b"P", &text[from..to]) {
-        return plain_count(text, top, field);
+    let Some(heading) = heading_of(&text[field.from..field.to]) else {
+        return Err(Refusal::ProgramForm(1));
+    };
+    let Some((steps, procedures, next)) = counts_after(text, field, heading) else {
+        return Err(Refusal::ProgramForm(1));
+    };
+    if steps < 1 || STEP_LIMIT < steps || PROCEDURE_LIMIT < procedures {
+        return Err(Refusal::ProgramRange(1));
     }
-    if keywords::same(b"P2", &text[from..to]) {
-        return full_count(text, top, field);
-    }
-    CountLine::Refused(Refusal::ProgramForm(1))
+    Ok(CountLine {
+        heading,
+        steps,
+        procedures,
+        next,
+    })
 }
