@@ -1,16 +1,15 @@
--- The lines behind line 1 of a program sheet at the cursor.
-use Rattle.std.proofs.Common.{Option, None, Some, Ok, Err}
+-- The lines after line 1 of a program sheet at the cursor.
+use Rattle.std.proofs.Common.{None, Ok, Err}
 use mathlib.Core.Path.{◌≡◌, refl, sym, ap, ◌∙◌}
-use mathlib.Core.Bool.{Bool, true, false}
+use mathlib.Core.Bool.{Bool, true, false, and-false}
 use mathlib.Core.List.{List, [], ◌∷◌}
-use Prim.Native.Nat.{ℕ, ◌+◌, ◌-◌, ◌<◌, ◌≤◌}
+use Prim.Native.Nat.{ℕ, ◌+◌, ◌<◌, ◌≤◌}
 use native.Mathlib.Omega.{arith}
-use lib.ListN.{length, take, drop}
 use borrow.Author.Tests.{le-leb, lt-leb}
 use Rattle.spec.specs.Choice.{when◌then◌else◌}
 use Rattle.spec.specs.Text.{lines, Field, look_up}
 use Rattle.spec.specs.Reading.{program_sheet, good, bad, bad_range, freelock, seen, refuse_after, ◌to◌, in_range, numbers, form, outside, miscounted, faulty, passed, read_line, or_bad_form}
-use Rattle.spec.specs.Expression.{Step, step, proc}
+use Rattle.spec.specs.Expression.{Step as Step_of, step, proc}
 use Rattle.spec.specs.Program.{step_of, word_line, proc_of, proc_line, item_line}
 use Rattle.spec.specs.Words.{calls, words_under, least_value, largest_value, value_range}
 use Rattle.spec.specs.declared.Refusal.TheVariants.{ProgramForm, ProgramRange, ProgramLines, Freelock}
@@ -22,47 +21,34 @@ use Rattle.spec.specs.declared.LeafWord.TheVariants.{Var, Int, Newtid, Newlock, 
 use Rattle.spec.specs.declared.BinaryWord.TheVariants.{Let, If, Spawn, Write}
 use Rattle.spec.proofs.Seen.{up_to_in, up_to_out}
 use Rattle.lexer.specs.Views.{first_field, text_ended}
-use Rattle.lexer.specs.Cursors.{rest, span_at, place_at}
+use Rattle.lexer.specs.Cursors.{rest, place_at}
 use Rattle.lexer.specs.declared.Cursor.{Cursor}
 use Rattle.lexer.specs.declared.Span.{Span}
-use Rattle.lexer.proofs.Places.{span_field}
 use Rattle.lexer.proofs.Sheets.{next_at_none, passed_at}
 use Rattle.lexer.proofs.Walks.{left_none, left_some, first_wrong}
 use Rattle.lexer.proofs.Stored.{Narrow}
-use Rattle.program_lines.specs.Lines.{TailShown, FreelockAt, ProcAt, StepAt, item_at, StepShown, WordAt}
-use Rattle.program_lines.specs.declared.items.StepLine.TheVariants as step_line
+use Rattle.program_lines.specs.Lines.{NumbersEnd, NumbersLack, FreelockAt, ProcAt, StepAt, item_at, StepShown, WordAt}
+use Rattle.program_lines.specs.declared.items.StepLine.TheVariants.{Step, Proc}
 use Rattle.program_lines.proofs.TailLaws.{tail_line, tail_malformed, tail_shows}
-
--- ------------------------------------------------------------------ the word at a cursor
-
-module _ (ws : List (List ℕ × Word)) (text : List ℕ) (c : Cursor) (s : Span) (is : s ≡ span_at text c) where
-  at_span : look_up ws (first_field (rest text c)) ≡ look_up ws (take (s.to - s.from) (drop s.from text))
-  at_span = ap (look_up ws) (sym (span_field text c s is))
-
-  pub span_spells : (o : Option Word) → o ≡ look_up ws (take (s.to - s.from) (drop s.from text)) → look_up ws (first_field (rest text c)) ≡ o
-  span_spells o e = at_span ∙ sym e
 
 -- ------------------------------------------------------------------ lines with the word freelock
 
 module _ (text : List ℕ) (h : ProgramHeading) (c : Cursor) (s : Span) (f : FreelockAt text c s) where
-  some_line : 0 < length (rest text c)
-  some_line = left_some (rest text c) f.here.left
-
   freelock_shows : (fs : List Field) → item_line h (c.line + 1) (first_field (rest text c) ∷ fs) ≡ refuse_after freelock (numbers ((0 to 0) ∷ []) fs)
   unfolding item_line
   freelock_shows fs = rw f.freelock refl
 
-  pub freelock_malformed : TailShown text s.next s.end None → item_at text h c ≡ Err (ProgramForm (c.line + 1))
+  pub freelock_malformed : NumbersLack text s 1 → item_at text h c ≡ Err (ProgramForm (c.line + 1))
   unfolding item_at read_line place_at refuse_after
   freelock_malformed t =
-      tail_malformed (item_line h (c.line + 1)) (refuse_after freelock) refl (0 to 0) text c s f.here.field f.here.placed some_line freelock_shows t
+      tail_malformed (item_line h (c.line + 1)) (refuse_after freelock) refl (0 to 0) text c s f.here freelock_shows t
 
-  module _ (v : ℕ) (d : Cursor) (t : TailShown text s.next s.end (Some (v, d))) where
+  module _ (v : ℕ) (d : Cursor) (t : NumbersEnd text s (v ∷ []) d) where
     freelock_reads : item_at text h c
         ≡ passed program_sheet (c.line + 1) (lines (rest text d)) (refuse_after freelock (when in_range (0 to 0) v then good (v ∷ []) else bad bad_range))
     unfolding item_at read_line place_at refuse_after
     freelock_reads =
-        tail_shows (item_line h (c.line + 1)) (refuse_after freelock) refl (0 to 0) text c s f.here.field f.here.placed some_line freelock_shows (omega arith) v d t
+        tail_shows (item_line h (c.line + 1)) (refuse_after freelock) refl (0 to 0) text c s f.here freelock_shows (omega arith) v d t
 
     pub freelock_over : 0 < v → item_at text h c ≡ Err (ProgramRange (c.line + 1))
     unfolding faulty passed refuse_after outside
@@ -100,9 +86,9 @@ within_limit : (w : Word) (v : ℕ) → least_value w ≤ v → v ≤ largest_va
 unfolding in_range value_range
 within_limit w v l h = rw (le-leb (least_value w) v l, le-leb v (largest_value w) h) refl
 
-over_limit : (w : Word) (v : ℕ) → least_value w ≤ v → largest_value w < v → in_range (value_range w) v ≡ false
+over_limit : (w : Word) (v : ℕ) → largest_value w < v → in_range (value_range w) v ≡ false
 unfolding in_range value_range
-over_limit w v l h = rw (le-leb (least_value w) v l, lt-leb v (largest_value w) h) refl
+over_limit w v l = rw (lt-leb v (largest_value w) l, and-false) refl
 
 module _ (text : List ℕ) (h : ProgramHeading) (c : Cursor) where
   -- no line is left
@@ -120,22 +106,18 @@ module _ (text : List ℕ) (h : ProgramHeading) (c : Cursor) (s : Span) (w : Wor
   unfolding item_line or_bad_form word_line
   step_shows fs = rw (f.step.other, f.step.plain, f.spelled) refl
 
-  pub step_malformed : TailShown text s.next s.end None → StepShown text h c (Err (ProgramForm (c.line + 1)))
+  pub step_malformed : NumbersLack text s 1 → StepShown text h c (Err (ProgramForm (c.line + 1)))
   unfolding item_at read_line place_at seen
   step_malformed t =
-      tail_malformed (item_line h (c.line + 1)) (seen (step_of (c.line + 1) w)) refl (value_range w) text c s f.step.here.field f.step.here.placed
-      (left_some (rest text c) f.step.here.left)
-      step_shows
+      tail_malformed (item_line h (c.line + 1)) (seen (step_of (c.line + 1) w)) refl (value_range w) text c s f.step.here step_shows
       t
 
-  module _ (v : ℕ) (d : Cursor) (t : TailShown text s.next s.end (Some (v, d))) where
+  module _ (v : ℕ) (d : Cursor) (t : NumbersEnd text s (v ∷ []) d) where
     step_reads : item_at text h c
         ≡ passed program_sheet (c.line + 1) (lines (rest text d)) (seen (step_of (c.line + 1) w) (when in_range (value_range w) v then good (v ∷ []) else bad bad_range))
     unfolding item_at read_line place_at seen
     step_reads =
-        tail_shows (item_line h (c.line + 1)) (seen (step_of (c.line + 1) w)) refl (value_range w) text c s f.step.here.field f.step.here.placed
-        (left_some (rest text c) f.step.here.left)
-        step_shows
+        tail_shows (item_line h (c.line + 1)) (seen (step_of (c.line + 1) w)) refl (value_range w) text c s f.step.here step_shows
         (value_narrow w)
         v
         d
@@ -145,17 +127,17 @@ module _ (text : List ℕ) (h : ProgramHeading) (c : Cursor) (s : Span) (w : Wor
     unfolding faulty passed seen outside
     step_under l = step_reads ∙ rw (under_least w v l) refl
 
-    pub step_over : least_value w ≤ v → largest_value w < v → StepShown text h c (Err (ProgramRange (c.line + 1)))
+    pub step_over : largest_value w < v → StepShown text h c (Err (ProgramRange (c.line + 1)))
     unfolding faulty passed seen outside
-    step_over l m = step_reads ∙ rw (over_limit w v l m) refl
+    step_over l = step_reads ∙ rw (over_limit w v l) refl
 
-    pub step_right : least_value w ≤ v → v ≤ largest_value w → StepShown text h c (Ok (step_line.Step w v d))
+    pub step_right : least_value w ≤ v → v ≤ largest_value w → StepShown text h c (Ok (Step w v d))
     unfolding seen step_of
     step_right l m =
-        let line = tail_line text c s f.step.here.field d t.0 t.3 in
-        let one : Step = record { word = w; value = v; line = c.line + 1 } in
+        let line = tail_line text c f.step.here.field t in
+        let one : Step_of = record { word = w; value = v; line = c.line + 1 } in
         let told : item_at text h c ≡ Ok (step one, place_at text d) = step_reads ∙ rw (within_limit w v l m) (passed_at program_sheet text (step one) c d line) in
-        (told ∙ ap (λ i. Ok (step (record { word = w; value = v; line = i }), place_at text d)) (sym line), m, t.2, line)
+        (told ∙ ap (λ i. Ok (step (record { word = w; value = v; line = i }), place_at text d)) (sym line), m, t.placed, line)
 
 -- ------------------------------------------------------------------ `proc` lines
 
@@ -171,22 +153,18 @@ module _ (text : List ℕ) (c : Cursor) (s : Span) (f : ProcAt text c s) where
     unfolding item_line proc_line
     proc_shows fs = rw (f.other, f.proc, e) refl
 
-    pub proc_malformed : TailShown text s.next s.end None → StepShown text h c (Err (ProgramForm (c.line + 1)))
+    pub proc_malformed : NumbersLack text s 1 → StepShown text h c (Err (ProgramForm (c.line + 1)))
     unfolding item_at read_line place_at seen
     proc_malformed t =
-        tail_malformed (item_line h (c.line + 1)) (seen (proc_of (c.line + 1))) refl (0 to 255) text c s f.here.field f.here.placed
-        (left_some (rest text c) f.here.left)
-        proc_shows
+        tail_malformed (item_line h (c.line + 1)) (seen (proc_of (c.line + 1))) refl (0 to 255) text c s f.here proc_shows
         t
 
-    module _ (x : ℕ) (d : Cursor) (t : TailShown text s.next s.end (Some (x, d))) where
+    module _ (x : ℕ) (d : Cursor) (t : NumbersEnd text s (x ∷ []) d) where
       proc_reads : item_at text h c
           ≡ passed program_sheet (c.line + 1) (lines (rest text d)) (seen (proc_of (c.line + 1)) (when in_range (0 to 255) x then good (x ∷ []) else bad bad_range))
       unfolding item_at read_line place_at seen
       proc_reads =
-          tail_shows (item_line h (c.line + 1)) (seen (proc_of (c.line + 1))) refl (0 to 255) text c s f.here.field f.here.placed
-          (left_some (rest text c) f.here.left)
-          proc_shows
+          tail_shows (item_line h (c.line + 1)) (seen (proc_of (c.line + 1))) refl (0 to 255) text c s f.here proc_shows
           (omega arith)
           x
           d
@@ -196,9 +174,9 @@ module _ (text : List ℕ) (c : Cursor) (s : Span) (f : ProcAt text c s) where
       unfolding faulty passed seen outside
       proc_over l = proc_reads ∙ rw (up_to_out 255 x l) refl
 
-      pub proc_right : x ≤ 255 → StepShown text h c (Ok (step_line.Proc x d))
+      pub proc_right : x ≤ 255 → StepShown text h c (Ok (Proc x d))
       unfolding seen proc_of
       proc_right l =
-          let line = tail_line text c s f.here.field d t.0 t.3 in
+          let line = tail_line text c f.here.field t in
           let told : item_at text h c ≡ Ok (proc x (c.line + 1), place_at text d) = proc_reads ∙ rw (up_to_in 255 x l) (passed_at program_sheet text (proc x (c.line + 1)) c d line) in
-          (told ∙ ap (λ i. Ok (proc x i, place_at text d)) (sym line), l, t.2, line)
+          (told ∙ ap (λ i. Ok (proc x i, place_at text d)) (sym line), l, t.placed, line)

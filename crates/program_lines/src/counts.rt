@@ -1,9 +1,12 @@
 // Line 1 of a program sheet: its heading, and the numbers of steps and of procedures.
-ghost use Rattle.std.specs.Prelude.{◌≤◌, length};
-ghost use Rattle.spec.specs.declared.ProgramHeading.TheVariants.{P, P2};
-ghost use Rattle.program_lines.specs.Lines.{HeadedAt, CountShown};
+ghost use Rattle.std.specs.Prelude.{◌≡◌, ◌≤◌, length};
+ghost use Rattle.spec.specs.Text.{look_up};
+ghost use Rattle.spec.specs.Program.{program_headings};
+ghost use Rattle.lexer.specs.Cursors.{Placed};
+ghost use Rattle.program_lines.specs.Lines.{CountsAfter, CountShown};
 
 use crate::tails::{last_number, last_pair};
+use keywords::spelled;
 use lexer::{Cursor, Span};
 use spec::{ProgramHeading, Refusal};
 
@@ -13,7 +16,7 @@ const STEP_LIMIT: u32 = 256;
 // The most procedures that a program may have.
 const PROCEDURE_LIMIT: u32 = 16;
 
-// What line 1 says, its heading and how many steps and procedures it counts, and the cursor behind it.
+// What line 1 says, and the cursor after it.
 #[derive(Clone, Copy, PartialEq, Eq)]
 pub struct CountLine {
     pub heading: ProgramHeading,
@@ -22,43 +25,28 @@ pub struct CountLine {
     pub next: Cursor,
 }
 
-// Line 1 with the heading `P`: `P,n`.
-fn plain_count(text: &[u8], top: Cursor, field: Span) -> Result<CountLine, Refusal>
-    requires { HeadedAt text.now top field P }
-    ensures { CountShown text.now result }
+// The heading that a field spells.
+fn heading_of(field: &[u8]) -> Option<ProgramHeading>
+    ensures { result ≡ look_up program_headings field.now }
 {
-    let (steps, next) = last_number(text, field.end, field.next).ok_or(Refusal::ProgramForm(1))?;
-    if steps < 1 || STEP_LIMIT < steps {
-        return Err(Refusal::ProgramRange(1));
-    }
-    Ok(CountLine {
-        heading: ProgramHeading::P,
-        steps,
-        procedures: 0,
-        next,
-    })
+    spelled(field, b"P", ProgramHeading::P).or(spelled(field, b"P2", ProgramHeading::P2))
 }
 
-// Line 1 with the heading `P2`: `P2,n,k`.
-fn full_count(text: &[u8], top: Cursor, field: Span) -> Result<CountLine, Refusal>
-    requires { HeadedAt text.now top field P2 }
-    ensures { CountShown text.now result }
+// The numbers of steps and of procedures after the heading, `P,n` or `P2,n,k`, and the cursor after the line.
+fn counts_after(text: &[u8], field: Span, heading: ProgramHeading) -> Option<(u32, u32, Cursor)>
+    requires { Placed text.now field.next }
+    ensures { CountsAfter text.now field heading result }
 {
-    let (steps, procedures, next) = last_pair(text, field.end, field.next).ok_or(
-        Refusal::ProgramForm(1),
-    )?;
-    if steps < 1 || STEP_LIMIT < steps || PROCEDURE_LIMIT < procedures {
-        return Err(Refusal::ProgramRange(1));
+    match heading {
+        ProgramHeading::P => {
+            let (steps, next) = last_number(text, field)?;
+            Some((steps, 0, next))
+        }
+        ProgramHeading::P2 => last_pair(text, field),
     }
-    Ok(CountLine {
-        heading: ProgramHeading::P2,
-        steps,
-        procedures,
-        next,
-    })
 }
 
-// Line 1, `P,n` or `P2,n,k`, or the refusal of that line.
+// Line 1, `P,n` or `P2,n,k`.
 pub fn count_line(text: &[u8]) -> Result<CountLine, Refusal>
     requires { length text.now ≤ 16384 }
     ensures { CountShown text.now result }
@@ -68,12 +56,19 @@ pub fn count_line(text: &[u8]) -> Result<CountLine, Refusal>
         return Err(Refusal::ProgramForm(1));
     }
     let field = top.field(text);
-    let heading = &text[field.from..field.to];
-    if keywords::same(b"P", heading) {
-        return plain_count(text, top, field);
+    let Some(heading) = heading_of(&text[field.from..field.to]) else {
+        return Err(Refusal::ProgramForm(1));
+    };
+    let Some((steps, procedures, next)) = counts_after(text, field, heading) else {
+        return Err(Refusal::ProgramForm(1));
+    };
+    if steps < 1 || STEP_LIMIT < steps || PROCEDURE_LIMIT < procedures {
+        return Err(Refusal::ProgramRange(1));
     }
-    if keywords::same(b"P2", heading) {
-        return full_count(text, top, field);
-    }
-    Err(Refusal::ProgramForm(1))
+    Ok(CountLine {
+        heading,
+        steps,
+        procedures,
+        next,
+    })
 }

@@ -1,34 +1,34 @@
-// The numbers behind the first field of a line of a program sheet: `end` ends the field, and `next` stands behind that. None, if the line
-// does not end with them.
+// The numbers after the first field of a line of a program sheet.
 ghost use Rattle.lexer.specs.Cursors.{Placed};
 ghost use Rattle.program_lines.specs.Lines.{TailShown, PairShown};
 
-use lexer::{Cursor, FieldEnd, narrow};
+use lexer::{Cursor, FieldEnd, Number, Span};
 
-// The one number behind a line's first field, and the cursor behind the line.
-pub(crate) fn last_number(text: &[u8], end: FieldEnd, next: Cursor) -> Option<(u32, Cursor)>
-    requires { Placed text.now next }
-    ensures { TailShown text.now next end result }
+// The number after a line's first field and the cursor after the line, if the line ends with that number.
+pub(crate) fn last_number(text: &[u8], field: Span) -> Option<(u32, Cursor)>
+    requires { Placed text.now field.next }
+    ensures { TailShown text.now field result }
 {
-    let FieldEnd::Comma = end else {
+    let FieldEnd::Comma = field.end else {
         return None;
     };
-    let found = next.number(text)?;
-    let FieldEnd::Newline = found.end else {
-        return None;
-    };
-    Some((narrow(found.value), found.next))
+    let Number { value, end, next } = field.next.number(text)?;
+    match end {
+        FieldEnd::Newline => Some((lexer::narrow(value), next)),
+        FieldEnd::Comma => None,
+        FieldEnd::Text => None,
+    }
 }
 
-// The two numbers behind a line's first field, and the cursor behind the line.
-pub(crate) fn last_pair(text: &[u8], end: FieldEnd, next: Cursor) -> Option<(u32, u32, Cursor)>
-    requires { Placed text.now next }
-    ensures { PairShown text.now next end result }
+// The two numbers after a line's first field and the cursor after the line, if the line ends with them.
+pub(crate) fn last_pair(text: &[u8], field: Span) -> Option<(u32, u32, Cursor)>
+    requires { Placed text.now field.next }
+    ensures { PairShown text.now field result }
 {
-    let FieldEnd::Comma = end else {
+    let FieldEnd::Comma = field.end else {
         return None;
     };
-    let mut numbers = [0u32; 2];
-    let behind = next.numbers(text, &mut numbers)?;
-    Some((numbers[0], numbers[1], behind))
+    let mut numbers = [0; 2];
+    let next = field.next.numbers(text, &mut numbers)?;
+    Some((numbers[0], numbers[1], next))
 }

@@ -1,10 +1,15 @@
--- Line 1 in the order in which it is judged: an empty text, the heading, the numbers behind it.
-use Rattle.lexer.proofs.Places.{span_le}
-use Rattle.program_lines.proofs.TailLaws.{marks}
-use Rattle.program_lines.proofs.CountLaws.{placed_top, heading_plain, heading_full, count_empty, count_other}
+-- Line 1 in the order in which it is judged: an empty text, the heading, the numbers after it, their ranges.
 use mathlib.Core.Path.{sym, ◌∙◌}
-use Rattle.spec.specs.Text.{bytes}
+use mathlib.Core.Bool.{and-false}
+use borrow.Author.Tests.{lt-leb}
+use Rattle.spec.specs.Text.{look_up}
+use Rattle.spec.specs.Program.{program_headings}
+use Rattle.lexer.proofs.Places.{span_le}
+use Rattle.lexer.proofs.Walks.{span_placed}
+use Rattle.program_lines.proofs.TailLaws.{of_field}
+use Rattle.program_lines.proofs.CountLaws.{placed_top, top_field, count_empty, count_other, count_malformed, count_out, count_right}
 use Rattle.program_lines.proofs.counts.count_line.Goals as goal
+use Rattle.program_lines.proofs.counts.count_line.Goals.{then-steps-lt1-via-then-steps-lt1, then-steps-lt1-via-else-steps-lt1+then-steps-gt-STEP_LIMIT, then-steps-lt1-via-else-steps-lt1+else-steps-gt-STEP_LIMIT+then-procedures-gt-PROCEDURE_LIMIT}
 
 pub returns-then-at_end : goal.returns-then-at_end
 returns-then-at_end c = count_empty _ _ c.start-top.ensures (sym c.at_end.ensures ∙ c.if-at_end.true)
@@ -12,35 +17,43 @@ returns-then-at_end c = count_empty _ _ c.start-top.ensures (sym c.at_end.ensure
 pub field-field-requires : goal.field-field-requires
 field-field-requires c = placed_top _ _ c.start-top.ensures c.requires
 
-pub slice_bounds-heading-count : goal.slice_bounds-heading-count
-slice_bounds-heading-count c = (span_le _ _ c.field-field.result c.field-field.ensures (placed_top _ _ c.start-top.ensures c.requires)).0
+pub slice_bounds-heading_of-count : goal.slice_bounds-heading_of-count
+slice_bounds-heading_of-count c = (span_le _ _ c.field-field.result c.field-field.ensures (placed_top _ _ c.start-top.ensures c.requires)).0
 
-pub slice_bounds-heading-start : goal.slice_bounds-heading-start
-slice_bounds-heading-start c = (span_le _ _ c.field-field.result c.field-field.ensures (placed_top _ _ c.start-top.ensures c.requires)).0
+pub slice_bounds-heading_of-start : goal.slice_bounds-heading_of-start
+slice_bounds-heading_of-start c = (span_le _ _ c.field-field.result c.field-field.ensures (placed_top _ _ c.start-top.ensures c.requires)).0
 
-pub slice_bounds-heading-end : goal.slice_bounds-heading-end
-slice_bounds-heading-end c = (span_le _ _ c.field-field.result c.field-field.ensures (placed_top _ _ c.start-top.ensures c.requires)).1
+pub slice_bounds-heading_of-end : goal.slice_bounds-heading_of-end
+slice_bounds-heading_of-end c = (span_le _ _ c.field-field.result c.field-field.ensures (placed_top _ _ c.start-top.ensures c.requires)).1
 
-pub plain_count-requires : goal.plain_count-requires
-unfolding bytes
-plain_count-requires c =
-    record {
-      top = c.start-top.ensures;
-      here = record { placed = placed_top _ _ c.start-top.ensures c.requires; left = sym c.at_end.ensures ∙ c.if-at_end.false; field = c.field-field.ensures };
-      spelled = heading_plain _ (marks _ _ c.field-field.result _ _ c.field-field.ensures c.same.ensures ∙ c.if-same.true);
-    }
+pub returns-in_default : goal.returns-in_default
+returns-in_default c =
+    count_other _ _ c.start-top.ensures (sym c.at_end.ensures ∙ c.if-at_end.false)
+    (of_field (look_up program_headings) _ _ c.field-field.result c.field-field.ensures (sym c.in_default.is ∙ c.heading_of.ensures))
 
-pub full_count-requires : goal.full_count-requires
-unfolding bytes
-full_count-requires c =
-    record {
-      top = c.start-top.ensures;
-      here = record { placed = placed_top _ _ c.start-top.ensures c.requires; left = sym c.at_end.ensures ∙ c.if-at_end.false; field = c.field-field.ensures };
-      spelled = heading_full _ (marks _ _ c.field-field.result _ _ c.field-field.ensures c.same.ensures ∙ c.if-same.false) (marks _ _ c.field-field.result _ _ c.field-field.ensures c.same-2.ensures ∙ c.if-same-2.true);
-    }
+pub counts_after-requires : goal.counts_after-requires
+counts_after-requires c = span_placed _ _ _ c.field-field.ensures (placed_top _ _ c.start-top.ensures c.requires)
+
+pub returns-in_default-counts_after : goal.returns-in_default-counts_after
+returns-in_default-counts_after c =
+    let here = top_field _ _ c.start-top.ensures c.requires (sym c.at_end.ensures ∙ c.if-at_end.false) _ c.field-field.ensures in
+    let spelled = of_field (look_up program_headings) _ _ c.field-field.result c.field-field.ensures (sym c.in-Some.is ∙ c.heading_of.ensures) in
+    count_malformed _ _ c.start-top.ensures _ here _ spelled c.in_default-counts_after.ensures
+
+pub returns-then-steps-lt1 : goal.returns-then-steps-lt1
+returns-then-steps-lt1 c =
+    let here = top_field _ _ c.start-top.ensures c.requires (sym c.at_end.ensures ∙ c.if-at_end.false) _ c.field-field.ensures in
+    let spelled = of_field (look_up program_headings) _ _ c.field-field.result c.field-field.ensures (sym c.in-Some.is ∙ c.heading_of.ensures) in
+    count_out _ _ c.start-top.ensures _ here _ spelled _ _ _ c.in-Some-counts_after.ensures
+    (elim c.then-steps-lt1.branch [
+      | then-steps-lt1-via-then-steps-lt1 w ↦ simp (lt-leb _ _ w.if-steps-lt1.true)
+      | then-steps-lt1-via-else-steps-lt1+then-steps-gt-STEP_LIMIT w ↦ simp (lt-leb _ _ w.if-steps-gt-STEP_LIMIT.true, and-false)
+      | then-steps-lt1-via-else-steps-lt1+else-steps-gt-STEP_LIMIT+then-procedures-gt-PROCEDURE_LIMIT w ↦ simp (lt-leb _ _ w.if-procedures-gt-PROCEDURE_LIMIT.true, and-false)
+    ])
 
 pub returns : goal.returns
-unfolding bytes
 returns c =
-    count_other _ _ c.start-top.ensures (sym c.at_end.ensures ∙ c.if-at_end.false) (marks _ _ c.field-field.result _ _ c.field-field.ensures c.same.ensures ∙ c.if-same.false)
-    (marks _ _ c.field-field.result _ _ c.field-field.ensures c.same-2.ensures ∙ c.if-same-2.false)
+    let here = top_field _ _ c.start-top.ensures c.requires (sym c.at_end.ensures ∙ c.if-at_end.false) _ c.field-field.ensures in
+    let spelled = of_field (look_up program_headings) _ _ c.field-field.result c.field-field.ensures (sym c.in-Some.is ∙ c.heading_of.ensures) in
+    count_right _ _ c.start-top.ensures _ here _ spelled _ _ _ c.in-Some-counts_after.ensures c.if-steps-lt1.false c.if-steps-gt-STEP_LIMIT.false
+    c.if-procedures-gt-PROCEDURE_LIMIT.false
