@@ -39,19 +39,16 @@ access_of p s t = access_at p s (control_point_at s t)
 -- ------------------------------------------------------------------ two threads
 
 unfoldable pub reads : Option Access → (v : ℕ) → Bool
-reads None v = false
 reads (Some (Read u)) v = eqb u v
-reads (Some (Write u)) v = false
+reads a v = false
 
 unfoldable pub writes : Option Access → (v : ℕ) → Bool
-writes None v = false
-writes (Some (Read u)) v = false
 writes (Some (Write u)) v = eqb u v
+writes a v = false
 
 unfoldable pub is_write : Option Access → Bool
-is_write None = false
-is_write (Some (Read v)) = false
 is_write (Some (Write v)) = true
+is_write a = false
 
 unfoldable pub clash : Option Access → Option Access → Bool
 clash None b = false

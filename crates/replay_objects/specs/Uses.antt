@@ -2,7 +2,7 @@
 use Rattle.std.specs.Prelude.{ℕ, ◌+◌, ◌-◌, true, false, Option, None, Some, eqb, ltb}
 use Rattle.spec.specs.Choice.{when◌then◌else◌}
 use Rattle.workspace.specs.declared.Rule.{Rule}
-use Rattle.workspace.specs.declared.Rule.TheVariants.{VAR, INT, LET, IF, WHILE, NEWT, SPAWN, JOIN, REF, WRITE, READ, NEWL, LCK, ULCK, NEWSEM, POST, WAIT, NEWRWLOCK, RDLOCK, RDUNLOCK, WRLOCK, WRUNLOCK, CALL}
+use Rattle.workspace.specs.declared.Rule.TheVariants.{NEWT, SPAWN, JOIN, REF, WRITE, READ, NEWL, LCK, ULCK, NEWSEM, POST, WAIT, NEWRWLOCK, RDLOCK, RDUNLOCK, WRLOCK, WRUNLOCK}
 use Rattle.replay_objects.specs.declared.Thing.{Thing}
 use Rattle.replay_objects.specs.declared.Thing.TheVariants.{Identifier, Cell, Lock, Semaphore, Rwlock, Written}
 use Rattle.replay_objects.specs.declared.StepEffect.{StepEffect}
@@ -57,13 +57,8 @@ unfoldable pub wrunlocked_of : Thing → Option StepEffect
 wrunlocked_of (Written places) = Some (Updates (Rwlock places 0))
 wrunlocked_of x = None
 
--- v: what the word stores, or the reading places of a new read-write lock
+-- v: what the word stores, or the reading places of a new read-write lock; the words of a thread alone use nothing
 unfoldable pub effect_of : Rule → Thing → (v : ℕ) → Option StepEffect
-effect_of VAR x v = None
-effect_of INT x v = None
-effect_of LET x v = None
-effect_of IF x v = None
-effect_of WHILE x v = None
 effect_of NEWT x v = Some (Makes Identifier)
 effect_of SPAWN x v = spawned_of x
 effect_of JOIN x v = joined_of x
@@ -81,4 +76,4 @@ effect_of RDLOCK x v = rdlocked_of x
 effect_of RDUNLOCK x v = rdunlocked_of x
 effect_of WRLOCK x v = wrlocked_of x
 effect_of WRUNLOCK x v = wrunlocked_of x
-effect_of CALL x v = None
+effect_of r x v = None
