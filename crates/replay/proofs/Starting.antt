@@ -1,5 +1,5 @@
 -- The start of a replay: from the sheet that the space holds to the point in front of the first line.
-use Rattle.std.proofs.Common.{Option, None, Result, Ok, Err}
+use Rattle.std.proofs.Common.{Option, None, Ok, Err}
 use Prim.Native.Nat.{ℕ, ◌+◌, ◌<◌, ◌≤◌}
 use mathlib.Core.Path.{◌≡◌, refl, sym, ◌∙◌, ap, subst}
 use mathlib.Core.List.{List, [], ◌∷◌, map}
@@ -26,8 +26,8 @@ use Rattle.replay_control.specs.Control.{first_of}
 use Rattle.replay_control.specs.Continuations.{linked}
 use Rattle.replay_engine.specs.Steps.{start_of}
 use Rattle.program.specs.Sheet.{Answered}
-use Rattle.program.specs.declared.ProgramRead.{ProgramRead}
-use Rattle.program.specs.declared.ProgramRead.TheVariants.{Read, Refused}
+use Rattle.program.specs.declared.Counts.{Counts}
+use Rattle.program.proofs.Found.{ProgramFound, program_refused_by}
 use Rattle.replay_theory.specs.Replay.{replay_space, judged}
 use Rattle.replay_theory.specs.declared.Race.{Race}
 use Rattle.replay_machine.specs.Replay.{start_replay, or_race, play_from, play}
@@ -101,7 +101,7 @@ variables_copied : {s p : List ℕ} (ps : List Procedure) (f : ℕ) → Fronts s
 variables_copied [] f C h v = tt
 variables_copied (b ∷ ps) f C h (e, l, v) = (C.same (proc_vars_at + f) (omega (arith, h)) ∙ e, l, variables_copied ps (f + 1) C (omega (arith, h)) v)
 
-held_copied : {s p : List ℕ} {P : Program} {steps procedures : ℕ} → Fronts s p → steps ≤ 256 → procedures ≤ 16 → HeldAs P s steps procedures → HeldAs P p steps procedures
+held_copied : {s p : List ℕ} {P : Program} {c : Counts} → Fronts s p → c.steps ≤ 256 → c.procedures ≤ 16 → HeldAs P s c → HeldAs P p c
 held_copied {P = P} C few procs H =
     let n = H.counted in
     let m = H.listed in
@@ -114,9 +114,9 @@ held_copied {P = P} C few procs H =
       listed = m;
     }
 
-pub program_linked : (s p p' : List ℕ) (P : Program) (steps procedures : ℕ) → Copied s p → HeldAs P s steps procedures → steps ≤ 256 → procedures ≤ 16 → p' ≡ linked p steps procedures →
+pub program_linked : (s p p' : List ℕ) (P : Program) (c : Counts) → Copied s p → HeldAs P s c → c.steps ≤ 256 → c.procedures ≤ 16 → p' ≡ linked p c.steps c.procedures →
     ProgramStands p' P.procedures P.root
-program_linked s p p' P steps procedures C H few procs e =
+program_linked s p p' P c C H few procs e =
     let l = C.long in
     let held = held_copied {p = p} {P = P} (record { long = omega (arith, l); same = C.same }) few procs H in
     let n = H.counted in
@@ -176,60 +176,42 @@ module _ (text : List ℕ) (fits : length text ≤ 16384) where
   unfolding judged ◌>>=◌ require replay_space program_limit
   judged_read = rw (le-leb (length text) 16384 fits) refl
 
-  pub sheet_refused : (w : List ℕ) (answer : ProgramRead) (r : Refusal) → Answered w answer (program text) → answer ≡ Refused r → judged replay_space text ≡ Err r
-  sheet_refused w answer r a e = judged_read ∙ by_sheet (program text) a
-    where
-      by_sheet : (o : Result Program Refusal) → Answered w answer o → o ≡ Err r
-      by_sheet (Err x) a = ap Err (let z : Refused x ≡ Refused r = sym a ∙ e in let y : x ≡ r = cc in y)
-      by_sheet (Ok P) a = absurd (let z : Read (length P.steps) (length P.procedures) ≡ Refused r = sym a.0 ∙ e in let y : ◌≡◌ {A = ℕ} 0 1 = cc in omega arith)
+  pub sheet_refused : {r : Refusal} (w : List ℕ) → Answered w (Err r) (program text) → judged replay_space text ≡ Err r
+  sheet_refused w a = judged_read ∙ program_refused_by w (program text) a
 
-  pub record Sheet (w : List ℕ) (n m : ℕ) : Type 0 where
-    pub P : Program
-    pub read : program text ≡ Ok P
-    pub counted : length P.steps ≡ n
-    pub listed : length P.procedures ≡ m
-    pub few : n ≤ 256
-    pub procs : m ≤ 16
-    pub holds : HoldsProgram w P
-
-  pub sheet_read : (w : List ℕ) (answer : ProgramRead) (n m : ℕ) → Answered w answer (program text) → answer ≡ Read n m → Sheet w n m
-  sheet_read w answer n m a e = by_sheet (program text) refl a
-    where
-      by_sheet : (o : Result Program Refusal) → program text ≡ o → Answered w answer o → Sheet w n m
-      by_sheet (Err x) q a = absurd (let z : Refused x ≡ Read n m = sym a ∙ e in let y : ◌≡◌ {A = ℕ} 0 1 = cc in omega arith)
-      by_sheet (Ok P) q (r, h, l, k) =
-          let z : Read (length P.steps) (length P.procedures) ≡ Read n m = sym r ∙ e in
-          let y : length P.steps ≡ n = cc in
-          let x : length P.procedures ≡ m = cc in
-          record { P = P; read = q; counted = y; listed = x; few = omega (arith, y, l); procs = omega (arith, x, k); holds = h }
-
-  module _ (w : List ℕ) (n m : ℕ) (F : Sheet w n m) where
+  module _ (w : List ℕ) {c : Counts} (F : ProgramFound w c (program text)) where
     well_formed : WellFormedProgram text F.P
     unfolding program_limit
-    well_formed = program_well_formed text fits F.read
+    well_formed = program_well_formed text fits F.reads
 
     here : AllHere w (length F.P.procedures) 0 0 F.P.procedures F.P.root
     here = program_here_of w F.P F.holds well_formed
 
-    work_held : HeldAs F.P w n m
+    work_held : HeldAs F.P w c
     work_held = record {
       standing = all_standing w (length F.P.procedures) 0 0 F.P.procedures F.P.root here;
       firsts = firsts_at w (length F.P.procedures) 0 0 F.P.procedures F.P.root here;
       variables = variables_at w (length F.P.procedures) 0 0 F.P.procedures F.P.root here (well_formed_parameters text F.P well_formed);
       ranged = well_formed_ranged text F.P well_formed;
-      counted = sized F.P.procedures F.P.root ∙ ap length (sym well_formed.stepped) ∙ F.counted;
-      listed = F.listed;
+      counted = sized F.P.procedures F.P.root ∙ ap length (sym well_formed.stepped) ∙ sym F.steps_counted;
+      listed = sym F.procedures_counted;
     }
 
-    -- in the space that the front is of
-    pub sheet_held : (s : List ℕ) → length s ≡ space_size → ((i : ℕ) → i < continuations_at → get_or s i 0 ≡ get_or w i 0) → HeldAs F.P s n m
-    sheet_held s long same = held_copied (record { long = omega (arith, long); same = same }) F.few F.procs work_held
+    few : c.steps ≤ 256
+    few = omega (arith, F.steps_counted, F.few)
 
-    pub sheet_holds : (s : List ℕ) → length s ≡ space_size → ((i : ℕ) → i < continuations_at → get_or s i 0 ≡ get_or w i 0) → Held s n m
-    sheet_holds s long same = record { listed = F.P; held = sheet_held s long same; few = F.few; procs = F.procs; long = long }
+    few_procedures : c.procedures ≤ 16
+    few_procedures = omega (arith, F.procedures_counted, F.few_procedures)
+
+    -- in the space that the front is of
+    pub sheet_held : (s : List ℕ) → length s ≡ space_size → ((i : ℕ) → i < continuations_at → get_or s i 0 ≡ get_or w i 0) → HeldAs F.P s c
+    sheet_held s long same = held_copied (record { long = omega (arith, long); same = same }) few few_procedures work_held
+
+    pub sheet_holds : (s : List ℕ) → length s ≡ space_size → ((i : ℕ) → i < continuations_at → get_or s i 0 ≡ get_or w i 0) → Held s c
+    sheet_holds s long same = record { listed = F.P; held = sheet_held s long same; few = few; procs = few_procedures; long = long }
 
     pub sheet_judged : judged replay_space text ≡ Ok F.P
-    sheet_judged = judged_read ∙ F.read
+    sheet_judged = judged_read ∙ F.reads
 
 pub long_program : (text : List ℕ) → 16384 < length text → judged replay_space text ≡ Err LongProgram
 unfolding judged ◌>>=◌ require replay_space program_limit

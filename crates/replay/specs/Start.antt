@@ -1,8 +1,8 @@
 -- What is asked of the numbers when a replay starts.
-use Rattle.std.specs.Prelude.{ℕ, None, Some, ◌<◌, ◌≤◌, ◌≡◌, List, length, get_or}
+use Rattle.std.specs.Prelude.{ℕ, None, Some, Result, ◌<◌, ◌≤◌, ◌≡◌, List, length, get_or}
 use Rattle.spec.specs.Program.{Program, program}
 use Rattle.program.specs.Sheet.{Answered}
-use Rattle.program.specs.declared.ProgramRead.{ProgramRead}
+use Rattle.program.specs.declared.Counts.{Counts}
 use Rattle.replay_control.specs.Layout.{continuations_at, program_size, space_size}
 use Rattle.spec.specs.declared.Refusal.{Refusal}
 use Rattle.threads.specs.Threads.{started}
@@ -11,7 +11,7 @@ use Rattle.replay_loop.specs.declared.Point.{Point}
 use Rattle.replay_simulation.proofs.Bodies.{all_size, AllStanding, AllRanged, FirstsAt, VariablesAt, ProgramStands}
 
 -- a program sheet has been read in the front of a space: what its reader leaves there, and what it answers
-pub record SheetIn (text s s' : List ℕ) (r : ProgramRead) : Type 0 where
+pub record SheetIn (text s s' : List ℕ) (r : Result Counts Refusal) : Type 0 where
   pub work : List ℕ
   pub answer : Answered work r (program text)
   pub front : (i : ℕ) → i < continuations_at → get_or s' i 0 ≡ get_or work i 0
@@ -28,20 +28,20 @@ pub record Runs (p s : List ℕ) : Type 0 where
   pub stands : ProgramStands p listed.procedures listed.root
   pub long : length s ≡ space_size
 
--- the space holds that program, of so many steps and procedures
-pub record HeldAs (P : Program) (s : List ℕ) (steps procedures : ℕ) : Type 0 where
+-- the space holds that program, with its counts
+pub record HeldAs (P : Program) (s : List ℕ) (c : Counts) : Type 0 where
   pub standing : AllStanding s 0 P.procedures P.root
   pub firsts : FirstsAt s 0 0 P.procedures
   pub variables : VariablesAt s 0 P.procedures
   pub ranged : AllRanged (length P.procedures) P.procedures P.root
-  pub counted : all_size P.procedures P.root ≡ steps
-  pub listed : length P.procedures ≡ procedures
+  pub counted : all_size P.procedures P.root ≡ c.steps
+  pub listed : length P.procedures ≡ c.procedures
 
-pub record Held (s : List ℕ) (steps procedures : ℕ) : Type 0 where
+pub record Held (s : List ℕ) (c : Counts) : Type 0 where
   pub listed : Program
-  pub held : HeldAs listed s steps procedures
-  pub few : steps ≤ 256
-  pub procs : procedures ≤ 16
+  pub held : HeldAs listed s c
+  pub few : c.steps ≤ 256
+  pub procs : c.procedures ≤ 16
   pub long : length s ≡ space_size
 
 -- a run that the refusal of its sheet has stopped

@@ -10,7 +10,7 @@ ghost use Rattle.replay_loop.specs.Play.{LoopPost};
 ghost use Rattle.replay.specs.Start.{SheetIn, Copied, Runs, HeldAs, Held, refused_point};
 ghost use Rattle.replay.specs.Pieces.{job_size, telling, RunOf};
 
-use program::ProgramRead;
+use program::Counts;
 use replay_control::layout::{CONTINUATIONS, PROGRAM, SPACE};
 use replay_loop::{Point, race_after};
 use replay_theory::Ending;
@@ -41,20 +41,20 @@ fn copy_columns(columns: &mut [u32], space: &[u32])
 }
 
 // Reads a program sheet in the front of the space, which has more room than its reader asks for.
-fn read_program(program: &[u8], space: &mut [u32]) -> ProgramRead
+fn read_program(program: &[u8], space: &mut [u32]) -> Result<Counts, Refusal>
     requires { (length space.old ≡ replay_space) × (length program.now ≤ 16384) }
     ensures { SheetIn program.now space.old space.new result }
 {
     program::read(program, &mut space[..workspace::SIZE])
 }
 
-// The run of the program of so many steps and procedures that the space holds: its columns become the job, and the space the run's.
-fn begin_held(job: &mut [u32], space: &mut [u32], steps: usize, procedures: usize) -> Point
-    requires { (length job.old ≡ program_size) × Held space.old steps procedures }
-    ensures { ((P : Program) → HeldAs P space.old steps procedures → LoopPost result.ending (played (start_replay P)) job.new space.new result) × (result.steps ≡ 0) }
+// The run of the program that the space holds: its columns become the job, and the space the run's.
+fn begin_held(job: &mut [u32], space: &mut [u32], counts: Counts) -> Point
+    requires { (length job.old ≡ program_size) × Held space.old counts }
+    ensures { ((P : Program) → HeldAs P space.old counts → LoopPost result.ending (played (start_replay P)) job.new space.new result) × (result.steps ≡ 0) }
 {
     copy_columns(job, space);
-    replay_control::link(job, steps as u32, procedures as u32);
+    replay_control::link(job, counts.steps as u32, counts.procedures as u32);
     first_point(job, space)
 }
 
@@ -84,8 +84,8 @@ fn begin_in(program: &[u8], job: &mut [u32], space: &mut [u32]) -> Point
         return refused_point(Refusal::LongProgram);
     }
     match read_program(program, space) {
-        ProgramRead::Refused(r) => refused_point(r),
-        ProgramRead::Read(steps, procedures) => begin_held(job, space, steps, procedures),
+        Ok(counts) => begin_held(job, space, counts),
+        Err(r) => refused_point(r),
     }
 }
 

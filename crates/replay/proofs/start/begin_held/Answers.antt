@@ -7,13 +7,13 @@ first_point-requires c =
     let held = c.requires.1 in
     record {
       listed = held.listed;
-      stands = program_linked _ _ _ _ _ _ c.copy_columns.ensures held.held held.few held.procs c.link.ensures;
+      stands = program_linked _ _ _ _ _ c.copy_columns.ensures held.held held.few held.procs c.link.ensures;
       long = held.long;
     }
 
 pub returns : goal.returns
 returns c =
     let held = c.requires.1 in (
-      λ P H. c.first_point.ensures.0 P (program_linked _ _ _ _ _ _ c.copy_columns.ensures H held.few held.procs c.link.ensures),
+      λ P H. c.first_point.ensures.0 P (program_linked _ _ _ _ _ c.copy_columns.ensures H held.few held.procs c.link.ensures),
       c.first_point.ensures.1,
     )

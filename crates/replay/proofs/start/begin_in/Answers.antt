@@ -1,7 +1,8 @@
 -- A sheet that is too long or refused has stopped the run; else the program that the space holds is begun.
 use mathlib.Core.Path.{◌∙◌}
+use Rattle.program.proofs.Found.{program_read_by}
 use Rattle.replay_theory.specs.Replay.{replay_space}
-use Rattle.replay.proofs.Starting.{long_program, sheet_refused, sheet_read, sheet_held, sheet_holds, sheet_judged}
+use Rattle.replay.proofs.Starting.{long_program, sheet_refused, sheet_held, sheet_holds, sheet_judged}
 use Rattle.replay.proofs.Runs.{refused_begins, read_begins}
 use Rattle.replay.proofs.start.begin_in.Goals as goal
 
@@ -11,21 +12,19 @@ returns-then-program-gt-PROGRAM_LIMIT c = refused_begins _ _ _ _ _ (long_program
 pub begin_held-requires : goal.begin_held-requires
 unfolding replay_space
 begin_held-requires c =
-    let told = c.read_program.ensures in (
-      c.requires.0,
-      sheet_holds _ c.if-program-gt-PROGRAM_LIMIT.false _ _ _ (sheet_read _ c.if-program-gt-PROGRAM_LIMIT.false _ _ _ _ told.answer c.in-Read.is) _ (told.long ∙ c.requires.1) told.front,
-    )
+    let told = c.in-Ok.ensures in
+    (c.requires.0, sheet_holds _ c.if-program-gt-PROGRAM_LIMIT.false _ (program_read_by _ _ told.answer) _ (told.long ∙ c.requires.1) told.front)
 
-pub returns-in-Refused : goal.returns-in-Refused
-returns-in-Refused c =
-    refused_begins _ _ _ _ _ (sheet_refused _ c.if-program-gt-PROGRAM_LIMIT.false _ _ _ c.read_program.ensures.answer c.in-Refused.is) c.refused_point-in-Refused.ensures
+pub returns-in-Err : goal.returns-in-Err
+returns-in-Err c =
+    refused_begins _ _ _ _ _ (sheet_refused _ c.if-program-gt-PROGRAM_LIMIT.false _ c.in-Err.ensures.answer) c.refused_point-in-Err.ensures
 
-pub returns-in-Read : goal.returns-in-Read
+pub returns-in-Ok : goal.returns-in-Ok
 unfolding replay_space
-returns-in-Read c =
-    let told = c.read_program.ensures in
-    let sheet = sheet_read _ c.if-program-gt-PROGRAM_LIMIT.false _ _ _ _ told.answer c.in-Read.is in (
-      read_begins _ _ c.begin_held.new.job c.begin_held.new.space c.begin_held.result (sheet_judged _ c.if-program-gt-PROGRAM_LIMIT.false _ _ _ sheet)
-          (c.begin_held.ensures.0 _ (sheet_held _ c.if-program-gt-PROGRAM_LIMIT.false _ _ _ sheet _ (told.long ∙ c.requires.1) told.front)),
+returns-in-Ok c =
+    let told = c.in-Ok.ensures in
+    let sheet = program_read_by _ _ told.answer in (
+      read_begins _ _ c.begin_held.new.job c.begin_held.new.space c.begin_held.result (sheet_judged _ c.if-program-gt-PROGRAM_LIMIT.false _ sheet)
+          (c.begin_held.ensures.0 _ (sheet_held _ c.if-program-gt-PROGRAM_LIMIT.false _ sheet _ (told.long ∙ c.requires.1) told.front)),
       c.begin_held.ensures.1,
     )

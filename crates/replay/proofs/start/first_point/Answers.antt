@@ -9,10 +9,6 @@ overflow_cast-threads c =
     let low = start_count _ _ c.requires.long c.requires.listed c.requires.stands _ _ c.start-threads.ensures in
     omega (arith, low)
 
-pub race_after-requires : goal.race_after-requires
-race_after-requires c =
-    start_count _ _ c.requires.long c.requires.listed c.requires.stands _ _ c.start-threads.ensures
-
 pub returns : goal.returns
 returns c = (
   λ P A.
