@@ -19,12 +19,10 @@ use Rattle.drill.proofs.Drilling.{program_within, split_within, front_back}
 use Rattle.racedrill.specs.Seed.{seed_of}
 use Rattle.racedrill.specs.Pair.{Drill, pair_of, shown, Roomy}
 use Rattle.racedrill.specs.Made.{TextsOf, LineOf}
-use Rattle.racedrill.specs.declared.seed.Seed.{Seed}
-use Rattle.racedrill.specs.declared.seed.Seed.TheVariants.{Given, Absent}
 
 -- ------------------------------------------------------------------ the pair of a word
 
-pub none_of : (o : Seed) (program split : List ℕ) → o ≡ Absent → shown None program split ≡ pair_of o
+pub none_of : (o : Option ℕ) (program split : List ℕ) → o ≡ None → shown None program split ≡ pair_of o
 unfolding shown pair_of
 none_of o program split e = rw e
 
@@ -39,7 +37,7 @@ roomy_answer seed a b R =
 module _ (seed a b : ℕ) (R : Roomy a b) (program split program' split' : List ℕ) where
   pub pair_of_lem : (r : Option Drilled) → returned_by r ≡ answer_of seed a b
       → ((returned_by r).number ≡ 0 → (program' ≡ in_front (program_of seed) program) × (split' ≡ in_front (split_of seed) split))
-      → (o : Seed) → o ≡ Given seed → shown r program' split' ≡ pair_of o
+      → (o : Option ℕ) → o ≡ Some seed → shown r program' split' ≡ pair_of o
   unfolding returned_by drilled_numbers shown pair_of
   pair_of_lem None answers written o e = let told = answers ∙ roomy_answer seed a b R in absurd (omega (arith, ap (λ (n : Numbers). n.number) told))
   pair_of_lem (Some d) answers written o e =
@@ -67,11 +65,11 @@ same_drill : {x y : Drill} → Some x ≡ Some y → x ≡ y
 same_drill h = cc
 
 -- a pair that is shown is within its buffers
-pub shown_within : (d : Drilled) (o : Seed) (program split : List ℕ) → shown (Some d) program split ≡ pair_of o
+pub shown_within : (d : Drilled) (o : Option ℕ) (program split : List ℕ) → shown (Some d) program split ≡ pair_of o
     → (d.program ≤ length program) × (d.split ≤ length split)
 unfolding shown pair_of
-shown_within d Absent program split h = none_is_not_some (sym h)
-shown_within d (Given seed) program split h =
+shown_within d None program split h = none_is_not_some (sym h)
+shown_within d (Some seed) program split h =
     let same = same_drill h in (
       part d.program (program_of seed) program (ap (λ (y : Drill). y.program_length) same) (ap (λ (y : Drill). y.program) same),
       part d.split (split_of seed) split (ap (λ (y : Drill). y.split_length) same) (ap (λ (y : Drill). y.split) same),

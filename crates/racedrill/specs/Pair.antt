@@ -4,8 +4,6 @@ use Rattle.spec.specs.Program.{program_limit}
 use Rattle.spec.specs.Split.{split_limit}
 use Rattle.drill_theory.specs.Draw.{drawn}
 use Rattle.drill_theory.specs.Pair.{program_of, split_of}
-use Rattle.racedrill.specs.declared.seed.Seed.{Seed}
-use Rattle.racedrill.specs.declared.seed.Seed.TheVariants.{Given, Absent}
 use Rattle.drill.specs.declared.Drilled.{Drilled}
 
 pub record Drill : Type 0 where
@@ -16,9 +14,9 @@ pub record Drill : Type 0 where
   pub split : List ℕ
 
 -- document 02, request (ii), for a seed; nothing for a word that is none
-unfoldable pub pair_of : Seed → Option Drill
-pair_of Absent = None
-pair_of (Given seed) = Some (record {
+unfoldable pub pair_of : Option ℕ → Option Drill
+pair_of None = None
+pair_of (Some seed) = Some (record {
   next = drawn seed;
   program_length = length (program_of seed);
   split_length = length (split_of seed);

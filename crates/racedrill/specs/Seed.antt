@@ -2,12 +2,10 @@
 use Rattle.std.specs.Prelude.{ℕ, ltb, Option, None, Some}
 use Rattle.spec.specs.Choice.{when◌then◌else◌}
 use Rattle.spec.specs.Text.{Field, numeral}
-use Rattle.racedrill.specs.declared.seed.Seed.{Seed}
-use Rattle.racedrill.specs.declared.seed.Seed.TheVariants.{Given, Absent}
 
-unfoldable pub seed_in : Option ℕ → Seed
-seed_in None = Absent
-seed_in (Some n) = when ltb n 4294967296 then Given n else Absent
+unfoldable pub seed_in : Option ℕ → Option ℕ
+seed_in None = None
+seed_in (Some n) = when ltb n 4294967296 then Some n else None
 
-unfoldable pub seed_of : Field → Seed
+unfoldable pub seed_of : Field → Option ℕ
 seed_of f = seed_in (numeral f)

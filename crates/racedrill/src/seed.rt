@@ -1,29 +1,17 @@
-// The seed that an argument spells.
+// The seed that an argument spells: a number of 32 bits.
 ghost use Rattle.std.specs.Prelude.{◌≡◌};
 ghost use Rattle.racedrill.specs.Seed.{seed_of};
-
-use lexer::Numeral;
-
-// A number of 32 bits, or none.
-#[derive(Drop)]
-pub(crate) enum Seed {
-    Given(u32),
-    Absent,
-}
 
 // The first number that 32 bits do not hold.
 const END: u64 = 4294967296;
 
-// The seed that a word spells.
-pub(crate) fn seed_of(word: &[u8]) -> Seed
+// The seed that a word spells, if it spells one.
+pub(crate) fn seed_of(word: &[u8]) -> Option<u32>
     ensures { result ≡ seed_of word.now }
 {
-    let Numeral::Value(n) = lexer::numeral_of(word) else {
-        return Seed::Absent;
-    };
+    let n = lexer::numeral_of(word)?;
     if END <= n {
-        return Seed::Absent;
+        return None;
     }
-    let seed = n as u32;
-    Seed::Given(seed)
+    Some(n as u32)
 }
