@@ -22,7 +22,6 @@ const MOST_TYPES: usize = 64;
 const MOST_MAPS: usize = 512;
 
 // The heading that a field spells in a sheet that is read for this purpose: when filling, "A `C` header is 21".
-#[tactic(auto, using(keywords::proofs::Words::either), unfolding(spec::specs::Text::bytes, spec::specs::Split::headings, spec::specs::Text::look_up))]
 fn heading_of(field: &[u8], purpose: Purpose) -> Option<Heading>
     ensures { result ≡ look_up (headings purpose) field.now }
 {
