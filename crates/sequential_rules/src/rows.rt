@@ -11,8 +11,7 @@ ghost use Rattle.rule_rows.specs.Table.{row_in};
 use conditions::{agrees, and_then, holds_at_least, may_show, type_false};
 use rule_rows::{StepView, at_least, equal, sum};
 use spec::TypeLine;
-use workspace::Ruling;
-use workspace::type_at;
+use workspace::{Ruling, type_at};
 
 // VAR: 1 type is that of its let's e1, or for a lock a looser one; 2 post = pre.
 pub fn check_var(work: &[u32], s: StepView) -> Ruling
