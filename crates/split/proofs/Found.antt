@@ -1,14 +1,6 @@
 -- What an answer of the reader says of the sheet and of the work space.
-use Rattle.std.proofs.Common.{Result, Ok, Err}
-use mathlib.Core.Path.{◌≡◌, sym, ap, ◌∙◌}
-use mathlib.Core.Path.{subst as along}
-use mathlib.Core.List.{List}
-use Prim.Native.Nat.{ℕ}
-use native.Mathlib.Omega.{arith}
+use mathlib.Core.Path.{◌≡◌, sym, ap}
 use Rattle.spec.specs.Split.{Split}
-use Rattle.spec.specs.declared.Refusal.{Refusal}
-use Rattle.workspace.specs.Holds.{HoldsSplit}
-use Rattle.workspace.specs.Sheets.{Small}
 use Rattle.spec.specs.declared.Header.{Header}
 
 pub denominator_decodes : (S : Split) (h : Header) → S.header ≡ h → h.denominator ≡ S.header.denominator

@@ -5,11 +5,10 @@ use mathlib.Core.Logic.{inl, inr}
 use mathlib.Core.List.{List, map}
 use Prim.Native.Nat.{ℕ, ◌+◌, ◌≤◌}
 use native.Mathlib.Omega.{arith}
-use lib.ListN.{length, replicate, length-map}
-use Rattle.spec.specs.Reading.{split_sheet, ◌>>=◌, Place, read_lines, end}
+use lib.ListN.{length, length-map}
+use Rattle.spec.specs.Reading.{split_sheet, ◌>>=◌, read_lines, end}
 use Rattle.spec.specs.Expression.{Step}
-use Rattle.spec.specs.Split.{Map, Row, Split, type_lines, map_line, signature_line, row_line}
-use Rattle.spec.specs.declared.Signature.{Signature}
+use Rattle.spec.specs.Split.{Split, row_line}
 use Rattle.spec.specs.declared.Header.{Header}
 use Rattle.spec.specs.declared.Purpose.{Purpose}
 use Rattle.spec.specs.declared.Refusal.{Refusal}
@@ -23,7 +22,7 @@ use Rattle.workspace.specs.Steps.{steps_from}
 use Rattle.workspace.proofs.Region.{region_kept, changed_then, changed_wider}
 use Rattle.workspace.proofs.Steps.{steps_kept}
 use Rattle.split_fields.specs.Answers.{SplitCursor}
-use Rattle.split.specs.Stored.{HoldsTypes, HoldsRows, HoldsMaps, HoldsSignatures, EmptyStored, Storing, StoringRows, StoringSignatures, TypesRead, MapsRead, SignaturesRead, RowsRead}
+use Rattle.split.specs.Stored.{EmptyStored, Storing, StoringRows, StoringSignatures, TypesRead, MapsRead, SignaturesRead, RowsRead}
 use Rattle.split.specs.Sheet.{StoringBody, body, BodyAnswer, BodyRead}
 
 module _ (purpose : Purpose) {text : List ℕ} {c : Cursor} {h : Header} {n k : ℕ} {w : List ℕ} (pre : StoringBody text c h n k w) where

@@ -1,5 +1,5 @@
 -- A split sheet from its first line on: an empty text, a header that is refused, and the lines after a header.
-use Rattle.std.proofs.Common.{Result, Ok, Err}
+use Rattle.std.proofs.Common.{Ok, Err}
 use mathlib.Core.Path.{◌≡◌, sym, ap, subst, ◌∙◌}
 use mathlib.Core.List.{List}
 use mathlib.Core.Bool.{true, false}
@@ -10,7 +10,7 @@ use Rattle.spec.specs.Text.{lines}
 use Rattle.spec.specs.Reading.{split_sheet, ◌>>=◌, form, read_line, begin}
 use Rattle.spec.specs.Expression.{Step}
 use Rattle.spec.specs.Program.{Program}
-use Rattle.spec.specs.Split.{Split, header_line, split}
+use Rattle.spec.specs.Split.{header_line, split}
 use Rattle.spec.specs.declared.Purpose.{Purpose}
 use Rattle.spec.specs.declared.Refusal.{Refusal}
 use Rattle.spec.specs.declared.Refusal.TheVariants.{SplitForm}
@@ -26,7 +26,7 @@ use Rattle.workspace.proofs.Steps.{steps_held}
 use Rattle.workspace.proofs.Region.{changed_nothing}
 use Rattle.spec.specs.declared.Header.{Header}
 use Rattle.split_header.specs.Header.{AtHeader, HeaderAnswer}
-use Rattle.split.specs.Sheet.{Readable, StoringBody, body, BodyAnswer, BodyRead, SplitRead}
+use Rattle.split.specs.Sheet.{Readable, StoringBody, body, BodyRead, SplitRead}
 
 module _ {text : List ℕ} {n k : ℕ} {w : List ℕ} (pre : Readable text n k w) (purpose : Purpose) {top : Cursor} (is : top ≡ start) where
   top_rest : rest text top ≡ text

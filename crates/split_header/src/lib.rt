@@ -9,6 +9,7 @@ ghost use Rattle.lexer.specs.Cursors.{place_at};
 ghost use Rattle.split_fields.specs.Answers.{SplitCursor};
 ghost use Rattle.split_header.specs.Header.{numerals_of, header_fits, AtHeader, NumbersAnswer, HeaderAnswer};
 
+use keywords::spelled;
 use lexer::Cursor;
 use spec::{Header, Heading, MapNumber, Purpose, Refusal};
 use split_fields::{LARGEST, first_field};
@@ -20,23 +21,15 @@ const MOST_TYPES: usize = 64;
 
 const MOST_MAPS: usize = 512;
 
-// The headings. The first is none where a sheet is filled.
-static HEADINGS: [(&[u8], Heading); 3] = [
-    (b"C", Heading::C),
-    (b"C2", Heading::C2),
-    (b"C3", Heading::C3),
-];
-
 // The heading that a field spells in a sheet that is read for this purpose: when filling, "A `C` header is 21".
-#[tactic(auto, unfolding(spec::specs::Text::bytes, spec::specs::Split::headings, keywords::specs::Words::entries))]
 fn heading_of(field: &[u8], purpose: Purpose) -> Option<Heading>
     ensures { result ≡ look_up (headings purpose) field.now }
 {
-    let headings = match purpose {
-        Purpose::Check => &HEADINGS[..],
-        Purpose::Fill => &HEADINGS[1..],
-    };
-    keywords::look_up(headings, field)
+    let newer = spelled(field, b"C2", Heading::C2).or(spelled(field, b"C3", Heading::C3));
+    match purpose {
+        Purpose::Check => spelled(field, b"C", Heading::C).or(newer),
+        Purpose::Fill => newer,
+    }
 }
 
 // How many numerals follow a heading.
