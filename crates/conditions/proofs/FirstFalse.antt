@@ -26,6 +26,11 @@ pub both_goes_on : (a b : Result (Unit {0}) Refusal) → a ≡ Ok tt → both a 
 unfolding both ◌>>=◌
 both_goes_on a b e = rw e
 
+-- what the exit of a `?` hands back, where r is the refusal
+pub refused_by : (v : Result (Unit {0}) Refusal) {r : Refusal} → IsErrAnd v (λ s. s ≡ r) → v ≡ Err r
+refused_by (Err s) h = ap Err h
+refused_by (Ok x) h = absurd h
+
 module _ (line i : ℕ) (c : Condition) where
   first_false_cons : (cs : List Condition) → first_false_from line i (c ∷ cs) ≡ both (judge line i c) (first_false_from line (i + 1) cs)
   unfolding first_false_from numbered first_false both
@@ -34,8 +39,7 @@ module _ (line i : ℕ) (c : Condition) where
   -- v is what the code hands back: at the exit of a `?`, where the first of these conditions refuses with r
   pub exit : (cs : List Condition) (v : Result (Unit {0}) Refusal) {r : Refusal} → IsErrAnd v (λ s. s ≡ r) → Err r ≡ judge line i c
       → v ≡ first_false_from line i (c ∷ cs)
-  exit cs (Err s) h e = ap Err h ∙ sym (first_false_cons cs ∙ both_stops _ _ (sym e))
-  exit cs (Ok x) h e = absurd h
+  exit cs v h e = refused_by v h ∙ sym (first_false_cons cs ∙ both_stops _ _ (sym e))
 
   -- behind the `?`, where it holds
   pub later : (cs : List Condition) {v : Result (Unit {0}) Refusal} → Ok tt ≡ judge line i c → v ≡ first_false_from line (i + 1) cs
