@@ -1,8 +1,8 @@
 -- The first false one of a step's conditions, one condition at a time, as the code of a word goes through them.
-use Rattle.std.proofs.Common.{◌≡◌, refl, sym, ap, ◌∙◌, ℕ, ◌+◌, List, [], ◌∷◌, Result, Ok, Err}
+use Rattle.std.proofs.Common.{◌≡◌, refl, sym, ap, ◌∙◌, ℕ, ◌+◌, List, [], ◌∷◌, Bool, true, false, Result, Ok, Err}
 use Rattle.std.specs.Result.{IsErrAnd}
 use Rattle.spec.specs.Reading.{◌>>=◌}
-use Rattle.spec.specs.Conditions.{Condition}
+use Rattle.spec.specs.Conditions.{Condition, T}
 use Rattle.spec.specs.StepContexts.{judge, numbered, first_false}
 use Rattle.spec.specs.declared.Refusal.{Refusal}
 use Rattle.conditions.specs.Outcome.{both, first_false_from}
@@ -50,3 +50,26 @@ module _ (line i : ℕ) (c : Condition) where
   pub only : {v : Result (Unit {0}) Refusal} → v ≡ judge line i c → v ≡ first_false_from line i (c ∷ [])
   unfolding first_false_from numbered first_false
   only p = p ∙ sym (first_false_cons [] ∙ both_met (judge line i c))
+
+-- ------------------------------------------------------------------ by the two outcomes, with no `?`
+
+module _ (line i : ℕ) where
+  -- the last condition
+  pub last : (c : Condition) {v : Result (Unit {0}) Refusal} → v ≡ judge line i c → v ≡ first_false_from line i (c ∷ [])
+  last c e = only line i c e
+
+  -- a condition and those after it, as `both` joins them
+  pub next : (c : Condition) (cs : List Condition) {v : Result (Unit {0}) Refusal} (a b : Result (Unit {0}) Refusal)
+      → v ≡ both a b → a ≡ judge line i c → b ≡ first_false_from line (i + 1) cs → v ≡ first_false_from line i (c ∷ cs)
+  next c cs a b e p q = e ∙ rw (p, q) (sym (first_false_cons line i c cs))
+
+  -- one that holds, one that fails
+  pub pass : (b : Bool) (cs : List Condition) {v : Result (Unit {0}) Refusal} → b ≡ true → v ≡ first_false_from line (i + 1) cs
+      → v ≡ first_false_from line i (T b ∷ cs)
+  unfolding first_false_from numbered first_false judge ◌>>=◌
+  pass b cs e p = rw e p
+
+  pub fail : (b : Bool) (cs : List Condition) {v : Result (Unit {0}) Refusal} → b ≡ false → v ≡ judge line i (T false)
+      → v ≡ first_false_from line i (T b ∷ cs)
+  unfolding first_false_from numbered first_false judge ◌>>=◌
+  fail b cs e p = rw e p

@@ -3,3 +3,4 @@ pub mod LockLines
 pub mod Relations
 pub mod Shown
 pub mod Agreement
+pub mod TypeKinds

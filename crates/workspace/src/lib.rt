@@ -5,9 +5,7 @@
 ghost use Rattle.std.specs.Prelude.{◌≡◌, ◌+◌, ◌*◌, ◌<◌, length, get_or, replicate};
 ghost use Rattle.workspace.specs.Layout.{code_of, leaf_code, unary_code, binary_code, rule_of, touching as touching_by, known as known_by, traits_of, shape_of, touch_of, word_of, kind_code, first_of, second_of, type_of, type_at, map_cell};
 
-use spec::{
-    BinaryWord, LeafWord, Location, MapNumber, Refusal, TypeLine, TypeNumber, UnaryWord, Word,
-};
+use spec::{BinaryWord, LeafWord, Location, MapNumber, TypeLine, TypeNumber, UnaryWord, Word};
 
 // How many 32-bit numbers a check works in.
 pub const SIZE: usize = 16384;
@@ -90,13 +88,6 @@ pub fn wide(x: u32) -> u64
     ensures { (result ≡ x) × (result < 4294967296) }
 {
     x as u64
-}
-
-// What one of the stages of an answer says: nothing is to be refused, or the first thing that is.
-#[derive(Clone, Copy, PartialEq, Eq)]
-pub enum Ruling {
-    Holds,
-    Refused(Refusal),
 }
 
 // The rules, one a word: those of Figure 5 in the printed order, behind them those of section 3.1.4, those of read-write

@@ -48,7 +48,7 @@ overwrite_behind d at (c ∷ s) p b h =
     rw (set_comm d p at b c (λ e. omega arith)) (overwrite_behind (set d at c) (suc at) s p b (omega arith))
 
 -- a place that is counted is as good as the place itself
-overwrite_counted : (d : List ℕ) (at : ℕ) (s : List ℕ) → length d < 18446744073709551616 → overwrite d (counted at) s ≡ overwrite d at s
+pub overwrite_counted : (d : List ℕ) (at : ℕ) (s : List ℕ) → length d < 18446744073709551616 → overwrite d (counted at) s ≡ overwrite d at s
 overwrite_counted d at s h = either (leb at 18446744073709551615) refl
   where
     either : (b : Bool) → leb at 18446744073709551615 ≡ b → overwrite d (counted at) s ≡ overwrite d at s
