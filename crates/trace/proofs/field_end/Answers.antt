@@ -1,32 +1,25 @@
-use mathlib.Core.Path.{refl}
+-- The bytes counted are those of the field.
+use Rattle.std.proofs.Common.{rules, tests}
+use Rattle.std.proofs.lemmas.Iterator.{YieldsList-from_slice}
+use Rattle.std.proofs.lemmas.Iterator.Consumers.{count_from_yields_List}
+use Rattle.std.proofs.lemmas.Iterator.Search.{YieldsList-from_take_while}
+use Rattle.std.proofs.lemmas.List.Folds.{length-prefix_len}
+use mathlib.Core.Path.{◌≡◌, ap}
 use native.Mathlib.Omega.{arith}
-use borrow.Author.Rules.{rules}
-use Rattle.lexer.proofs.Fields.{comma_width, newline_width, byte_width, text_width}
+use Prim.Native.Nat.{◌-◌}
+use lib.ListN.{length, take, drop, length-drop}
+use lib.Seq.{take_all}
+use Rattle.lexer.specs.Views.{width}
+use Rattle.trace.proofs.Widths.{of_field, counted_width}
 use Rattle.trace.proofs.field_end.Goals as goal
-
-pub loop-to-init : goal.loop-to-init
-loop-to-init c = (search rules, refl)
-
-pub returns-then-b-eq44 : goal.returns-then-b-eq44
-returns-then-b-eq44 c =
-    let text = c.args.text.now in
-    let w = comma_width text c.loop-to.to (omega arith) c.if-b-eq44.true in
-    omega arith
-
-pub returns-then-b-eq10 : goal.returns-then-b-eq10
-returns-then-b-eq10 c =
-    let text = c.args.text.now in
-    let w = newline_width text c.loop-to.to (omega arith) c.if-b-eq44.false c.if-b-eq10.true in
-    omega arith
-
-pub loop-to-preserved : goal.loop-to-preserved
-loop-to-preserved c =
-    let text = c.args.text.now in
-    let w = byte_width text c.loop-to.to (omega arith) c.if-b-eq44.false c.if-b-eq10.false in
-    (omega arith, omega arith)
 
 pub returns : goal.returns
 returns c =
     let text = c.args.text.now in
-    let w = text_width text c.loop-to.to (omega arith) in
-    omega arith
+    let from = c.args.from in
+    let piece = take (length text - from) (drop from text) in
+    let all : piece ≡ drop from text = take_all (length text - from) (drop from text) (omega (arith, length-drop from text)) in
+    let e =
+    count_from_yields_List c.take_while.result _ c.count-width.ensures.ran
+    (YieldsList-from_take_while _ of_field (YieldsList-from_slice piece cc) c.take_while.ensures.closure c.take_while.ensures.done (λ x b q k. search (rules, tests))) in
+    omega (arith, e, length-prefix_len of_field piece, counted_width piece, ap width all)
