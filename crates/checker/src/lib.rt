@@ -2,39 +2,39 @@
 #![tactic(auto)]
 
 ghost use Rattle.std.specs.Prelude.{◌≡◌, true, ◌↔◌, ◌≤◌, length};
-ghost use Rattle.spec.specs.Verdict.{verdict, returned, numbers4, on_conditions};
+ghost use Rattle.spec.specs.Verdict.{verdict, answer as answer_of, returned, numbers4, on_conditions};
 ghost use Rattle.spec.specs.Workspace.{workspace_size, workspace_after};
 ghost use Rattle.spec.specs.Accepted.{Right};
 ghost use Rattle.soundness.specs.SafeText.{SafeText};
 ghost use Rattle.soundness.specs.EitherOrderText.{EitherOrderText};
-ghost use Rattle.workspace.specs.Layout.{work_size};
 ghost use Rattle.checker.specs.Promise.{RefutedBy};
-ghost use Rattle.checker.specs.Stages.{RulesAsked, RulesAnswered};
 
-use sheets::Reading;
-use spec::{Answer, Header, Purpose, Refusal};
-use workspace::Ruling;
+use spec::{Answer, Purpose, Refusal};
+use workspace::{SIZE, clear};
 
-// 44 and 30 to 33, for the sheets that the work space holds.
-fn check_rules(work: &mut [u32], steps: usize, procedures: usize, header: Header) -> Answer
-    requires { RulesAsked work.old steps procedures header }
-    ensures { RulesAnswered work.old steps procedures header result }
+// What an outcome is told as.
+#[tactic(auto, unfolding(spec::specs::Verdict::answer))]
+fn answer(outcome: Result<(), Refusal>) -> Answer
+    ensures { result ≡ answer_of outcome }
 {
-    match walk::check(work, Purpose::Check, steps, procedures, header) {
-        Ruling::Holds => Answer::Accept,
-        Ruling::Refused(r) => Answer::Refuse(r),
+    match outcome {
+        Ok(()) => Answer::Accept,
+        Err(refusal) => Answer::Refuse(refusal),
     }
 }
 
-// The answer to a pair of texts, in a work space that is as long as document 01 wants.
-fn check_texts(program: &[u8], split: &[u8], work: &mut [u32]) -> Answer
-    requires { length work.old ≡ work_size }
-    ensures { result ≡ verdict workspace_size program.now split.now }
+// The outcome of a pair of texts, in a work space that is as long as document 01 wants: both sheets, then 44 and 30 to 33.
+fn check_texts(program: &[u8], split: &[u8], work: &mut [u32; SIZE]) -> Result<(), Refusal>
+    ensures { answer_of result ≡ verdict workspace_size program.now split.now }
 {
-    match sheets::read(program, split, Purpose::Check, work) {
-        Reading::Refused(r) => Answer::Refuse(r),
-        Reading::Held(steps, procedures, header) => check_rules(work, steps, procedures, header),
-    }
+    let held = sheets::read(program, split, Purpose::Check, work)?;
+    walk::check(
+        work,
+        Purpose::Check,
+        held.steps,
+        held.procedures,
+        held.header,
+    )
 }
 
 // The answer to a pair of texts. What documents 01 and 02 ask of it, clause by clause:
@@ -56,10 +56,10 @@ pub fn check(program: &[u8], split: &[u8], work: &mut [u32]) -> Answer
     ensures safe { returned result ≡ numbers4 0 0 0 0 → SafeText program.now }
     ensures either_order { returned result ≡ numbers4 0 0 0 0 → EitherOrderText program.now }
 {
-    if work.len() < workspace::SIZE {
+    let Some(lent) = work.first_chunk_mut() else {
         return Answer::Refuse(Refusal::ShortWorkspace);
-    }
-    let a = check_texts(program, split, &mut work[..16384]);
-    workspace::clear(&mut work[..16384]);
-    a
+    };
+    let outcome = check_texts(program, split, lent);
+    clear(lent);
+    answer(outcome)
 }

@@ -12,7 +12,7 @@ use Rattle.spec.specs.Reading.{◌>>=◌, require}
 use Rattle.spec.specs.Program.{Program}
 use Rattle.spec.specs.Split.{Map, Split}
 use Rattle.spec.specs.Workspace.{workspace_size}
-use Rattle.spec.specs.Verdict.{locks_take_enough, start_at_most_one, type_conditions_hold}
+use Rattle.spec.specs.Verdict.{locks_take_enough, start_at_most_one, type_conditions_hold, sheets}
 use Rattle.spec.specs.declared.Purpose.TheVariants.{Fill}
 use Rattle.spec.specs.declared.Refusal.{Refusal}
 use Rattle.spec.specs.declared.Refusal.TheVariants.{ShortWorkspace, NoAfterMaps, TooLarge, TooManyMaps}
@@ -21,14 +21,8 @@ use Rattle.workspace.specs.Layout.{work_size}
 use Rattle.workspace.specs.Sheets.{HoldsSheets}
 use Rattle.spec.specs.declared.Header.{Header}
 use Rattle.split.proofs.Found.{types_decodes}
-use Rattle.sheets.specs.Answers.{HoldsBoth, SheetsAnswered}
-use Rattle.sheets.specs.declared.Reading.{Reading}
-use Rattle.sheets.specs.declared.Reading.TheVariants as reading
-use Rattle.sheets.proofs.Found.{refused_by, held_by}
-use Rattle.conditions.specs.Outcome.{outcome}
+use Rattle.sheets.specs.Answers.{HoldsBoth, SheetsHeld}
 use Rattle.walk.specs.Contract.{ruled_for, Ruled}
-use Rattle.workspace.specs.declared.Ruling.{Ruling}
-use Rattle.workspace.specs.declared.Ruling.TheVariants as ruling
 use Rattle.walk.proofs.Procedures.{sheets_stay}
 use Rattle.text_theory.specs.Sheet.{sheet_text}
 use Rattle.split_writer.specs.Contract.{HoldsSheet, HoldsSome as HoldsSheetOfSome}
@@ -154,17 +148,17 @@ module _ (buffer : ℕ) (P : Program) (S : Split) where
       (sym (bind_bind (locks_take_enough S) (λ enough. start_at_most_one P S >>= λ whole. type_conditions_hold P S) (λ holds. filled_text buffer P S)
       ∙ ap (λ o. locks_take_enough S >>= λ enough. o) (bind_bind (start_at_most_one P S) (λ whole. type_conditions_hold P S) (λ holds. filled_text buffer P S))))
 
-  after_rules : {r r' : Ruling} → S.header.maps ≤ 256
-      → outcome r ≡ (locks_take_enough S >>= λ enough. start_at_most_one P S >>= λ whole. ruled_for Fill P S) → r ≡ r'
-      → after_reading buffer P S ≡ (outcome r' >>= λ holds. filled_text buffer P S)
-  after_rules h e same = few_maps_lem h ∙ ap (◌>>= λ holds. filled_text buffer P S) (sym e ∙ ap outcome same)
+  after_rules : {r : Result (Unit {0}) Refusal} → S.header.maps ≤ 256
+      → r ≡ (locks_take_enough S >>= λ enough. start_at_most_one P S >>= λ whole. ruled_for Fill P S)
+      → after_reading buffer P S ≡ (r >>= λ holds. filled_text buffer P S)
+  after_rules h e = few_maps_lem h ∙ ap (◌>>= λ holds. filled_text buffer P S) (sym e)
 
 module _ (w : List ℕ) (header : Header) (steps procedures : ℕ) where
   pub many_sound : (buffer : List ℕ) → 256 < header.maps → SheetsPost w header steps procedures buffer buffer (Err TooManyMaps)
   many_sound buffer h P S B =
       told_as (sym (many _ P S (omega (arith, maps_sound S header B.headed, h)))) (refusal_sound TooManyMaps buffer)
 
-  module _ {w' : List ℕ} {r : Ruling} (few : header.maps ≤ 256)
+  module _ {w' : List ℕ} {r : Result (Unit {0}) Refusal} (few : header.maps ≤ 256)
       (R : Ruled w Fill steps procedures header r w') where
     given_few : {P : Program} {S : Split} → HoldsBoth w header steps procedures P S → S.header.maps ≤ 256
     given_few {S = S} B = omega (arith, maps_sound S header B.headed, few)
@@ -180,35 +174,31 @@ module _ (w : List ℕ) (header : Header) (steps procedures : ℕ) where
       few_maps = few;
     }
 
-    pub rule_refused : (buffer : List ℕ) (x : Refusal) → r ≡ ruling.Refused x → SheetsPost w header steps procedures buffer buffer (Err x)
-    unfolding outcome ◌>>=◌
+    pub rule_refused : (buffer : List ℕ) (x : Refusal) → r ≡ Err x → SheetsPost w header steps procedures buffer buffer (Err x)
+    unfolding ◌>>=◌
     rule_refused buffer x e P S B =
-        told_as (sym (after_rules _ P S (given_few B) (R.answers P S B.sheets (types_decodes S header B.headed)) e)) (refusal_sound x buffer)
+        told_as (sym (rw e at (after_rules (length buffer) P S (given_few B) (R.answers P S B.sheets (types_decodes S header B.headed))))) (refusal_sound x buffer)
 
-    pub rules_met : {before after : List ℕ} {f : Result ℕ Refusal} → steps ≤ 256 → procedures ≤ 16 → r ≡ ruling.Holds → TextPost w' header steps procedures before after f
+    pub rules_met : {before after : List ℕ} {f : Result ℕ Refusal} → steps ≤ 256 → procedures ≤ 16 → r ≡ Ok tt → TextPost w' header steps procedures before after f
         → SheetsPost w header steps procedures before after f
-    unfolding outcome ◌>>=◌
-    rules_met few procs e told P S B =
-        told_as (sym (after_rules _ P S (given_few B) (R.answers P S B.sheets (types_decodes S header B.headed)) e)) (told P S (both_kept few procs B))
+    unfolding ◌>>=◌
+    rules_met {before} few procs e told P S B =
+        told_as (sym (rw e at (after_rules (length before) P S (given_few B) (R.answers P S B.sheets (types_decodes S header B.headed))))) (told P S (both_kept few procs B))
 
 -- ------------------------------------------------------------------ the sheets
 
-module _ (p s w : List ℕ) (answered : Reading) (told : SheetsAnswered Fill p s w answered) where
-  pub sheets_given : {steps procedures : ℕ} {header : Header} → answered ≡ reading.Held steps procedures header → SheetsGiven w header steps procedures
-  sheets_given e =
-      let H = held_by Fill p s w answered told e in
-      record { few = H.few; few_procedures = H.few_procedures; small = H.small; P = H.P; S = H.S; holds = H.holds }
+module _ (p s : List ℕ) where
+  pub sheet_refused : (before : List ℕ) (r : Refusal) → sheets Fill p s ≡ Err r → OutcomePost (fill workspace_size (length before) p s) before before (Err r)
+  unfolding workspace_size
+  sheet_refused before r e = told_as (sym (sheets_refused work_size (length before) p s (omega arith) _ e)) (refusal_sound _ before)
 
-  module _ (before : List ℕ) where
-    pub sheet_refused : {r : Refusal} → answered ≡ reading.Refused r → OutcomePost (fill workspace_size (length before) p s) before before (Err r)
-    unfolding workspace_size
-    sheet_refused e =
-        told_as (sym (sheets_refused work_size (length before) p s (omega arith) _ (refused_by Fill p s w answered told e))) (refusal_sound _ before)
+  module _ {w : List ℕ} {steps procedures : ℕ} {header : Header} (H : SheetsHeld Fill p s w steps procedures header) where
+    pub sheets_given : SheetsGiven w header steps procedures
+    sheets_given = record { few = H.few; few_procedures = H.few_procedures; small = H.small; P = H.P; S = H.S; holds = H.holds }
 
-    pub sheets_filled : {steps procedures : ℕ} {header : Header} {after : List ℕ} {f : Result ℕ Refusal} → answered ≡ reading.Held steps procedures header
-        → SheetsPost w header steps procedures before after f → OutcomePost (fill workspace_size (length before) p s) before after f
+    pub sheets_filled : {before after : List ℕ} {f : Result ℕ Refusal} → SheetsPost w header steps procedures before after f
+        → OutcomePost (fill workspace_size (length before) p s) before after f
     unfolding fill after_reading workspace_size
-    sheets_filled e filled =
-        let H = held_by Fill p s w answered told e in
+    sheets_filled filled =
         told_as (sym (goes_on_bind _ _ (passed work_size work_size ShortWorkspace (omega arith)) (goes_on_bind _ _ H.read refl)))
         (filled H.P H.S H.holds)

@@ -16,10 +16,10 @@ ghost use Rattle.fill.specs.Numbers.{returned_by};
 ghost use Rattle.fill.specs.Stages.{OutcomePost, grown_by, SheetsGiven, MapsGiven, SheetPost, TextPost, SheetsPost};
 
 use maps::fill_maps;
-use sheets::Reading;
+use sheets::Held;
 use spec::{Header, Purpose, Refusal};
 use split_writer::write_sheet;
-use workspace::{Ruling, SIZE, clear};
+use workspace::{SIZE, clear};
 
 // The most bytes that a split sheet may have.
 const SPLIT_LIMIT: usize = 65536;
@@ -59,39 +59,31 @@ fn write_filled(
 }
 
 // 41 and 42, for the sheets that the work space holds.
-fn fill_held(
-    work: &mut [u32; SIZE],
-    header: Header,
-    steps: usize,
-    procedures: usize,
-    out: &mut [u8],
-) -> Result<u32, Refusal>
-    requires { MapsGiven work.old header steps procedures }
-    ensures { TextPost work.old header steps procedures out.old out.new result }
+fn fill_held(work: &mut [u32; SIZE], held: Held, out: &mut [u8]) -> Result<u32, Refusal>
+    requires { MapsGiven work.old held.header held.steps held.procedures }
+    ensures { TextPost work.old held.header held.steps held.procedures out.old out.new result }
 {
-    fill_maps(work, header, steps, procedures)?;
-    let whole = grown(header, steps);
-    write_filled(work, whole, steps, procedures, out)
+    fill_maps(work, held.header, held.steps, held.procedures)?;
+    let whole = grown(held.header, held.steps);
+    write_filled(work, whole, held.steps, held.procedures, out)
 }
 
 // 43 and on, for the sheets that the work space holds.
-fn fill_sheets(
-    work: &mut [u32; SIZE],
-    header: Header,
-    steps: usize,
-    procedures: usize,
-    out: &mut [u8],
-) -> Result<u32, Refusal>
-    requires { SheetsGiven work.old header steps procedures }
-    ensures { SheetsPost work.old header steps procedures out.old out.new result }
+fn fill_sheets(work: &mut [u32; SIZE], held: Held, out: &mut [u8]) -> Result<u32, Refusal>
+    requires { SheetsGiven work.old held.header held.steps held.procedures }
+    ensures { SheetsPost work.old held.header held.steps held.procedures out.old out.new result }
 {
-    if GIVEN_LIMIT < header.maps {
+    if GIVEN_LIMIT < held.header.maps {
         return Err(Refusal::TooManyMaps);
     }
-    match walk::check(work, Purpose::Fill, steps, procedures, header) {
-        Ruling::Refused(r) => Err(r),
-        Ruling::Holds => fill_held(work, header, steps, procedures, out),
-    }
+    walk::check(
+        work,
+        Purpose::Fill,
+        held.steps,
+        held.procedures,
+        held.header,
+    )?;
+    fill_held(work, held, out)
 }
 
 // The answer to a pair of texts, in a work space that is as long as document 01 wants.
@@ -103,12 +95,8 @@ fn fill_texts(
 ) -> Result<u32, Refusal>
     ensures { OutcomePost (filling workspace_size (length out.old) program.now split.now) out.old out.new result }
 {
-    match sheets::read(program, split, Purpose::Fill, work) {
-        Reading::Refused(r) => Err(r),
-        Reading::Held(steps, procedures, header) => fill_sheets(
-            work, header, steps, procedures, out,
-        ),
-    }
+    let held = sheets::read(program, split, Purpose::Fill, work)?;
+    fill_sheets(work, held, out)
 }
 
 // The whole sheet for a pair of texts, in front of the buffer `out`. What document 02 asks of it, clause by clause:

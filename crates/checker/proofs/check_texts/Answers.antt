@@ -1,18 +1,16 @@
--- By what was read: a refusal is the answer, else the rules give it.
-use mathlib.Core.Path.{◌∙◌}
-use Rattle.spec.specs.declared.Purpose.TheVariants.{Check}
-use Rattle.sheets.proofs.Found.{held_by}
+-- By what was read: a refusal is told, else the rules decide.
+use Rattle.std.proofs.Common.{ap, ◌∙◌}
+use Rattle.std.proofs.lemmas.Result.{err_from_is_err_and}
 use Rattle.checker.proofs.Stages.{sheet_refused, sheets_ruled}
 use Rattle.checker.proofs.check_texts.Goals as goal
 
-pub check_rules-requires : goal.check_rules-requires
-check_rules-requires c =
-    let H = held_by Check _ _ _ _ c.read.ensures c.in-Held.is in
-    record { long = c.read.auto.work ∙ c.requires; few = H.few; few_procedures = H.few_procedures; small = H.small }
+pub returns-in_err-held : goal.returns-in_err-held
+returns-in_err-held c =
+    let p = err_from_is_err_and c.from_residual.result c.from_residual.ensures.1 in
+    rw (p.1, p.2) (sheet_refused _ _ _ c.in_err-held.ensures)
 
-pub returns-in-Refused : goal.returns-in-Refused
-returns-in-Refused c = sheet_refused _ _ _ _ c.read.ensures c.in-Refused.is
+pub check-requires : goal.check-requires
+check-requires c = ?
 
-pub returns-in-Held : goal.returns-in-Held
-returns-in-Held c =
-    sheets_ruled _ _ _ _ c.read.ensures c.in-Held.is c.check_rules.ensures
+pub returns : goal.returns
+returns c = sheets_ruled _ _ _ _ _ _ c.in_ok-held.ensures c.check.ensures
