@@ -25,7 +25,7 @@ use Rattle.split_fields.specs.Answers.{SplitCursor}
 use Rattle.split.specs.Stored.{EmptyStored, Storing, StoringRows, StoringSignatures, TypesRead, MapsRead, SignaturesRead, RowsRead}
 use Rattle.split.specs.Sheet.{StoringBody, body, BodyAnswer, BodyRead}
 
-module _ (purpose : Purpose) {text : List ℕ} {c : Cursor} {h : Header} {n k : ℕ} {w : List ℕ} (pre : StoringBody text c h n k w) where
+module _ (purpose : Purpose) {text : List ℕ} {c : Cursor} {h : Header} {n k : ℕ} {w : List ℕ} (pre : StoringBody text c h n k) (long : length w ≡ work_size) where
   pub types_stop : {w₁ : List ℕ} {r : Refusal} → TypesRead text c h w w₁ (Err r) → BodyRead purpose h n k (place_at text c) w w₁ (Err r)
   unfolding body ◌>>=◌
   types_stop types = record { answered = rw types.answered; changed = changed_wider row_types_at work_size (omega arith) (omega arith) types.changed }
@@ -34,12 +34,8 @@ module _ (purpose : Purpose) {text : List ℕ} {c : Cursor} {h : Header} {n k : 
     changed_one : ChangedWithin row_types_at work_size w w₁
     changed_one = changed_wider row_types_at work_size (omega arith) (omega arith) types.changed
 
-    pub maps_ready : Storing text c₂ h w₁
-    maps_ready = record {
-      reading = record { placed = types.answered.4; fits = pre.storing.reading.fits };
-      small = pre.storing.small;
-      whole = types.changed.long ∙ pre.storing.whole;
-    }
+    pub maps_ready : Storing text c₂ h
+    maps_ready = record { reading = record { placed = types.answered.4; fits = pre.storing.reading.fits }; small = pre.storing.small }
 
     pub maps_stop : {w₂ : List ℕ} {r : Refusal} → MapsRead text c₂ h w₁ w₂ (Err r) → BodyRead purpose h n k (place_at text c) w w₂ (Err r)
     unfolding body ◌>>=◌
@@ -52,19 +48,15 @@ module _ (purpose : Purpose) {text : List ℕ} {c : Cursor} {h : Header} {n k : 
       changed_two : ChangedWithin row_types_at work_size w w₂
       changed_two = changed_then row_types_at work_size changed_one (changed_wider row_types_at work_size (omega arith) (omega arith) maps.changed)
 
-      pub empty_ready : length w₂ ≡ work_size
-      empty_ready = changed_two.long ∙ pre.storing.whole
-
       module _ {v : List ℕ} (emptied : EmptyStored w₂ v) where
         changed_empty : ChangedWithin row_types_at work_size w v
         changed_empty = changed_then row_types_at work_size changed_two (changed_wider row_types_at work_size (omega arith) (omega arith) emptied.changed)
 
-        pub signatures_ready : StoringSignatures text c₃ h k v
+        pub signatures_ready : StoringSignatures text c₃ h k
         signatures_ready = record {
           storing = record {
             reading = record { placed = maps.answered.4; fits = pre.storing.reading.fits };
             small = pre.storing.small;
-            whole = changed_empty.long ∙ pre.storing.whole;
           };
           few = pre.few_procedures;
         }
@@ -80,12 +72,11 @@ module _ (purpose : Purpose) {text : List ℕ} {c : Cursor} {h : Header} {n k : 
           changed_signed : ChangedWithin row_types_at work_size w u
           changed_signed = changed_then row_types_at work_size changed_empty (changed_wider row_types_at work_size (omega arith) (omega arith) signatures.changed)
 
-          pub rows_ready : StoringRows text c₄ h n u
+          pub rows_ready : StoringRows text c₄ h n
           rows_ready = record {
             storing = record {
               reading = record { placed = signatures.answered.4; fits = pre.storing.reading.fits };
               small = pre.storing.small;
-              whole = changed_signed.long ∙ pre.storing.whole;
             };
             few = pre.few_steps;
           }

@@ -22,10 +22,9 @@ pub record Readable (text : List ℕ) (steps procedures : ℕ) (w : List ℕ) : 
   pub few_procedures : procedures ≤ 16
   pub whole : length w ≡ work_size
 
--- a cursor after a header, and a work space to store the lines after it in, with rows of so many steps and signatures of so many
--- procedures among them
-pub record StoringBody (text : List ℕ) (c : Cursor) (h : Header) (steps procedures : ℕ) (w : List ℕ) : Type 0 where
-  pub storing : Storing text c h w
+-- a cursor after a header, after which rows of so many steps and signatures of so many procedures may be
+pub record StoringBody (text : List ℕ) (c : Cursor) (h : Header) (steps procedures : ℕ) : Type 0 where
+  pub storing : Storing text c h
   pub few_steps : steps ≤ 256
   pub few_procedures : procedures ≤ 16
 

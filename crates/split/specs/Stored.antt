@@ -50,20 +50,19 @@ pub record EmptyStored (w w' : List ℕ) : Type 0 where
   pub empty : Region w' (maps_at + stride * empty_map) (replicate stride 0)
   pub changed : ChangedWithin empty_row_at (empty_row_at + stride) w w'
 
--- a cursor after which lines of a sheet with this header may be, and a work space to store them in
-pub record Storing (text : List ℕ) (c : Cursor) (h : Header) (w : List ℕ) : Type 0 where
+-- a cursor after which lines of a sheet with this header may be
+pub record Storing (text : List ℕ) (c : Cursor) (h : Header) : Type 0 where
   pub reading : SplitCursor text c
   pub small : Small h
-  pub whole : length w ≡ work_size
 
 -- the same, with rows of so many steps among them
-pub record StoringRows (text : List ℕ) (c : Cursor) (h : Header) (steps : ℕ) (w : List ℕ) : Type 0 where
-  pub storing : Storing text c h w
+pub record StoringRows (text : List ℕ) (c : Cursor) (h : Header) (steps : ℕ) : Type 0 where
+  pub storing : Storing text c h
   pub few : steps ≤ 256
 
 -- the same, with signatures of so many procedures
-pub record StoringSignatures (text : List ℕ) (c : Cursor) (h : Header) (procedures : ℕ) (w : List ℕ) : Type 0 where
-  pub storing : Storing text c h w
+pub record StoringSignatures (text : List ℕ) (c : Cursor) (h : Header) (procedures : ℕ) : Type 0 where
+  pub storing : Storing text c h
   pub few : procedures ≤ 16
 
 -- n lines read one after the other: what they say is in the work space

@@ -19,6 +19,7 @@ use signature_lines::read_signatures;
 use spec::{Header, Purpose, Refusal};
 use split_header::header_line;
 use type_lines::read_types;
+use workspace::SIZE;
 
 // A line after the last is spare.
 #[tactic(auto, using(split_fields::proofs::LineLaws::end_reached, split_fields::proofs::LineLaws::line_spare))]
@@ -40,9 +41,9 @@ fn read_body(
     header: Header,
     steps: usize,
     procedures: usize,
-    work: &mut [u32],
+    work: &mut [u32; SIZE],
 ) -> Result<(), Refusal>
-    requires { StoringBody text.now from header steps procedures work.old }
+    requires { StoringBody text.now from header steps procedures }
     ensures { BodyRead purpose header steps procedures (place_at text.now from) work.old work.new result }
 {
     let maps_from = read_types(text, from, header, work)?;
@@ -70,6 +71,7 @@ pub fn read(
         return Err(Refusal::SplitForm(1));
     }
     let (header, next) = header_line(text, top, purpose)?;
+    let work = work.as_mut_array().unwrap();
     read_body(text, next, purpose, header, steps, procedures, work)?;
     Ok(header)
 }

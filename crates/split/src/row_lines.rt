@@ -1,6 +1,6 @@
 // The step lines of the split sheet, into the work space.
-ghost use Rattle.std.specs.Prelude.{◌≡◌, ◌+◌, ◌<◌, length, set};
-ghost use Rattle.workspace.specs.Layout.{row_types_at, posts_at, starts_at, work_size};
+ghost use Rattle.std.specs.Prelude.{◌≡◌, ◌+◌, ◌<◌, set};
+ghost use Rattle.workspace.specs.Layout.{row_types_at, posts_at, starts_at};
 ghost use Rattle.workspace.specs.Holds.{start_number};
 ghost use Rattle.split.specs.Stored.{StoringRows, RowsRead};
 
@@ -8,11 +8,11 @@ use lexer::Cursor;
 use spec::{Header, Purpose, Refusal};
 use split_fields::start_number;
 use split_lines::{Row, row_line};
-use workspace::{POSTS, ROW_TYPES, STARTS, WORDS};
+use workspace::{POSTS, ROW_TYPES, SIZE, STARTS, WORDS};
 
 // Stores a row in the three columns of rows.
-fn store_row(work: &mut [u32], k: usize, row: Row)
-    requires { (length work.old ≡ work_size) × (k < 256) }
+fn store_row(work: &mut [u32; SIZE], k: usize, row: Row)
+    requires { k < 256 }
     ensures { work.new ≡ set (set (set work.old (row_types_at + k) row.typed.0) (posts_at + k) row.post.0) (starts_at + k) (start_number row.start) }
 {
     work[ROW_TYPES + k] = row.typed.0;
@@ -27,9 +27,9 @@ pub(crate) fn read_rows(
     purpose: Purpose,
     header: Header,
     steps: usize,
-    work: &mut [u32],
+    work: &mut [u32; SIZE],
 ) -> Result<Cursor, Refusal>
-    requires { StoringRows text.now from header steps work.old }
+    requires { StoringRows text.now from header steps }
     ensures { RowsRead purpose text.now from header steps work.old work.new result }
 {
     let mut cursor = from;

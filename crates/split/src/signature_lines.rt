@@ -1,16 +1,15 @@
 // The signature lines of the split sheet, into the work space.
-ghost use Rattle.std.specs.Prelude.{◌≡◌, ◌<◌, length};
-ghost use Rattle.workspace.specs.Layout.{work_size};
+ghost use Rattle.std.specs.Prelude.{◌≡◌, ◌<◌};
 ghost use Rattle.split.specs.Stored.{StoringSignatures, signed, SignaturesRead};
 
 use lexer::Cursor;
 use spec::{Header, Refusal, Signature};
 use split_lines::signature_line;
-use workspace::{SIG_AFTERS, SIG_ARGUMENTS, SIG_BEFORES, SIG_RESULTS};
+use workspace::{SIG_AFTERS, SIG_ARGUMENTS, SIG_BEFORES, SIG_RESULTS, SIZE};
 
 // Stores a signature in the four columns of signatures.
-fn store_signature(work: &mut [u32], f: usize, signature: Signature)
-    requires { (length work.old ≡ work_size) × (f < 16) }
+fn store_signature(work: &mut [u32; SIZE], f: usize, signature: Signature)
+    requires { f < 16 }
     ensures { work.new ≡ signed work.old f signature }
 {
     work[SIG_BEFORES + f] = signature.before.0;
@@ -25,9 +24,9 @@ pub(crate) fn read_signatures(
     from: Cursor,
     header: Header,
     procedures: usize,
-    work: &mut [u32],
+    work: &mut [u32; SIZE],
 ) -> Result<Cursor, Refusal>
-    requires { StoringSignatures text.now from header procedures work.old }
+    requires { StoringSignatures text.now from header procedures }
     ensures { SignaturesRead text.now from header procedures work.old work.new result }
 {
     let mut cursor = from;

@@ -1,16 +1,16 @@
 // The type lines of the split sheet, into the work space.
-ghost use Rattle.std.specs.Prelude.{◌≡◌, ◌+◌, ◌<◌, length, set};
-ghost use Rattle.workspace.specs.Layout.{kinds_at, firsts_at, seconds_at, work_size, kind_code, first_of, second_of};
+ghost use Rattle.std.specs.Prelude.{◌≡◌, ◌+◌, ◌<◌, set};
+ghost use Rattle.workspace.specs.Layout.{kinds_at, firsts_at, seconds_at, kind_code, first_of, second_of};
 ghost use Rattle.split.specs.Stored.{Storing, TypesRead};
 
 use lexer::Cursor;
 use spec::{Header, Refusal, TypeLine, TypeNumber};
 use split_lines::type_line;
-use workspace::{FIRSTS, KINDS, SECONDS};
+use workspace::{FIRSTS, KINDS, SECONDS, SIZE};
 
 // Stores a type in the three columns of types.
-fn store_type(work: &mut [u32], own: TypeNumber, t: TypeLine)
-    requires { (length work.old ≡ work_size) × (own.0 < 64) }
+fn store_type(work: &mut [u32; SIZE], own: TypeNumber, t: TypeLine)
+    requires { own.0 < 64 }
     ensures { work.new ≡ set (set (set work.old (kinds_at + own.0) (kind_code t)) (firsts_at + own.0) (first_of t)) (seconds_at + own.0) (second_of t) }
 {
     let at = workspace::index(own.0);
@@ -24,9 +24,9 @@ pub(crate) fn read_types(
     text: &[u8],
     from: Cursor,
     header: Header,
-    work: &mut [u32],
+    work: &mut [u32; SIZE],
 ) -> Result<Cursor, Refusal>
-    requires { Storing text.now from header work.old }
+    requires { Storing text.now from header }
     ensures { TypesRead text.now from header work.old work.new result }
 {
     let mut cursor = from;

@@ -1,5 +1,6 @@
 -- The header, and then the lines after it.
-use mathlib.Core.Path.{sym}
+use mathlib.Core.Path.{◌≡◌, sym}
+use Rattle.std.proofs.Common.{rules}
 use Rattle.split_fields.proofs.LineLaws.{handed_on}
 use Rattle.split.proofs.WholeLaws.{read_empty, at_header, read_header_stop, behind_header, read_body_stop, read_whole}
 use Rattle.split.proofs.read.Goals as goal
@@ -20,8 +21,11 @@ read_body-requires c = behind_header c.requires c.args.purpose c.start-top.ensur
 
 pub returns-in_err-read_body : goal.returns-in_err-read_body
 returns-in_err-read_body c =
+    let same : c.unwrap-work.result.now ≡ c.args.work.now = search rules in
     rw (handed_on c.from_residual-in_err-read_body.result c.from_residual-in_err-read_body.ensures.1)
-    (read_body_stop c.requires c.args.purpose c.start-top.ensures (sym c.if-at_end.ensures) c.in_ok-header.ensures c.in_err-read_body.ensures)
+    (read_body_stop c.requires c.args.purpose c.start-top.ensures (sym c.if-at_end.ensures) c.in_ok-header.ensures (rw same at c.in_err-read_body.ensures))
 
 pub returns : goal.returns
-returns c = read_whole c.requires c.args.purpose c.start-top.ensures (sym c.if-at_end.ensures) c.in_ok-header.ensures c.in_ok-read_body.ensures
+returns c =
+    let same : c.unwrap-work.result.now ≡ c.args.work.now = search rules in
+    read_whole c.requires c.args.purpose c.start-top.ensures (sym c.if-at_end.ensures) c.in_ok-header.ensures (rw same at c.in_ok-read_body.ensures)

@@ -12,13 +12,13 @@ pub returns-in_err-cursor : goal.returns-in_err-cursor
 returns-in_err-cursor c =
     let pre = c.requires in
     rw (handed_on c.from_residual.result c.from_residual.ensures.1)
-    (map_stops pre.small.locations pre.small.maps pre.whole c.loop-m.invariant c.loop-m-test.true c.map_line.new.into c.map_line.auto.into
+    (map_stops pre.small.locations pre.small.maps c.told-work c.loop-m.invariant c.loop-m-test.true c.map_line.new.into c.map_line.auto.into
     (maps_numbered c.args.header c.args.header.maps) c.in_err-cursor.ensures)
 
 pub loop-m-preserved : goal.loop-m-preserved
 loop-m-preserved c =
     let pre = c.requires in
-    map_on pre.small.locations pre.small.maps pre.whole c.loop-m.invariant c.loop-m-test.true c.map_line.new.into c.map_line.auto.into c.in_ok-cursor.ensures.0 c.in_ok-cursor.ensures.1
+    map_on pre.small.locations pre.small.maps c.told-work c.loop-m.invariant c.loop-m-test.true c.map_line.new.into c.map_line.auto.into c.in_ok-cursor.ensures.0 c.in_ok-cursor.ensures.1
 
 pub returns : goal.returns
 returns c = stages_done c.loop-m.invariant (maps_numbered c.args.header c.args.header.maps) (omega arith)

@@ -14,7 +14,7 @@ use Rattle.split.proofs.row_lines.read_rows.Goals as goal
 pub loop-k-init : goal.loop-k-init
 loop-k-init c =
     first_stage
-    (columns_empty (λ (r : Row). r.type.0) (λ (r : Row). r.post.0) (λ (r : Row). start_number r.start) row_types_at 256 c.args.work.now (omega (arith, c.requires.storing.whole)))
+    (columns_empty (λ (r : Row). r.type.0) (λ (r : Row). r.post.0) (λ (r : Row). start_number r.start) row_types_at 256 c.args.work.now (omega (arith, c.told-work)))
     c.requires.storing.reading.placed
 
 -- the line is that of its step's word
@@ -28,7 +28,7 @@ returns-in_err-row c =
 pub loop-k-preserved : goal.loop-k-preserved
 loop-k-preserved c =
     let here = row_here c.args.purpose c.args.header c.args.text.now c.loop-k.cursor c.loop-k.k c.word_of-word.ensures (omega (arith, c.loop-k-test.true, c.requires.few)) c.loop-k.invariant.changed in
-    columns_on (λ (r : Row). r.type.0) (λ (r : Row). r.post.0) (λ (r : Row). start_number r.start) row_types_at 256 c.requires.few (omega (arith, c.requires.storing.whole)) c.loop-k.invariant c.loop-k-test.true
+    columns_on (λ (r : Row). r.type.0) (λ (r : Row). r.post.0) (λ (r : Row). start_number r.start) row_types_at 256 c.requires.few (omega (arith, c.told-work)) c.loop-k.invariant c.loop-k-test.true
     {entry = row_decoded _} (here ∙ c.in_ok-row.ensures.0) c.in_ok-row.ensures.1 c.store_row.ensures
 
 pub returns : goal.returns

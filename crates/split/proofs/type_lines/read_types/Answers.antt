@@ -8,7 +8,7 @@ use Rattle.split.proofs.Loops.{columns_on}
 use Rattle.split.proofs.type_lines.read_types.Goals as goal
 
 pub loop-own-init : goal.loop-own-init
-loop-own-init c = first_stage (columns_empty kind_code first_of second_of kinds_at 64 c.args.work.now (omega (arith, c.requires.whole))) c.requires.reading.placed
+loop-own-init c = first_stage (columns_empty kind_code first_of second_of kinds_at 64 c.args.work.now (omega (arith, c.told-work))) c.requires.reading.placed
 
 pub returns-in_err-t : goal.returns-in_err-t
 returns-in_err-t c =
@@ -17,7 +17,7 @@ returns-in_err-t c =
 
 pub loop-own-preserved : goal.loop-own-preserved
 loop-own-preserved c =
-    columns_on kind_code first_of second_of kinds_at 64 c.requires.small.types (omega (arith, c.requires.whole)) c.loop-own.invariant c.loop-own-test.true
+    columns_on kind_code first_of second_of kinds_at 64 c.requires.small.types (omega (arith, c.told-work)) c.loop-own.invariant c.loop-own-test.true
     c.in_ok-t.ensures.0 c.in_ok-t.ensures.1 c.store_type.ensures
 
 pub returns : goal.returns
