@@ -1,10 +1,9 @@
 -- The bodies of procedures at run time: each keeps its signature, so a call may become the body with the argument put for its parameter.
+use Rattle.std.proofs.Common.{Some, slice_get}
 use Prim.Native.Nat.{ℕ, zero, suc}
 use mathlib.Core.Path.{◌≡◌, refl}
-use mathlib.Core.Option.{some}
 use mathlib.Core.List.{List}
 use native.Mathlib.Omega.{arith}
-use lib.ListN.{get_elem?}
 use Rattle.calculus.specs.Expression.{Value, substitute, Procedure}
 use Rattle.calculus.specs.Capability.{Cap}
 use Rattle.calculus.specs.Figure5.{Signature, Signatures, Env, empty, bind, BodiesDerived, no_procedures, procedure}
@@ -22,17 +21,17 @@ KeepsSignature D S p g =
 -- Procedure f is there and keeps the signature g.
 pub record BodyTyped (D : ℕ) (S : Signatures) (P : List Procedure) (f : ℕ) (g : Signature) : Type 0 where
   pub p : Procedure
-  pub there : get_elem? P f ≡ some p
+  pub there : slice_get P f ≡ Some p
   pub keeps : KeepsSignature D S p g
 
 -- Every procedure that has a signature is there and keeps it.
 abbrev pub BodiesTyped : ℕ → Signatures → List Procedure → Type 0
-BodiesTyped D S P = (f : ℕ) (g : Signature) → get_elem? S f ≡ some g → BodyTyped D S P f g
+BodiesTyped D S P = (f : ℕ) (g : Signature) → slice_get S f ≡ Some g → BodyTyped D S P f g
 
 -- ---- Figure 5 gives it
 
 pub bodies_are_typed : {D : ℕ} {S : Signatures} {ps : List Procedure} {gs : Signatures} → BodiesDerived D S ps gs → (f : ℕ) (g : Signature) →
-    get_elem? gs f ≡ some g → BodyTyped D S ps f g
+    slice_get gs f ≡ Some g → BodyTyped D S ps f g
 bodies_are_typed no_procedures f g e = none_is_not_some e
 bodies_are_typed {D} {S} (procedure {p = p} {g = h} derived enough rest) zero g e =
     let keeps : KeepsSignature D S p h = λ N. typing_weakens (derived_is_typed N derived) ≥-refl enough in

@@ -1,8 +1,8 @@
 -- Two steps on cells, of different threads, give the same state in either order: with no race they are on different cells, or both read.
+use Rattle.std.proofs.Common.{Some}
 use Prim.Native.Nat.{ℕ}
 use mathlib.Core.Path.{◌≡◌, refl, sym, ap, ◌∙◌}
 use mathlib.Core.Logic.{◌≢◌, ◌⊎◌, inl, inr}
-use mathlib.Core.Option.{some}
 use mathlib.Core.List.{List, ◌∷◌, ◌++◌}
 use native.Mathlib.Decide.{ℕ_discrete}
 use Rattle.calculus.specs.Expression.{Value, name, read, Exp, value, write_redex, unary_redex, Next, at_word, next_word, choose, Procedure, Program}
@@ -19,7 +19,7 @@ use Rattle.calculus.proofs.Laws.Runs.{last_is_on_the_way, run_of_both, run_goes_
 -- names change so.
 record CellStep (P : List Procedure) (m : Move) (t : Thread) (n : ℕ) (v : Value) (change : (ℕ → Slot) → ℕ → Slot) : Type 0 where
   e : Exp
-  goes : (s : State) → ThreadAt s m.thread t → s.names n ≡ cell v → reduce P s m ≡ some (becomes s m t (change s.names) e)
+  goes : (s : State) → ThreadAt s m.thread t → s.names n ≡ cell v → reduce P s m ≡ Some (becomes s m t (change s.names) e)
 
 word_found : (P : List Procedure) (s : State) (m : Move) (t : Thread) {q : Next} → ThreadAt s m.thread t → next_word t.body ≡ q →
     reduce P s m ≡ (word_of q >>= reduct P s m t)
@@ -31,7 +31,7 @@ read_step : (P : List Procedure) (m : Move) (t : Thread) (n : ℕ) (v : Value) �
     CellStep P m t n v (λ names. names)
 read_step P m t n v word = record {
   e = value v;
-  goes = λ s there holds. word_found P s m t there word ∙ ap (λ sl. cell_value sl >>= λ w. some (becomes s m t s.names (value w))) holds;
+  goes = λ s there holds. word_found P s m t there word ∙ ap (λ sl. cell_value sl >>= λ w. Some (becomes s m t s.names (value w))) holds;
 }
 
 write_step : (P : List Procedure) (m : Move) (t : Thread) (n : ℕ) (v w : Value) → next_word t.body ≡ at_word (write_redex (name n) w) →
@@ -39,7 +39,7 @@ write_step : (P : List Procedure) (m : Move) (t : Thread) (n : ℕ) (v w : Value
 write_step P m t n v w word = record {
   e = zero_exp;
   goes = λ s there holds. word_found P s m t there word
-      ∙ ap (λ sl. cell_value sl >>= λ z. some (becomes s m t (update s.names n (cell w)) zero_exp)) holds;
+      ∙ ap (λ sl. cell_value sl >>= λ z. Some (becomes s m t (update s.names n (cell w)) zero_exp)) holds;
 }
 
 -- ---- Two steps
@@ -68,7 +68,7 @@ module _ (P : List Procedure) (s : State) (m k : Move) (t u : Thread) (apart : m
       record {
         after = becomes s₁ k u (g (f s.names)) b.e;
         one_way = ap (λ o. o >>= λ z. reduce P z k) m_first ∙ then_k;
-        other_way = ap (λ o. o >>= λ z. reduce P z m) k_first ∙ then_m ∙ ap some (sym same);
+        other_way = ap (λ o. o >>= λ z. reduce P z m) k_first ∙ then_m ∙ ap Some (sym same);
       }
 
   race_free_swap : {n l : ℕ} → RaceFree s → AboutToRead s t n ⊎ AboutToWrite s t n → AboutToRead s u l ⊎ AboutToWrite s u l → SameEitherWay P s m k

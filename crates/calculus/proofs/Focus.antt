@@ -1,7 +1,7 @@
 -- The next word of a typed expression is typed, and what is typed as it is may take its place.
+use Rattle.std.proofs.Common.{None}
 use Prim.Native.Nat.{ℕ, ◌≤◌}
 use mathlib.Core.Path.{◌≡◌, refl, sym, ap, ◌∙◌}
-use mathlib.Core.Option.{none}
 use native.Mathlib.Nat.{le_trans}
 use Rattle.calculus.specs.Expression.{Value, Unary, Nullary, Exp, value, let_in, if, while, spawn, write, unary, nullary, Redex, let_redex, if_redex, while_redex, spawn_redex, write_redex, unary_redex, nullary_redex, Next, is_value, at_variable, at_word, next_word, if_value, plug}
 use Rattle.calculus.specs.Capability.{Cap, ◌≥ᶜ◌}
@@ -125,7 +125,7 @@ focus (unary_typed {o = o} {e = e} a b) q =
 focus (nullary_typed {o = o} b) q = whole (nullary o) (nullary_redex_typed b) (word_injective q) (λ e'. refl)
 
 -- A typed expression with no free variable does not come to one.
-pub closed_has_no_variable : {D : ℕ} {S : Signatures} {N Γ : Env} {Ψ Φ : Cap} {e : Exp} {τ : Ty} {x : ℕ} → ((y : ℕ) → Γ y ≡ none) →
+pub closed_has_no_variable : {D : ℕ} {S : Signatures} {N Γ : Env} {Ψ Φ : Cap} {e : Exp} {τ : Ty} {x : ℕ} → ((y : ℕ) → Γ y ≡ None) →
     Typed D S N Γ Ψ e τ Φ → next_word e ≡ at_variable x → ⊥
 closed_has_no_variable c (value_typed t h) q = variable_is_no_value q refl
 closed_has_no_variable c (var_typed {x = y} t f h) q = none_is_not_some (sym (c y) ∙ t)

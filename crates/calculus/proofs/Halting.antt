@@ -1,11 +1,10 @@
 -- A thread that halts in a well-typed state has finished, or waits: progress.
+use Rattle.std.proofs.Common.{Option, None, Some, slice_get}
 use Prim.Native.Nat.{ℕ, zero, suc}
 use mathlib.Core.Path.{◌≡◌, refl, ap}
 use mathlib.Core.Logic.{◌⊎◌, inl, inr}
-use mathlib.Core.Option.{Option, none, some}
 use mathlib.Core.List.{List}
 use native.Mathlib.Omega.{arith}
-use lib.ListN.{get_elem?}
 use Rattle.calculus.specs.Expression.{Value, name, HoldWord, Unary, join, ref, read, lock, unlock, post, wait, hold, call, Redex, unary_redex, Next, is_value, at_variable, at_word, next_word, Procedure}
 use Rattle.calculus.specs.State.{LockState, opened, closed, Inside, Slot, identifier, a_lock, semaphore, rwlock, Thread, State, first, Move}
 use Rattle.calculus.specs.Reduction.{if_unused, if_identifier, cell_value, lock_state, count, rw_state, inside_after, if_equal, value_of, word_of, named, reduct, reduce}
@@ -32,22 +31,22 @@ listed i j n = record { thread = i; part = first; finished = j; fresh = n }
 module _ {D : ℕ} {S : Signatures} {s : State} (P : List Procedure) (bodies : BodiesTyped D S P) (I : WellTyped D S s) (i : ℕ) (t : Thread)
     (there : ThreadAt s i t) (halts : Halts P s i) where
   -- Whatever a move of the thread lists, its next word does not reduce.
-  no_reduct : {r : Redex} → next_word t.body ≡ at_word r → (j n : ℕ) → reduct P s (listed i j n) t r ≡ none
+  no_reduct : {r : Redex} → next_word t.body ≡ at_word r → (j n : ℕ) → reduct P s (listed i j n) t r ≡ None
   unfolding reduce
   no_reduct word j n =
-      let from_here = bind_goes_on (get_elem? s.threads i) _ there (halts (listed i j n) refl) in
+      let from_here = bind_goes_on (slice_get s.threads i) _ there (halts (listed i j n) refl) in
       bind_goes_on (word_of (next_word t.body)) _ (ap word_of word) from_here
 
   -- A word that makes a new thing goes ahead: some name is unused.
-  named_goes_ahead : {A : Type 0} (new : Slot) → named s (listed i 0 I.top) t new ≡ none → A
+  named_goes_ahead : {A : Type 0} (new : Slot) → named s (listed i 0 I.top) t new ≡ None → A
   named_goes_ahead new h =
       some_is_not_none (bind_goes_on (if_unused (s.names I.top)) _ (ap if_unused (I.above I.top (omega arith))) h)
 
   -- So does a word on a cell.
-  cell_has_content : {ρ n : ℕ} {τ : Ty} → I.N n ≡ some (ref_type ρ τ) → (v : Value) × (cell_value (s.names n) ≡ some v)
+  cell_has_content : {ρ n : ℕ} {τ : Ty} → I.N n ≡ Some (ref_type ρ τ) → (v : Value) × (cell_value (s.names n) ≡ Some v)
   cell_has_content {n} known = let (v, found, _) = cell_there (rw known at (I.slots n)) in (v, ap cell_value found)
 
-  join_waits : {K : Cap} {n : ℕ} → next_word t.body ≡ at_word (unary_redex join (name n)) → I.N n ≡ some (tid_type K) → Waits s t
+  join_waits : {K : Cap} {n : ℕ} → next_word t.body ≡ at_word (unary_redex join (name n)) → I.N n ≡ Some (tid_type K) → Waits s t
   join_waits {n} word known = at_join n word kind none_finished
     where
       kind : s.names n ≡ identifier
@@ -56,7 +55,7 @@ module _ {D : ℕ} {S : Signatures} {s : State} (P : List Procedure) (bodies : B
       none_finished : (j : ℕ) (u : Thread) → ThreadAt s j u → u.tid ≡ n → ¬ Finished u
       none_finished j u at_j same (finished v ended) =
           let h₁ = bind_goes_on (if_identifier (s.names n)) _ (ap if_identifier kind) (no_reduct word j 0) in
-          let h₂ = bind_goes_on (get_elem? s.threads j) _ at_j h₁ in
+          let h₂ = bind_goes_on (slice_get s.threads j) _ at_j h₁ in
           let h₃ = bind_goes_on (if_equal u.tid n) _ (equal_complete u.tid n same) h₂ in
           some_is_not_none (bind_goes_on (value_of (next_word u.body)) _ (ap (λ e. value_of (next_word e)) ended) h₃)
 
@@ -77,8 +76,8 @@ module _ {D : ℕ} {S : Signatures} {s : State} (P : List Procedure) (bodies : B
   -- A word of a read-write lock goes ahead unless the lock does not let it.
   hold_waits : {n M : ℕ} {k : Inside} (w : HoldWord) → next_word t.body ≡ at_word (unary_redex (hold w) (name n)) → s.names n ≡ rwlock M k →
       (o : Option Inside) → inside_after M w k ≡ o → Waits s t
-  hold_waits {n} {M} {k} w word found none stays = at_hold n M w k word found stays
-  hold_waits {n} {M} {k} w word found (some after) turned =
+  hold_waits {n} {M} {k} w word found None stays = at_hold n M w k word found stays
+  hold_waits {n} {M} {k} w word found (Some after) turned =
       let h = bind_goes_on (rw_state (s.names n)) _ (ap rw_state found) (no_reduct word 0 0) in
       some_is_not_none (bind_goes_on (inside_after M w k) _ turned h)
 
@@ -101,7 +100,7 @@ module _ {D : ℕ} {S : Signatures} {s : State} (P : List Procedure) (bodies : B
   unary_halts (hold w) word (hold_typed typed) (name_typed {n = n} known as_it_is) =
       let (M, k, found, _) = rwlock_there (rw known at (I.slots n)) in hold_waits w word found (inside_after M w k) refl
   unary_halts (call f) word (call_typed {g = g} known pays gains) argument =
-      some_is_not_none (bind_goes_on (get_elem? P f) _ (bodies f g known).there (no_reduct word 0 0))
+      some_is_not_none (bind_goes_on (slice_get P f) _ (bodies f g known).there (no_reduct word 0 0))
 
   redex_halts : {σ : Ty} {Ψ Φ : Cap} {r : Redex} → next_word t.body ≡ at_word r → RedexTyped D S I.N empty Ψ Φ r σ → Waits s t
   redex_halts word (let_redex_typed v_typed e_typed) = some_is_not_none (no_reduct word 0 0)

@@ -1,8 +1,8 @@
 -- Well-typed states (Definition 2.3), and the two ways in which a change keeps them well typed.
+use Rattle.std.proofs.Common.{Option, None, Some}
 use Prim.Native.Nat.{ℕ, suc, ◌+◌, ◌-◌, ◌*◌, ◌≤◌, max}
 use mathlib.Core.Path.{◌≡◌, refl, ap, ◌∙◌}
 use mathlib.Core.Logic.{◌≢◌}
-use mathlib.Core.Option.{Option, none, some}
 use mathlib.Core.List.{List}
 use native.Mathlib.Decide.{ℕ_discrete}
 use native.Mathlib.Omega.{arith}
@@ -21,12 +21,12 @@ use Rattle.calculus.proofs.Laws.Total.{total, total_with_one_changed}
 -- A slot has the type that its name has; a name has none until it is used. A lock's type does not change as it opens and
 -- closes, and hands out no more than it takes; a read-write lock takes a share for each of its reading places.
 pub data SlotTyped (N : Env) : Slot → Option Ty → Type 0 where
-  slot_unused : SlotTyped N unused none
-  slot_identifier : {K : Cap} → SlotTyped N identifier (some (tid_type K))
-  slot_cell : {v : Value} {ρ : ℕ} {τ : Ty} → ValueTyped N v τ → SlotTyped N (cell v) (some (ref_type ρ τ))
-  slot_lock : {l : LockState} {Ψᵢ Ψₒ : Cap} → Ψₒ ≥ᶜ Ψᵢ → SlotTyped N (a_lock l) (some (lock_type Ψᵢ Ψₒ))
-  slot_semaphore : {c : ℕ} {K : Cap} → SlotTyped N (semaphore c) (some (sem_type K))
-  slot_rwlock : {M : ℕ} {i : Inside} {Ψr Ψw : Cap} → Ψw ≥ᶜ M ×ᶜ Ψr → SlotTyped N (rwlock M i) (some (rwlock_type Ψr Ψw))
+  slot_unused : SlotTyped N unused None
+  slot_identifier : {K : Cap} → SlotTyped N identifier (Some (tid_type K))
+  slot_cell : {v : Value} {ρ : ℕ} {τ : Ty} → ValueTyped N v τ → SlotTyped N (cell v) (Some (ref_type ρ τ))
+  slot_lock : {l : LockState} {Ψᵢ Ψₒ : Cap} → Ψₒ ≥ᶜ Ψᵢ → SlotTyped N (a_lock l) (Some (lock_type Ψᵢ Ψₒ))
+  slot_semaphore : {c : ℕ} {K : Cap} → SlotTyped N (semaphore c) (Some (sem_type K))
+  slot_rwlock : {M : ℕ} {i : Inside} {Ψr Ψw : Cap} → Ψw ≥ᶜ M ×ᶜ Ψr → SlotTyped N (rwlock M i) (Some (rwlock_type Ψr Ψw))
 
 slot_grows : {N N' : Env} {sl : Slot} {o : Option Ty} → N ⊆ N' → SlotTyped N sl o → SlotTyped N' sl o
 slot_grows s slot_unused = slot_unused
@@ -37,19 +37,19 @@ slot_grows s slot_semaphore = slot_semaphore
 slot_grows s (slot_rwlock h) = slot_rwlock h
 
 -- The slot of a name, read off the name's type: one row a kind of thing.
-pub identifier_there : {N : Env} {sl : Slot} {K : Cap} → SlotTyped N sl (some (tid_type K)) → sl ≡ identifier
+pub identifier_there : {N : Env} {sl : Slot} {K : Cap} → SlotTyped N sl (Some (tid_type K)) → sl ≡ identifier
 identifier_there slot_identifier = refl
 
-pub cell_there : {N : Env} {sl : Slot} {ρ : ℕ} {τ : Ty} → SlotTyped N sl (some (ref_type ρ τ)) → (v : Value) × (sl ≡ cell v) × ValueTyped N v τ
+pub cell_there : {N : Env} {sl : Slot} {ρ : ℕ} {τ : Ty} → SlotTyped N sl (Some (ref_type ρ τ)) → (v : Value) × (sl ≡ cell v) × ValueTyped N v τ
 cell_there (slot_cell {v = v} t) = (v, refl, t)
 
-pub lock_there : {N : Env} {sl : Slot} {Ψᵢ Ψₒ : Cap} → SlotTyped N sl (some (lock_type Ψᵢ Ψₒ)) → (l : LockState) × (sl ≡ a_lock l) × Ψₒ ≥ᶜ Ψᵢ
+pub lock_there : {N : Env} {sl : Slot} {Ψᵢ Ψₒ : Cap} → SlotTyped N sl (Some (lock_type Ψᵢ Ψₒ)) → (l : LockState) × (sl ≡ a_lock l) × Ψₒ ≥ᶜ Ψᵢ
 lock_there (slot_lock {l = l} h) = (l, refl, h)
 
-pub semaphore_there : {N : Env} {sl : Slot} {K : Cap} → SlotTyped N sl (some (sem_type K)) → (c : ℕ) × (sl ≡ semaphore c)
+pub semaphore_there : {N : Env} {sl : Slot} {K : Cap} → SlotTyped N sl (Some (sem_type K)) → (c : ℕ) × (sl ≡ semaphore c)
 semaphore_there (slot_semaphore {c = c}) = (c, refl)
 
-pub rwlock_there : {N : Env} {sl : Slot} {Ψr Ψw : Cap} → SlotTyped N sl (some (rwlock_type Ψr Ψw)) →
+pub rwlock_there : {N : Env} {sl : Slot} {Ψr Ψw : Cap} → SlotTyped N sl (Some (rwlock_type Ψr Ψw)) →
     (M : ℕ) × (i : Inside) × (sl ≡ rwlock M i) × Ψw ≥ᶜ M ×ᶜ Ψr
 rwlock_there (slot_rwlock {M = M} {i = i} h) = (M, i, refl, h)
 
@@ -62,13 +62,13 @@ abbrev no_load : Load
 no_load = record { whole = nothing; share = nothing }
 
 abbrev pub load : Option Ty → Load
-load none = no_load
-load (some int_type) = no_load
-load (some (ref_type ρ τ)) = no_load
-load (some (lock_type Ψᵢ Ψₒ)) = record { whole = Ψₒ; share = nothing }
-load (some (tid_type K)) = no_load
-load (some (sem_type K)) = record { whole = K; share = nothing }
-load (some (rwlock_type Ψr Ψw)) = record { whole = Ψw; share = Ψr }
+load None = no_load
+load (Some int_type) = no_load
+load (Some (ref_type ρ τ)) = no_load
+load (Some (lock_type Ψᵢ Ψₒ)) = record { whole = Ψₒ; share = nothing }
+load (Some (tid_type K)) = no_load
+load (Some (sem_type K)) = record { whole = K; share = nothing }
+load (Some (rwlock_type Ψr Ψw)) = record { whole = Ψw; share = Ψr }
 
 -- What a slot keeps, of a thing with that load: an open lock keeps it whole, a semaphore as often as it counts, a read-write lock less
 -- the shares of the reading holds that are out and nothing while a writer is in, and nothing else keeps any.

@@ -1,11 +1,11 @@
 -- The threads of a state and what they hold together.
+use Rattle.std.proofs.Common.{Some, slice_get}
 use Prim.Native.Nat.{ℕ, zero, suc}
 use mathlib.Core.Path.{◌≡◌, refl, ap}
 use mathlib.Core.Logic.{◌≢◌}
-use mathlib.Core.Option.{some}
 use mathlib.Core.List.{List, [], ◌∷◌, ◌++◌}
 use native.Mathlib.Omega.{arith}
-use lib.ListN.{get_elem?, set}
+use lib.ListN.{set}
 use Rattle.calculus.specs.State.{Thread, remove}
 use Rattle.calculus.specs.Capability.{Cap, nothing, ◌≥ᶜ◌}
 use Rattle.calculus.specs.Figure5.{Ty, tid_type, Signatures, Env, empty}
@@ -20,7 +20,7 @@ use Rattle.calculus.proofs.Substitution.{◌⊆◌, ⊆-refl, typing_grows}
 pub record ThreadTyped (D : ℕ) (S : Signatures) (N : Env) (t : Thread) (Ψ : Cap) : Type 0 where
   pub K : Cap
   pub τ : Ty
-  pub known : N t.tid ≡ some (tid_type K)
+  pub known : N t.tid ≡ Some (tid_type K)
   pub typed : Typed D S N empty Ψ t.body τ K
 
 thread_grows : {D : ℕ} {S : Signatures} {N N' : Env} {t : Thread} {Ψ : Cap} → N ⊆ N' → ThreadTyped D S N t Ψ → ThreadTyped D S N' t Ψ
@@ -64,7 +64,7 @@ pub record Member (D : ℕ) (S : Signatures) (N : Env) (ts : List Thread) (Ω : 
   pub replaced : (N' : Env) (t' : Thread) (Ψ' Ω' : Cap) → N ⊆ N' → ThreadTyped D S N' t' Ψ' → Pays Ψ' Ω' rest → Pool D S N' (set ts i t') Ω'
   pub taken_out : Pool D S N (remove ts i) rest
 
-pub member : {D : ℕ} {S : Signatures} {N : Env} {ts : List Thread} {Ω : Cap} {t : Thread} (i : ℕ) → Pool D S N ts Ω → get_elem? ts i ≡ some t →
+pub member : {D : ℕ} {S : Signatures} {N : Env} {ts : List Thread} {Ω : Cap} {t : Thread} (i : ℕ) → Pool D S N ts Ω → slice_get ts i ≡ Some t →
     Member D S N ts Ω i t
 member i pool_nil h = none_is_not_some h
 member zero (pool_cons {Ψ = Ψ} {Φ = Φ} t ts l) h = record {
@@ -96,7 +96,7 @@ pub record TwoMembers (D : ℕ) (S : Signatures) (N : Env) (Ω : Cap) (t u : Thr
   pub both : Pays left Ω right
 
 pub two_members : {D : ℕ} {S : Signatures} {N : Env} {ts : List Thread} {Ω : Cap} {t u : Thread} (i j : ℕ) → i ≢ j → Pool D S N ts Ω →
-    get_elem? ts i ≡ some t → get_elem? ts j ≡ some u → TwoMembers D S N Ω t u
+    slice_get ts i ≡ Some t → slice_get ts j ≡ Some u → TwoMembers D S N Ω t u
 two_members i j d pool_nil h k = none_is_not_some h
 two_members zero zero d (pool_cons t ts l) h k = absurd (d refl)
 two_members zero (suc j) d (pool_cons {Ψ = Ψ} t ts l) h k = let r = member j ts k in record {

@@ -1,8 +1,8 @@
 -- A well-typed state has no race (Lemma 2.5).
+use Rattle.std.proofs.Common.{Option, Some}
 use Prim.Native.Nat.{ℕ, ◌≤◌, ◌<◌}
 use mathlib.Core.Path.{◌≡◌, ap}
 use mathlib.Core.Logic.{◌⊎◌, inl, inr}
-use mathlib.Core.Option.{Option, some}
 use native.Mathlib.Nat.{le_trans}
 use native.Mathlib.Omega.{arith}
 use Rattle.calculus.specs.Expression.{Value, name, read, write_redex, unary_redex}
@@ -20,7 +20,7 @@ use Rattle.calculus.proofs.Invariant.{WellTyped}
 record Access (N : Env) (Ψ : Cap) (n least : ℕ) : Type 0 where
   ρ : ℕ
   τ : Ty
-  known : N n ≡ some (ref_type ρ τ)
+  known : N n ≡ Some (ref_type ρ τ)
   enough : least ≤ Ψ ρ
 
 write_needs : {D : ℕ} {S : Signatures} {N : Env} {Ψ Φ : Cap} {n : ℕ} {w : Value} {τ : Ty} → RedexTyped D S N empty Ψ Φ (write_redex (name n) w) τ →
@@ -41,7 +41,7 @@ access_needs d k (inr (about_to_write v w c e)) =
     let a = write_needs (focus k.typed e).word in
     record { ρ = a.ρ; τ = a.τ; known = a.known; enough = le_trans d a.enough }
 
-location_unique : {ρ υ : ℕ} {σ τ : Ty} {o : Option Ty} → o ≡ some (ref_type ρ σ) → o ≡ some (ref_type υ τ) → ρ ≡ υ
+location_unique : {ρ υ : ℕ} {σ τ : Ty} {o : Option Ty} → o ≡ Some (ref_type ρ σ) → o ≡ Some (ref_type υ τ) → ρ ≡ υ
 location_unique h k = cc
 
 -- One thread would hold the whole, D, of the cell's location, and another more than nothing of it: together more than the whole.

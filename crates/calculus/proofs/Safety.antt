@@ -1,8 +1,8 @@
 -- The main theorem: what Figure 5 derives, from a start of at most the whole, is safe (Theorem 2.6, with halts); so its cell steps may be taken
 -- in either order.
+use Rattle.std.proofs.Common.{Option, None, Some}
 use Prim.Native.Nat.{ℕ, ◌≤◌, ◌<◌}
 use mathlib.Core.Path.{◌≡◌, refl}
-use mathlib.Core.Option.{Option, none, some}
 use mathlib.Core.List.{List, [], ◌∷◌}
 use native.Mathlib.Decide.{ℕ_discrete}
 use native.Mathlib.Omega.{arith}
@@ -29,14 +29,14 @@ use Rattle.calculus.proofs.EitherOrder.{safe_is_in_either_order}
 start_state_slots : (N : Env) (n : ℕ) → SlotTyped N (update (λ m. unused) 0 identifier n) (bind empty 0 (tid_type nothing) n)
 start_state_slots N n = by_cases (ℕ_discrete n 0)
   where
-    by_cases : (d : Dec (n ≡ 0)) → SlotTyped N (choose d identifier unused) (choose d (some (tid_type nothing)) none)
+    by_cases : (d : Dec (n ≡ 0)) → SlotTyped N (choose d identifier unused) (choose d (Some (tid_type nothing)) None)
     by_cases (yes e) = slot_identifier
     by_cases (no e) = slot_unused
 
 start_state_keeps_nothing : (ρ n : ℕ) → kept (update (λ m. unused) 0 identifier) (bind empty 0 (tid_type nothing)) ρ n ≡ 0
 start_state_keeps_nothing ρ n = by_cases (ℕ_discrete n 0)
   where
-    by_cases : (d : Dec (n ≡ 0)) → keeps (choose d identifier unused) (load (choose d (some (tid_type nothing)) none)) ρ ≡ 0
+    by_cases : (d : Dec (n ≡ 0)) → keeps (choose d identifier unused) (load (choose d (Some (tid_type nothing)) None)) ρ ≡ 0
     by_cases (yes e) = refl
     by_cases (no e) = refl
 
@@ -48,7 +48,7 @@ start_state_is_well_typed {Ψ} {τ} p typed at_most_whole =
     let N : Env = bind empty 0 (tid_type nothing) in
     let body = typing_weakens {Φ' = nothing} (typed N) ≥-refl (record { at = λ ρ. omega arith }) in
     let thread : ThreadTyped _ _ N (record { tid = 0; body = p.root }) Ψ =
-    record { K = nothing; τ = τ; known = update_same empty 0 (some (tid_type nothing)); typed = body } in
+    record { K = nothing; τ = τ; known = update_same empty 0 (Some (tid_type nothing)); typed = body } in
     record {
       N = N;
       held = Ψ;
@@ -67,8 +67,8 @@ module _ {D : ℕ} {S : Signatures} (P : List Procedure) (bodies : BodiesTyped D
   attempt_preserves {s} m I = by_cases (reduce P s m) refl
     where
       by_cases : (o : Option State) → reduce P s m ≡ o → WellTyped D S (or_else o s)
-      by_cases none e = I
-      by_cases (some s') e = step_preserves P bodies I m e
+      by_cases None e = I
+      by_cases (Some s') e = step_preserves P bodies I m e
 
   -- What holds of every well-typed state holds of every state on the way.
   pub run_preserves : (Q : State → Type 0) → ((s : State) → WellTyped D S s → Q s) → (ms : List Move) (s : State) → WellTyped D S s →

@@ -1,8 +1,8 @@
 -- More names and variables, and a value put for a variable: what is typed stays typed.
+use Rattle.std.proofs.Common.{None, Some}
 use Prim.Native.Nat.{ℕ}
 use mathlib.Core.Path.{◌≡◌, sym, ◌∙◌}
 use mathlib.Core.Logic.{◌≢◌, ◌⊎◌, inl, inr}
-use mathlib.Core.Option.{none, some}
 use native.Mathlib.Decide.{ℕ_discrete}
 use Rattle.calculus.specs.Expression.{Value, Exp, value, var, choose, substitute}
 use Rattle.calculus.specs.Capability.{Cap, ◌≥ᶜ◌}
@@ -15,7 +15,7 @@ use Rattle.calculus.proofs.Typing.{ValueTyped, int_typed, name_typed, value_subt
 -- What the first environment knows, the second knows alike.
 infix 40 ◌⊆◌
 abbrev pub ◌⊆◌ : Env → Env → Type 0
-Γ ⊆ Γ' = (x : ℕ) (τ : Ty) → Γ x ≡ some τ → Γ' x ≡ some τ
+Γ ⊆ Γ' = (x : ℕ) (τ : Ty) → Γ x ≡ Some τ → Γ' x ≡ Some τ
 
 pub ⊆-refl : (Γ : Env) → Γ ⊆ Γ
 ⊆-refl Γ x τ h = h
@@ -23,7 +23,7 @@ pub ⊆-refl : (Γ : Env) → Γ ⊆ Γ
 bind_grows : (Γ Γ' : Env) (x : ℕ) (σ : Ty) → Γ ⊆ Γ' → bind Γ x σ ⊆ bind Γ' x σ
 bind_grows Γ Γ' x σ s y τ = by_cases (ℕ_discrete y x)
   where
-    by_cases : (d : Dec (y ≡ x)) → choose d (some σ) (Γ y) ≡ some τ → choose d (some σ) (Γ' y) ≡ some τ
+    by_cases : (d : Dec (y ≡ x)) → choose d (Some σ) (Γ y) ≡ Some τ → choose d (Some σ) (Γ' y) ≡ Some τ
     by_cases (yes p) h = h
     by_cases (no p) h = s y τ h
 
@@ -47,34 +47,34 @@ typing_grows n g (nullary_typed o) = nullary_typed o
 
 -- What Γ knows of y: it is x, of type σ, or Γ' knows it.
 abbrev Known : Env → ℕ → Ty → ℕ → Ty → Type 0
-Known Γ' x σ y τ = ((y ≡ x) × (σ ≡ τ)) ⊎ ((y ≢ x) × (Γ' y ≡ some τ))
+Known Γ' x σ y τ = ((y ≡ x) × (σ ≡ τ)) ⊎ ((y ≢ x) × (Γ' y ≡ Some τ))
 
 -- Γ is Γ' and x of type σ.
 abbrev Extends : Env → Env → ℕ → Ty → Type 0
-Extends Γ Γ' x σ = (y : ℕ) (τ : Ty) → Γ y ≡ some τ → Known Γ' x σ y τ
+Extends Γ Γ' x σ = (y : ℕ) (τ : Ty) → Γ y ≡ Some τ → Known Γ' x σ y τ
 
 bind_other_extends : (Γ Γ' : Env) (x y : ℕ) (σ υ : Ty) → y ≢ x → Extends Γ Γ' x σ → Extends (bind Γ y υ) (bind Γ' y υ) x σ
 bind_other_extends Γ Γ' x y σ υ d c z τ = by_cases (ℕ_discrete z y)
   where
-    by_cases : (q : Dec (z ≡ y)) → choose q (some υ) (Γ z) ≡ some τ → ((z ≡ x) × (σ ≡ τ)) ⊎ ((z ≢ x) × (choose q (some υ) (Γ' z) ≡ some τ))
+    by_cases : (q : Dec (z ≡ y)) → choose q (Some υ) (Γ z) ≡ Some τ → ((z ≡ x) × (σ ≡ τ)) ⊎ ((z ≢ x) × (choose q (Some υ) (Γ' z) ≡ Some τ))
     by_cases (yes p) h = inr ((λ r. d (sym p ∙ r)), h)
     by_cases (no p) h = c z τ h
 
 bind_same_grows : (Γ Γ' : Env) (x y : ℕ) (σ υ : Ty) → y ≡ x → Extends Γ Γ' x σ → bind Γ y υ ⊆ bind Γ' y υ
 bind_same_grows Γ Γ' x y σ υ e c z τ = by_cases (ℕ_discrete z y)
   where
-    elsewhere : z ≢ y → Known Γ' x σ z τ → Γ' z ≡ some τ
+    elsewhere : z ≢ y → Known Γ' x σ z τ → Γ' z ≡ Some τ
     elsewhere p (inl r) = absurd (p (r.0 ∙ sym e))
     elsewhere p (inr r) = r.1
 
-    by_cases : (q : Dec (z ≡ y)) → choose q (some υ) (Γ z) ≡ some τ → choose q (some υ) (Γ' z) ≡ some τ
+    by_cases : (q : Dec (z ≡ y)) → choose q (Some υ) (Γ z) ≡ Some τ → choose q (Some υ) (Γ' z) ≡ Some τ
     by_cases (yes p) h = h
     by_cases (no p) h = elsewhere p (c z τ h)
 
 pub bind_extends_empty : (x : ℕ) (σ : Ty) → Extends (bind empty x σ) empty x σ
 bind_extends_empty x σ y τ = by_cases (ℕ_discrete y x)
   where
-    by_cases : (d : Dec (y ≡ x)) → choose d (some σ) none ≡ some τ → ((y ≡ x) × (σ ≡ τ)) ⊎ ((y ≢ x) × (none ≡ some τ))
+    by_cases : (d : Dec (y ≡ x)) → choose d (Some σ) None ≡ Some τ → ((y ≡ x) × (σ ≡ τ)) ⊎ ((y ≢ x) × (None ≡ Some τ))
     by_cases (yes e) k = inl (e, some_injective k)
     by_cases (no e) k = none_is_not_some k
 

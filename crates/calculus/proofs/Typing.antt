@@ -1,9 +1,8 @@
 -- The typing of expressions at run time, with weakening in each rule. Figure 5 gives it.
+use Rattle.std.proofs.Common.{Some, slice_get}
 use Prim.Native.Nat.{ℕ, ◌≤◌, ◌<◌}
 use mathlib.Core.Path.{◌≡◌}
-use mathlib.Core.Option.{some}
 use native.Mathlib.Nat.{le_trans}
-use lib.ListN.{get_elem?}
 use Rattle.calculus.specs.Expression.{Value, int, name, HoldWord, rdlock, rdunlock, wrlock, wrunlock, Unary, join, ref, read, lock, unlock, post, wait, hold, call, Nullary, newtid, newlock, newsem, newrwlock, Exp, value, var, let_in, if, while, spawn, write, unary, nullary}
 use Rattle.calculus.specs.Capability.{Cap, ◌×ᶜ◌, ◌≥ᶜ◌}
 use Rattle.calculus.specs.Figure5.{Ty, int_type, ref_type, lock_type, tid_type, sem_type, rwlock_type, ◌<:◌, as_it_is, looser, Signature, Signatures, Env, bind, ◌∣◌∣◌∣◌⊢◌∶◌∣◌, VAR, INT, LET, IF, WHILE, NEWT, SPAWN, JOIN, REF, WRITE, READ, NEWL, LCK, ULCK, NEWSEM, POST, WAIT, NEWRWLOCK, RDLOCK, RDUNLOCK, WRLOCK, WRUNLOCK, CALL}
@@ -19,7 +18,7 @@ subtype_trans (looser i o) (looser i' o') = looser (≥-trans i i') (≥-trans o
 -- N has the types of the names. A name may be shown as a variable of its type may.
 pub data ValueTyped (N : Env) : Value → Ty → Type 0 where
   int_typed : {k : ℕ} → ValueTyped N (int k) int_type
-  name_typed : {n : ℕ} {σ τ : Ty} → N n ≡ some σ → σ <: τ → ValueTyped N (name n) τ
+  name_typed : {n : ℕ} {σ τ : Ty} → N n ≡ Some σ → σ <: τ → ValueTyped N (name n) τ
 
 pub value_subtype : {N : Env} {v : Value} {σ τ : Ty} → ValueTyped N v σ → σ <: τ → ValueTyped N v τ
 value_subtype int_typed as_it_is = int_typed
@@ -29,11 +28,11 @@ value_subtype (name_typed h f) g = name_typed h (subtype_trans f g)
 pub record OwnLock (N : Env) (n : ℕ) (Ψᵢ' Ψₒ' : Cap) : Type 0 where
   pub Ψᵢ : Cap
   pub Ψₒ : Cap
-  pub known : N n ≡ some (lock_type Ψᵢ Ψₒ)
+  pub known : N n ≡ Some (lock_type Ψᵢ Ψₒ)
   pub no_more_out : Ψᵢ ≥ᶜ Ψᵢ'
   pub no_less_in : Ψₒ' ≥ᶜ Ψₒ
 
-pub own_lock : {N : Env} {n : ℕ} {σ : Ty} {Ψᵢ' Ψₒ' : Cap} → N n ≡ some σ → σ <: lock_type Ψᵢ' Ψₒ' → OwnLock N n Ψᵢ' Ψₒ'
+pub own_lock : {N : Env} {n : ℕ} {σ : Ty} {Ψᵢ' Ψₒ' : Cap} → N n ≡ Some σ → σ <: lock_type Ψᵢ' Ψₒ' → OwnLock N n Ψᵢ' Ψₒ'
 own_lock h as_it_is = record { Ψᵢ = _; Ψₒ = _; known = h; no_more_out = ≥-refl; no_less_in = ≥-refl }
 own_lock h (looser i o) = record { Ψᵢ = _; Ψₒ = _; known = h; no_more_out = i; no_less_in = o }
 
@@ -56,7 +55,7 @@ pub data UnaryTyped (D : ℕ) (S : Signatures) : Unary → Ty → Cap → Ty →
   post_typed : {K Ψ Φ : Cap} → Pays Φ Ψ K → UnaryTyped D S post (sem_type K) Ψ int_type Φ
   wait_typed : {K Ψ Φ : Cap} → Gains Φ Ψ K → UnaryTyped D S wait (sem_type K) Ψ int_type Φ
   hold_typed : {w : HoldWord} {Ψr Ψw Ψ Φ : Cap} → HoldTyped Ψr Ψw w Ψ Φ → UnaryTyped D S (hold w) (rwlock_type Ψr Ψw) Ψ int_type Φ
-  call_typed : {f : ℕ} {g : Signature} {Ψ Ψkeep Φ : Cap} → get_elem? S f ≡ some g → Pays g.before Ψ Ψkeep → Gains Φ g.after Ψkeep →
+  call_typed : {f : ℕ} {g : Signature} {Ψ Ψkeep Φ : Cap} → slice_get S f ≡ Some g → Pays g.before Ψ Ψkeep → Gains Φ g.after Ψkeep →
       UnaryTyped D S (call f) g.argument Ψ g.result Φ
 
 pub data NullaryTyped : Nullary → Cap → Ty → Cap → Type 0 where
@@ -68,7 +67,7 @@ pub data NullaryTyped : Nullary → Cap → Ty → Cap → Type 0 where
 -- Typed D S N Γ Ψ e τ Φ: with these types of names and variables e has type τ, can be run with Ψ, and leaves at least Φ.
 pub data Typed (D : ℕ) (S : Signatures) (N : Env) : Env → Cap → Exp → Ty → Cap → Type 0 where
   value_typed : {Γ : Env} {Ψ Φ : Cap} {v : Value} {τ : Ty} → ValueTyped N v τ → Ψ ≥ᶜ Φ → Typed D S N Γ Ψ (value v) τ Φ
-  var_typed : {Γ : Env} {Ψ Φ : Cap} {x : ℕ} {σ τ : Ty} → Γ x ≡ some σ → σ <: τ → Ψ ≥ᶜ Φ → Typed D S N Γ Ψ (var x) τ Φ
+  var_typed : {Γ : Env} {Ψ Φ : Cap} {x : ℕ} {σ τ : Ty} → Γ x ≡ Some σ → σ <: τ → Ψ ≥ᶜ Φ → Typed D S N Γ Ψ (var x) τ Φ
   let_typed : {Γ : Env} {Ψ Ψ₁ Φ : Cap} {x : ℕ} {e₁ e₂ : Exp} {σ τ : Ty} →
       Typed D S N Γ Ψ e₁ σ Ψ₁ → Typed D S N (bind Γ x σ) Ψ₁ e₂ τ Φ → Typed D S N Γ Ψ (let_in x e₁ e₂) τ Φ
   if_typed : {Γ : Env} {Ψ Φ : Cap} {e₁ e₂ : Exp} {τ : Ty} →

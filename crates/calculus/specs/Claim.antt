@@ -1,15 +1,13 @@
 -- What is claimed of a program: no race and no odd halt in any state on the way, for every list of moves; and that two steps on cells, of
 -- different threads, may be taken in either order.
-use Rattle.std.specs.Prelude.{ℕ, ◌≡◌, ◌≢◌, ◌⊎◌, List, [], ◌∷◌}
-use Rattle.std.proofs.Math.Option.{Option, none, some}
-use Rattle.std.proofs.Math.ListN.{get_elem?}
+use Rattle.std.specs.Prelude.{ℕ, ◌≡◌, ◌≢◌, ◌⊎◌, List, [], ◌∷◌, Option, None, Some, slice_get}
 use Rattle.calculus.specs.Expression.{Value, name, HoldWord, join, read, lock, wait, hold, value, write_redex, unary_redex, at_word, next_word, Procedure, Program}
 use Rattle.calculus.specs.State.{closed, Inside, identifier, cell, a_lock, semaphore, rwlock, Thread, State, Move}
 use Rattle.calculus.specs.Reduction.{◌>>=◌, inside_after, reduce, states, run, start_state}
 
 -- Thread t stands at place i.
 abbrev pub ThreadAt : State → ℕ → Thread → Type 0
-ThreadAt s i t = get_elem? s.threads i ≡ some t
+ThreadAt s i t = slice_get s.threads i ≡ Some t
 
 -- ---- Races
 
@@ -43,12 +41,12 @@ pub data Waits (s : State) (t : Thread) : Type 0 where
   at_lock : (n : ℕ) → next_word t.body ≡ at_word (unary_redex lock (name n)) → s.names n ≡ a_lock closed → Waits s t
   at_wait : (n : ℕ) → next_word t.body ≡ at_word (unary_redex wait (name n)) → s.names n ≡ semaphore 0 → Waits s t
   at_hold : (n N : ℕ) (w : HoldWord) (i : Inside) → next_word t.body ≡ at_word (unary_redex (hold w) (name n)) → s.names n ≡ rwlock N i →
-      inside_after N w i ≡ none → Waits s t
+      inside_after N w i ≡ None → Waits s t
   -- No other word waits; an `unlock`, above all, goes ahead on any lock.
 
 -- "It halts in a state where no move of its own is a reduction."
 abbrev pub Halts : List Procedure → State → ℕ → Type 0
-Halts P s i = (m : Move) → m.thread ≡ i → reduce P s m ≡ none
+Halts P s i = (m : Move) → m.thread ≡ i → reduce P s m ≡ None
 
 -- No odd halt: a thread that halts has finished, or waits.
 abbrev pub HaltsWell : List Procedure → State → Type 0
@@ -82,8 +80,8 @@ taking_both P s m k = reduce P s m >>= λ s'. reduce P s' k
 -- and the same, in its threads and in its names.
 pub record SameEitherWay (P : List Procedure) (s : State) (m k : Move) : Type 0 where
   pub after : State
-  pub one_way : taking_both P s m k ≡ some after
-  pub other_way : taking_both P s k m ≡ some after
+  pub one_way : taking_both P s m k ≡ Some after
+  pub other_way : taking_both P s k m ≡ Some after
 
 -- "If two different threads can each read or write a cell next": the moves m and k are theirs.
 abbrev pub CellStepsSwap : List Procedure → State → Type 0

@@ -1,9 +1,7 @@
 -- Figure 5: Γ, Ψ ⊢ e : τ, Ψ', one constructor a word, in the printed order and with the printed names; then the rules of Section 3.1.4
 -- for semaphores, of Figure 8 for read-write locks and of Section 3.1.3 for calls, under the names of their words. Locks are those of
 -- Section 3.1.6.
-use Rattle.std.specs.Prelude.{ℕ, ◌≤◌, ◌<◌, ◌≡◌, List, [], ◌∷◌}
-use Rattle.std.proofs.Math.Option.{Option, none, some}
-use Rattle.std.proofs.Math.ListN.{get_elem?}
+use Rattle.std.specs.Prelude.{ℕ, ◌≤◌, ◌<◌, ◌≡◌, List, [], ◌∷◌, Option, None, Some, slice_get}
 use Rattle.calculus.specs.Expression.{int, rdlock, rdunlock, wrlock, wrunlock, join, ref, read, lock, unlock, post, wait, hold, call, newtid, newlock, newsem, newrwlock, Exp, value, var, let_in, if, while, spawn, write, unary, nullary, Procedure, Program}
 use Rattle.calculus.specs.State.{update}
 use Rattle.calculus.specs.Capability.{Cap, ◌×ᶜ◌, ◌≥ᶜ◌, ◌≈◌⊕◌}
@@ -42,11 +40,11 @@ abbrev pub Env : Type 0
 Env = ℕ → Option Ty
 
 abbrev pub empty : Env
-empty x = none
+empty x = None
 
 -- Γ[x ↦ τ]
 abbrev pub bind : Env → ℕ → Ty → Env
-bind Γ x τ = update Γ x (some τ)
+bind Γ x τ = update Γ x (Some τ)
 
 -- D ∣ S ∣ Γ ∣ Ψ ⊢ e ∶ τ ∣ Ψ' is the printed Γ, Ψ ⊢ e : τ, Ψ', with D for the printed 1, and with S for the signatures of the procedures.
 -- A printed difference is the sum that defines it: Ψ₂ − Ψ₃ is the Ψ₅ with Ψ₂ ≈ Ψ₅ ⊕ Ψ₃, and where there is none the rule does not apply.
@@ -55,7 +53,7 @@ bind Γ x τ = update Γ x (some τ)
 -- out no more and takes no less.
 infix 20 ◌∣◌∣◌∣◌⊢◌∶◌∣◌
 pub data ◌∣◌∣◌∣◌⊢◌∶◌∣◌ (D : ℕ) (S : Signatures) : Env → Cap → Exp → Ty → Cap → Type 0 where
-  VAR : {Γ : Env} {Ψ : Cap} {x : ℕ} {σ τ : Ty} → Γ x ≡ some σ → σ <: τ → D ∣ S ∣ Γ ∣ Ψ ⊢ var x ∶ τ ∣ Ψ
+  VAR : {Γ : Env} {Ψ : Cap} {x : ℕ} {σ τ : Ty} → Γ x ≡ Some σ → σ <: τ → D ∣ S ∣ Γ ∣ Ψ ⊢ var x ∶ τ ∣ Ψ
   INT : {Γ : Env} {Ψ : Cap} {n : ℕ} → D ∣ S ∣ Γ ∣ Ψ ⊢ value (int n) ∶ int_type ∣ Ψ
   LET : {Γ : Env} {Ψ Ψ₁ Ψ₂ : Cap} {x : ℕ} {e₁ e₂ : Exp} {τ₁ τ₂ : Ty} →
       D ∣ S ∣ Γ ∣ Ψ ⊢ e₁ ∶ τ₁ ∣ Ψ₁ → D ∣ S ∣ bind Γ x τ₁ ∣ Ψ₁ ⊢ e₂ ∶ τ₂ ∣ Ψ₂ →
@@ -114,7 +112,7 @@ pub data ◌∣◌∣◌∣◌⊢◌∶◌∣◌ (D : ℕ) (S : Signatures) : En
       D ∣ S ∣ Γ ∣ Ψ ⊢ unary (hold wrunlock) e ∶ int_type ∣ Ψ₃
   -- What the caller has beside `before` it keeps back, and has it again beside `after`. A procedure is named by its number and is no value.
   CALL : {Γ : Env} {Ψ Ψ₁ Ψ₂ Ψkeep : Cap} {f : ℕ} {g : Signature} {e : Exp} →
-      get_elem? S f ≡ some g → D ∣ S ∣ Γ ∣ Ψ ⊢ e ∶ g.argument ∣ Ψ₁ → Ψ₁ ≈ g.before ⊕ Ψkeep → Ψ₂ ≈ g.after ⊕ Ψkeep →
+      slice_get S f ≡ Some g → D ∣ S ∣ Γ ∣ Ψ ⊢ e ∶ g.argument ∣ Ψ₁ → Ψ₁ ≈ g.before ⊕ Ψkeep → Ψ₂ ≈ g.after ⊕ Ψkeep →
       D ∣ S ∣ Γ ∣ Ψ ⊢ unary (call f) e ∶ g.result ∣ Ψ₂
 
 -- ---- Programs

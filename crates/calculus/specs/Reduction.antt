@@ -1,116 +1,114 @@
 -- Reductions and runs: document 01's "The steps", after Figure 4.
-use Rattle.std.specs.Prelude.{ℕ, zero, suc, List, [], ◌∷◌, ◌++◌, set}
-use Rattle.std.proofs.Math.Option.{Option, none, some}
+use Rattle.std.specs.Prelude.{ℕ, zero, suc, List, [], ◌∷◌, ◌++◌, set, Option, None, Some, slice_get}
 use Rattle.std.proofs.Math.Decide.{ℕ_discrete, dec_lt}
-use Rattle.std.proofs.Math.ListN.{get_elem?}
 use Rattle.calculus.specs.Expression.{Value, int, name, HoldWord, rdlock, rdunlock, wrlock, wrunlock, Unary, join, ref, read, lock, unlock, post, wait, hold, call, Nullary, newtid, newlock, newsem, newrwlock, Exp, value, let_in, if, while, Redex, let_redex, if_redex, while_redex, spawn_redex, write_redex, unary_redex, nullary_redex, Next, is_value, at_variable, at_word, next_word, plug, choose, substitute, Procedure, Program}
 use Rattle.calculus.specs.State.{LockState, opened, closed, Inside, readers, writer, Slot, unused, identifier, cell, a_lock, semaphore, rwlock, Thread, State, Part, first, second, Move, update, remove}
 
 -- ---- What a word asks before it reduces: `none` where the answer is no
 
 infixl 10 ◌>>=◌
-abbrev pub ◌>>=◌ {ℓ κ} : {A : Type ℓ} {B : Type κ} → Option A → (A → Option B) → Option B
-none >>= f = none
-some a >>= f = f a
+abbrev pub ◌>>=◌ : {A B : Type 0} → Option A → (A → Option B) → Option B
+None >>= f = None
+Some a >>= f = f a
 
 infixl 10 ◌>>◌
-abbrev pub ◌>>◌ {ℓ κ} : {A : Type ℓ} {B : Type κ} → Option A → Option B → Option B
+abbrev pub ◌>>◌ : {A B : Type 0} → Option A → Option B → Option B
 o >> p = o >>= λ a. p
 
 -- A name, not a constant.
 abbrev pub name_of : Value → Option ℕ
-name_of (int k) = none
-name_of (name n) = some n
+name_of (int k) = None
+name_of (name n) = Some n
 
 abbrev pub if_unused : Slot → Option (Unit {0})
-if_unused unused = some tt
-if_unused identifier = none
-if_unused (cell v) = none
-if_unused (a_lock l) = none
-if_unused (semaphore c) = none
-if_unused (rwlock N i) = none
+if_unused unused = Some tt
+if_unused identifier = None
+if_unused (cell v) = None
+if_unused (a_lock l) = None
+if_unused (semaphore c) = None
+if_unused (rwlock N i) = None
 
 abbrev pub if_identifier : Slot → Option (Unit {0})
-if_identifier unused = none
-if_identifier identifier = some tt
-if_identifier (cell v) = none
-if_identifier (a_lock l) = none
-if_identifier (semaphore c) = none
-if_identifier (rwlock N i) = none
+if_identifier unused = None
+if_identifier identifier = Some tt
+if_identifier (cell v) = None
+if_identifier (a_lock l) = None
+if_identifier (semaphore c) = None
+if_identifier (rwlock N i) = None
 
 -- The value that a cell holds.
 abbrev pub cell_value : Slot → Option Value
-cell_value unused = none
-cell_value identifier = none
-cell_value (cell v) = some v
-cell_value (a_lock l) = none
-cell_value (semaphore c) = none
-cell_value (rwlock N i) = none
+cell_value unused = None
+cell_value identifier = None
+cell_value (cell v) = Some v
+cell_value (a_lock l) = None
+cell_value (semaphore c) = None
+cell_value (rwlock N i) = None
 
 -- Whether a lock is open or closed.
 abbrev pub lock_state : Slot → Option LockState
-lock_state unused = none
-lock_state identifier = none
-lock_state (cell v) = none
-lock_state (a_lock l) = some l
-lock_state (semaphore c) = none
-lock_state (rwlock N i) = none
+lock_state unused = None
+lock_state identifier = None
+lock_state (cell v) = None
+lock_state (a_lock l) = Some l
+lock_state (semaphore c) = None
+lock_state (rwlock N i) = None
 
 abbrev pub if_opened : LockState → Option (Unit {0})
-if_opened opened = some tt
-if_opened closed = none
+if_opened opened = Some tt
+if_opened closed = None
 
 -- The count of a semaphore.
 abbrev pub count : Slot → Option ℕ
-count unused = none
-count identifier = none
-count (cell v) = none
-count (a_lock l) = none
-count (semaphore c) = some c
-count (rwlock N i) = none
+count unused = None
+count identifier = None
+count (cell v) = None
+count (a_lock l) = None
+count (semaphore c) = Some c
+count (rwlock N i) = None
 
 -- The number that is one less, of a number above 0.
 abbrev pub one_less : ℕ → Option ℕ
-one_less zero = none
-one_less (suc c) = some c
+one_less zero = None
+one_less (suc c) = Some c
 
 -- The reading places of a read-write lock, and who is in.
 abbrev pub rw_state : Slot → Option (ℕ × Inside)
-rw_state unused = none
-rw_state identifier = none
-rw_state (cell v) = none
-rw_state (a_lock l) = none
-rw_state (semaphore c) = none
-rw_state (rwlock N i) = some (N, i)
+rw_state unused = None
+rw_state identifier = None
+rw_state (cell v) = None
+rw_state (a_lock l) = None
+rw_state (semaphore c) = None
+rw_state (rwlock N i) = Some (N, i)
 
 -- Who is in after that word, at a lock with N reading places. "A reader waits while N holds are out or a writer is in. A writer waits
 -- while anyone is in. A give-back waits until there is a hold of that kind to give."
 abbrev pub inside_after : ℕ → HoldWord → Inside → Option Inside
-inside_after N rdlock (readers k) = choose (dec_lt k N) (some (readers (suc k))) none
-inside_after N rdlock writer = none
-inside_after N rdunlock (readers zero) = none
-inside_after N rdunlock (readers (suc k)) = some (readers k)
-inside_after N rdunlock writer = none
-inside_after N wrlock (readers zero) = some writer
-inside_after N wrlock (readers (suc k)) = none
-inside_after N wrlock writer = none
-inside_after N wrunlock (readers k) = none
-inside_after N wrunlock writer = some (readers 0)
+inside_after N rdlock (readers k) = choose (dec_lt k N) (Some (readers (suc k))) None
+inside_after N rdlock writer = None
+inside_after N rdunlock (readers zero) = None
+inside_after N rdunlock (readers (suc k)) = Some (readers k)
+inside_after N rdunlock writer = None
+inside_after N wrlock (readers zero) = Some writer
+inside_after N wrlock (readers (suc k)) = None
+inside_after N wrlock writer = None
+inside_after N wrunlock (readers k) = None
+inside_after N wrunlock writer = Some (readers 0)
 
 abbrev pub if_equal : ℕ → ℕ → Option (Unit {0})
-if_equal n m = choose (ℕ_discrete n m) (some tt) none
+if_equal n m = choose (ℕ_discrete n m) (Some tt) None
 
 -- The value that an expression is.
 abbrev pub value_of : Next → Option Value
-value_of (is_value v) = some v
-value_of (at_variable x) = none
-value_of (at_word r) = none
+value_of (is_value v) = Some v
+value_of (at_variable x) = None
+value_of (at_word r) = None
 
 -- The word that comes next, if one does: "Only the next word reduces".
 abbrev pub word_of : Next → Option Redex
-word_of (is_value v) = none
-word_of (at_variable x) = none
-word_of (at_word r) = some r
+word_of (is_value v) = None
+word_of (at_variable x) = None
+word_of (at_word r) = Some r
 
 -- ---- Reductions
 
@@ -149,7 +147,7 @@ without_thread j s = record { threads = remove s.threads j; names = s.names }
 abbrev pub named : State → Move → Thread → Slot → Option State
 named s m t new = do
   if_unused (s.names m.fresh)
-  some (becomes s m t (update s.names m.fresh new) (value (name m.fresh)))
+  Some (becomes s m t (update s.names m.fresh new) (value (name m.fresh)))
 
 -- The procedures are the same in every state.
 module _ (P : List Procedure) where
@@ -161,70 +159,70 @@ module _ (P : List Procedure) where
   unary_reduct s m t join v = do
     n ← name_of v
     if_identifier (s.names n)
-    u ← get_elem? s.threads m.finished
+    u ← slice_get s.threads m.finished
     if_equal u.tid n
     value_of (next_word u.body)
-    some (without_thread m.finished (becomes s m t s.names zero_exp))
+    Some (without_thread m.finished (becomes s m t s.names zero_exp))
   unary_reduct s m t ref v = named s m t (cell v)
   unary_reduct s m t read v = do
     n ← name_of v
     w ← cell_value (s.names n)
-    some (becomes s m t s.names (value w))
+    Some (becomes s m t s.names (value w))
   unary_reduct s m t lock v = do
     n ← name_of v
     l ← lock_state (s.names n)
     if_opened l
-    some (becomes s m t (update s.names n (a_lock closed)) zero_exp)
+    Some (becomes s m t (update s.names n (a_lock closed)) zero_exp)
   unary_reduct s m t unlock v = do
     n ← name_of v
     lock_state (s.names n)
-    some (becomes s m t (update s.names n (a_lock opened)) zero_exp)
+    Some (becomes s m t (update s.names n (a_lock opened)) zero_exp)
   unary_reduct s m t post v = do
     n ← name_of v
     c ← count (s.names n)
-    some (becomes s m t (update s.names n (semaphore (suc c))) zero_exp)
+    Some (becomes s m t (update s.names n (semaphore (suc c))) zero_exp)
   unary_reduct s m t wait v = do
     n ← name_of v
     c ← count (s.names n)
     left ← one_less c
-    some (becomes s m t (update s.names n (semaphore left)) zero_exp)
+    Some (becomes s m t (update s.names n (semaphore left)) zero_exp)
   unary_reduct s m t (hold w) v = do
     n ← name_of v
     (N, i) ← rw_state (s.names n)
     after ← inside_after N w i
-    some (becomes s m t (update s.names n (rwlock N after)) zero_exp)
+    Some (becomes s m t (update s.names n (rwlock N after)) zero_exp)
   unary_reduct s m t (call f) v = do
-    p ← get_elem? P f
-    some (becomes s m t s.names (substitute p.parameter v p.body))
+    p ← slice_get P f
+    Some (becomes s m t s.names (substitute p.parameter v p.body))
 
   -- The state after thread t of s reduces that word, if the move m makes it a reduction.
   abbrev pub reduct : State → Move → Thread → Redex → Option State
-  reduct s m t (let_redex x v e) = some (becomes s m t s.names (substitute x v e))
-  reduct s m t (if_redex e₁ e₂) = some (becomes s m t s.names (part_listed m.part e₁ e₂))
-  reduct s m t (while_redex e) = some (becomes s m t s.names (if (let_in nowhere e (while e)) zero_exp))
+  reduct s m t (let_redex x v e) = Some (becomes s m t s.names (substitute x v e))
+  reduct s m t (if_redex e₁ e₂) = Some (becomes s m t s.names (part_listed m.part e₁ e₂))
+  reduct s m t (while_redex e) = Some (becomes s m t s.names (if (let_in nowhere e (while e)) zero_exp))
   reduct s m t (spawn_redex v e) = do
     n ← name_of v
     if_identifier (s.names n)
-    some (with_thread (record { tid = n; body = e }) (becomes s m t s.names zero_exp))
+    Some (with_thread (record { tid = n; body = e }) (becomes s m t s.names zero_exp))
   reduct s m t (write_redex v w) = do
     n ← name_of v
     cell_value (s.names n)
-    some (becomes s m t (update s.names n (cell w)) zero_exp)
+    Some (becomes s m t (update s.names n (cell w)) zero_exp)
   reduct s m t (unary_redex o v) = unary_reduct s m t o v
   reduct s m t (nullary_redex o) = named s m t (made o)
 
   -- The state after a move, if the move is a reduction.
   unfoldable pub reduce : State → Move → Option State
   reduce s m = do
-    t ← get_elem? s.threads m.thread
+    t ← slice_get s.threads m.thread
     r ← word_of (next_word t.body)
     reduct s m t r
 
 -- ---- Runs
 
 abbrev pub or_else : Option State → State → State
-or_else none s = s
-or_else (some s') s = s'
+or_else None s = s
+or_else (Some s') s = s'
 
 module _ (P : List Procedure) where
   -- "A listed move that is no reduction leaves the state alone."

@@ -1,15 +1,22 @@
--- Laws of `same`, at a place of two lists.
-use Prim.Native.Nat.{ℕ, suc, ◌+◌, ◌<◌, ◌≤◌}
+-- The equality of byte strings, in the code and in the definitions.
+use Rattle.std.specs.List.{list_all, zip}
 use mathlib.Core.Path.{◌≡◌, refl, ap}
 use mathlib.Core.List.{List, [], ◌∷◌}
 use mathlib.Core.Bool.{Bool, true, false, ◌&&◌}
-use lib.ListN.{length, get_or, drop, drop_of_length-le}
-use lib.Seq.{drop-cons}
+use Prim.Native.Nat.{ℕ, suc}
 use lib.Dec.{eqb}
-use native.Mathlib.Numerals.{add-one}
+use lib.ListN.{length}
 use native.Mathlib.Omega.{arith}
-use borrow.Author.Tests.{eq-eqb, ne_eqb}
 use Rattle.spec.specs.Text.{same}
+use Rattle.spec.proofs.Tests.{eqb_sym}
+
+-- in either order
+pub same_turned : (a b : List ℕ) → same a b ≡ same b a
+unfolding same
+same_turned [] [] = refl
+same_turned [] (y ∷ b) = refl
+same_turned (x ∷ a) [] = refl
+same_turned (x ∷ a) (y ∷ b) = rw (eqb_sym x y, same_turned a b)
 
 both_false : (t x : Bool) → x ≡ false → (t && x) ≡ false
 both_false true x e = e
@@ -23,17 +30,10 @@ uneven [] (y ∷ b) h = refl
 uneven (x ∷ a) [] h = refl
 uneven (x ∷ a) (y ∷ b) h = both_false (eqb x y) _ (uneven a b (λ e. h (ap suc e)))
 
-module _ (a b : List ℕ) (i : ℕ) where
-  -- a byte that is the same is passed over
-  pub onward : i < length a → i < length b → get_or a i 0 ≡ get_or b i 0 → same (drop i a) (drop i b) ≡ same (drop (i + 1) a) (drop (i + 1) b)
-  unfolding same
-  onward ha hb e = rw (add-one, drop-cons a i 0, drop-cons b i 0, eq-eqb _ _ e)
-
-  -- one that differs decides
-  pub apart : i < length a → i < length b → (get_or a i 0 ≡ get_or b i 0 → ⊥) → same (drop i a) (drop i b) ≡ false
-  unfolding same
-  apart ha hb e = rw (drop-cons a i 0, drop-cons b i 0, ne_eqb _ _ e)
-
-  pub ended : length a ≤ i → length a ≡ length b → same (drop i a) (drop i b) ≡ true
-  unfolding same
-  ended h e = rw (drop_of_length-le a h, drop_of_length-le b {i = i} (omega arith))
+-- lists of one length are the same if each pair is
+pub pair_by_pair : (a b : List ℕ) → length a ≡ length b → list_all (λ p. eqb p.0 p.1) (zip a b) ≡ same a b
+unfolding same
+pair_by_pair [] [] h = refl
+pair_by_pair [] (y ∷ b) h = absurd (omega arith)
+pair_by_pair (x ∷ a) [] h = absurd (omega arith)
+pair_by_pair (x ∷ a) (y ∷ b) h = ap (λ (t : Bool). eqb x y && t) (pair_by_pair a b (omega arith))

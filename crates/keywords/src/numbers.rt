@@ -1,4 +1,6 @@
 // What the word of a step says of its number v: what the step does with it, and its range.
+#![tactic(auto, unfolding(spec::specs::Words::role, spec::specs::Words::least_value, spec::specs::Words::largest_value))]
+
 ghost use Rattle.std.specs.Prelude.{◌≡◌};
 ghost use Rattle.spec.specs.Words.{role, least_value, largest_value};
 ghost use Rattle.spec.specs.declared.Word.TheVariants.{Leaf, Unary, Binary};
@@ -8,7 +10,7 @@ use crate::calls;
 use spec::{BinaryWord, LeafWord, Role, UnaryWord, Word};
 
 // What a step does with its number, and the smallest and the largest that it may be.
-#[derive(Drop)]
+#[derive(Clone, Copy)]
 struct Number {
     role: Role,
     least: u32,
@@ -45,9 +47,10 @@ fn unary_number(w: UnaryWord) -> Number
     ensures { result ≡ number_of (Unary w) }
 {
     if calls(w) {
-        return numbered(Role::Calls, 0, CALL_LIMIT);
+        numbered(Role::Calls, 0, CALL_LIMIT)
+    } else {
+        numbered(Role::Neither, 0, 0)
     }
-    numbered(Role::Neither, 0, 0)
 }
 
 fn binary_number(w: BinaryWord) -> Number
@@ -75,22 +78,19 @@ fn number_of(w: Word) -> Number
 pub fn role_of(w: Word) -> Role
     ensures { result ≡ role w }
 {
-    let n = number_of(w);
-    n.role
+    number_of(w).role
 }
 
 // The smallest v that a step with this word may have.
 pub fn least_of(w: Word) -> u32
     ensures { result ≡ least_value w }
 {
-    let n = number_of(w);
-    n.least
+    number_of(w).least
 }
 
 // The largest v that a step with this word may have.
 pub fn limit_of(w: Word) -> u32
     ensures { result ≡ largest_value w }
 {
-    let n = number_of(w);
-    n.largest
+    number_of(w).largest
 }

@@ -7,10 +7,11 @@ use Prim.Native.Nat.{ℕ, ◌+◌, ◌*◌, ◌-◌, ◌^◌, ◌<◌, ◌≤◌
 use native.Mathlib.Nat.{not-suc-le-zero, le_of_suc-le-suc, pow-succ', pow-le-pow_right, lt_of_lt_of_le}
 use native.Mathlib.Numerals.{add-one}
 use native.Mathlib.Omega.{arith}
-use lib.Dec.{eqb, leb, lit<}
+use lib.Dec.{eqb, lit<}
 use lib.ListN.{length, get_or, drop, drop_of_length-le}
 use lib.Seq.{drop-cons}
 use borrow.Author.Tests.{le-leb, lt-leb}
+use Rattle.std.specs.Char.{is_ascii_digit}
 use Rattle.spec.specs.Text.{digit_limit, digits, value, numeral, leading_zero}
 
 -- ------------------------------------------------------------------ the first digit
@@ -30,18 +31,15 @@ leading_one (b ∷ c ∷ t) h = absurd (not-suc-le-zero (le_of_suc-le-suc h))
 -- ------------------------------------------------------------------ one digit more
 
 module _ (s : List ℕ) (i : ℕ) where
-  digits_at : i < length s → digits (drop i s) ≡ (leb 48 (get_or s i 0) && leb (get_or s i 0) 57 && digits (drop (i + 1) s))
+  digits_at : i < length s → digits (drop i s) ≡ (is_ascii_digit (get_or s i 0) && digits (drop (i + 1) s))
   unfolding digits
   digits_at h = simp (add-one, drop-cons s i 0 h)
 
-  pub digits_low : i < length s → get_or s i 0 < 48 → digits (drop i s) ≡ false
-  digits_low h k = digits_at h ∙ simp (lt-leb 48 (get_or s i 0) k)
+  pub digits_stop : i < length s → is_ascii_digit (get_or s i 0) ≡ false → digits (drop i s) ≡ false
+  digits_stop h e = digits_at h ∙ rw e
 
-  pub digits_high : i < length s → 57 < get_or s i 0 → digits (drop i s) ≡ false
-  digits_high h k = digits_at h ∙ simp (lt-leb (get_or s i 0) 57 k, and-false)
-
-  pub digits_on : i < length s → 48 ≤ get_or s i 0 → get_or s i 0 ≤ 57 → digits (drop i s) ≡ digits (drop (i + 1) s)
-  digits_on h k l = digits_at h ∙ simp (le-leb 48 (get_or s i 0) k, le-leb (get_or s i 0) 57 l)
+  pub digits_on : i < length s → is_ascii_digit (get_or s i 0) ≡ true → digits (drop i s) ≡ digits (drop (i + 1) s)
+  digits_on h e = digits_at h ∙ rw e
 
   pub digits_end : length s ≤ i → digits (drop i s) ≡ true
   unfolding digits

@@ -4,57 +4,59 @@ use mathlib.Core.Path.{◌≡◌, refl, ap, subst, ◌∙◌}
 use mathlib.Core.List.{List, [], ◌∷◌}
 use mathlib.Core.Bool.{Bool, true, false}
 use Prim.Native.Nat.{ℕ, suc, ◌+◌, ◌≤◌, ◌<◌}
-use native.Mathlib.Numerals.{add-one}
 use native.Mathlib.Omega.{arith}
 use lib.Dec.{eqb}
 use lib.ListN.{length, get_or, take, drop, drop_of_length-le}
-use lib.Seq.{drop-cons}
-use borrow.Author.Tests.{eq-eqb, ne_eqb}
+use lib.Seq.{drop-cons, drop-drop}
+use borrow.Author.Tests.{ne_eqb}
 use Rattle.spec.specs.Choice.{when◌then◌else◌}
 use Rattle.spec.specs.Text.{Field, on_field}
-use Rattle.lexer.specs.Views.{width, end_of, first_field, behind, with_field, with_byte, line_at}
+use Rattle.lexer.specs.Views.{end_byte, end_before, width, end_of, first_field, behind, with_field, with_byte, line_at}
 use Rattle.lexer.specs.declared.FieldEnd.{FieldEnd}
 use Rattle.lexer.specs.declared.FieldEnd.TheVariants.{Comma, Newline, Text}
 
 -- ------------------------------------------------------------------ the first field, at a place of a text
 
+-- the field ends before what is left
+pub ends_before : (t : List ℕ) (e : FieldEnd) → end_before t ≡ Some e → (width t ≡ 0) × (end_of t ≡ e)
+unfolding end_before end_byte width end_of
+ends_before [] e h = (refl, cc)
+ends_before (b ∷ t) e h = go (eqb b 44) (eqb b 10) h
+  where
+    go : (x y : Bool) → (when x then Some Comma else when y then Some Newline else None) ≡ Some e
+        → ((when x then 0 else when y then 0 else suc (width t)) ≡ 0) × ((when x then Comma else when y then Newline else end_of t) ≡ e)
+    go true y h = (refl, cc)
+    go false true h = (refl, cc)
+    go false false h = cc
+
+-- or goes on with a byte
+pub goes_on : (t : List ℕ) → end_before t ≡ None → (0 < length t) × ((width t ≡ suc (width (drop 1 t))) × (end_of t ≡ end_of (drop 1 t)))
+unfolding end_before end_byte width end_of
+goes_on [] h = cc
+goes_on (b ∷ t) h = (omega arith, go (eqb b 44) (eqb b 10) h)
+  where
+    go : (x y : Bool) → ◌≡◌ {A = Option FieldEnd} (when x then Some Comma else when y then Some Newline else None) None
+        → ((when x then 0 else when y then 0 else suc (width t)) ≡ suc (width t)) × ((when x then Comma else when y then Newline else end_of t) ≡ end_of t)
+    go true y h = cc
+    go false true h = cc
+    go false false h = (refl, refl)
+
 module _ (s : List ℕ) (i : ℕ) where
-  width_at : i < length s → width (drop i s) ≡ (when eqb (get_or s i 0) 44 then 0 else when eqb (get_or s i 0) 10 then 0 else suc (width (drop (i + 1) s)))
-  unfolding width
-  width_at h = simp (add-one, drop-cons s i 0 h)
+  pub before_byte : i < length s → end_before (drop i s) ≡ end_byte (get_or s i 0)
+  unfolding end_before
+  before_byte h = rw (drop-cons s i 0 h)
 
-  end_at_lem : i < length s → end_of (drop i s) ≡ (when eqb (get_or s i 0) 44 then Comma else when eqb (get_or s i 0) 10 then Newline else end_of (drop (i + 1) s))
-  unfolding end_of
-  end_at_lem h = simp (add-one, drop-cons s i 0 h)
+  pub before_end : length s ≤ i → end_before (drop i s) ≡ Some Text
+  unfolding end_before
+  before_end h = rw (drop_of_length-le s h)
 
-  module _ (h : i < length s) where
-    pub comma_width : get_or s i 0 ≡ 44 → width (drop i s) ≡ 0
-    comma_width e = width_at h ∙ simp (eq-eqb _ _ e)
+  pub byte_within : end_before (drop i s) ≡ None → (width (drop i s) ≡ suc (width (drop (i + 1) s))) × (end_of (drop i s) ≡ end_of (drop (i + 1) s))
+  byte_within h = (rw (drop-drop 1 i s) at (goes_on (drop i s) h)).1
 
-    pub comma_end : get_or s i 0 ≡ 44 → end_of (drop i s) ≡ Comma
-    comma_end e = end_at_lem h ∙ simp (eq-eqb _ _ e)
-
-    module _ (n : get_or s i 0 ≡ 44 → ⊥) where
-      pub newline_width : get_or s i 0 ≡ 10 → width (drop i s) ≡ 0
-      newline_width e = width_at h ∙ simp (ne_eqb _ _ n, eq-eqb _ _ e)
-
-      pub newline_end : get_or s i 0 ≡ 10 → end_of (drop i s) ≡ Newline
-      newline_end e = end_at_lem h ∙ simp (ne_eqb _ _ n, eq-eqb _ _ e)
-
-      pub byte_width : (get_or s i 0 ≡ 10 → ⊥) → width (drop i s) ≡ suc (width (drop (i + 1) s))
-      byte_width m = width_at h ∙ simp (ne_eqb _ _ n, ne_eqb _ _ m)
-
-      pub byte_end : (get_or s i 0 ≡ 10 → ⊥) → end_of (drop i s) ≡ end_of (drop (i + 1) s)
-      byte_end m = end_at_lem h ∙ simp (ne_eqb _ _ n, ne_eqb _ _ m)
-
-  module _ (h : length s ≤ i) where
-    pub text_width : width (drop i s) ≡ 0
-    unfolding width
-    text_width = rw (drop_of_length-le s h)
-
-    pub text_end : end_of (drop i s) ≡ Text
-    unfolding end_of
-    text_end = rw (drop_of_length-le s h)
+-- a byte that is neither a comma nor a byte 10
+pub no_end : (b : ℕ) → (b ≡ 44 → ⊥) → (b ≡ 10 → ⊥) → end_byte b ≡ None
+unfolding end_byte
+no_end b n m = simp (ne_eqb b 44 n, ne_eqb b 10 m)
 
 -- ------------------------------------------------------------------ the first line by the first field
 

@@ -16,8 +16,6 @@ use Rattle.lexer.specs.Views.{with_field, with_byte, line_at}
 use Rattle.lexer.specs.Cursors.{Placed, rest}
 use Rattle.lexer.specs.Numbers.{stored, with_rest, numbers_in, counted, numbers_at, behind_line, numbers_of, Filled, NumbersRead}
 use Rattle.lexer.specs.declared.Cursor.{Cursor}
-use Rattle.lexer.specs.declared.Numbers.{Numbers}
-use Rattle.lexer.specs.declared.Numbers.TheVariants.{Read, Malformed}
 
 -- ------------------------------------------------------------------ what is left behind a line is a part of the text
 
@@ -126,20 +124,20 @@ module _ (text : List ℕ) (c : Cursor) (n : ℕ) where
         long = at_length ns r e;
       }
 
-module _ {text : List ℕ} {c : Cursor} {before after : List ℕ} {answer : Numbers} (h : NumbersRead text c before after answer) (n : ℕ) (whole : length before ≡ n) where
-  pub numbers_none : answer ≡ Malformed → (numbers_at text c n ≡ None) × (length after ≡ n)
+module _ {text : List ℕ} {c : Cursor} {before after : List ℕ} {answer : Option Cursor} (h : NumbersRead text c before after answer) (n : ℕ) (whole : length before ≡ n) where
+  pub numbers_none : answer ≡ None → (numbers_at text c n ≡ None) × (length after ≡ n)
   unfolding numbers_of
   numbers_none a = rw whole at (go (numbers_at text c (length before)) (sym a ∙ h.found) h.filled)
     where
-      go : (o : Option (List ℕ × List ℕ)) → Malformed ≡ numbers_of text c o → Filled o before after → (o ≡ None) × (length after ≡ length before)
+      go : (o : Option (List ℕ × List ℕ)) → None ≡ numbers_of text c o → Filled o before after → (o ≡ None) × (length after ≡ length before)
       go None e f = (refl, f)
       go (Some found) e f = let z : ◌≡◌ {A = ℕ} 0 1 = cc in absurd (omega arith)
 
-  pub numbers_read : {d : Cursor} → Placed text c → answer ≡ Read d → LineRead text c n after d
+  pub numbers_read : {d : Cursor} → Placed text c → answer ≡ Some d → LineRead text c n after d
   unfolding numbers_of
   numbers_read {d} p a = rw whole at (go (numbers_at text c (length before)) refl (sym a ∙ h.found) h.filled)
     where
-      go : (o : Option (List ℕ × List ℕ)) → numbers_at text c (length before) ≡ o → Read d ≡ numbers_of text c o → Filled o before after
+      go : (o : Option (List ℕ × List ℕ)) → numbers_at text c (length before) ≡ o → Some d ≡ numbers_of text c o → Filled o before after
           → LineRead text c (length before) after d
       go None q e f = let z : ◌≡◌ {A = ℕ} 0 1 = cc in absurd (omega arith)
       go (Some found) q e f =

@@ -15,8 +15,7 @@ use Rattle.lexer.specs.Numbers.{number_at, stored, with_rest, numbers_in, counte
 use Rattle.lexer.specs.declared.Cursor.{Cursor}
 use Rattle.lexer.specs.declared.FieldEnd.{FieldEnd}
 use Rattle.lexer.specs.declared.FieldEnd.TheVariants.{Comma, Newline, Text}
-use Rattle.lexer.specs.declared.Numbers.TheVariants.{Read, Malformed}
-use Rattle.lexer.specs.declared.Number.TheVariants as number_is
+use Rattle.lexer.specs.declared.Number.{Number}
 use Rattle.lexer.proofs.Numerals.{none_at_cursor}
 use Rattle.lexer.proofs.Walks.{number_numeral, number_comma, number_newline, number_text}
 use Rattle.lexer.proofs.Fields.{line_comma, line_newline, line_text, line_some}
@@ -130,29 +129,30 @@ module _ (text : List ℕ) (c : Cursor) (n : ℕ) where
 
 -- a cursor on a line that began at another cursor, behind the numbers listed
 module _ (text : List ℕ) (top c : Cursor) (xs : List ℕ) (so_far : numbers_in (line_at (rest text top)) ≡ ahead xs (numbers_in (line_at (rest text c)))) where
-  pub stop_malformed : (k : ℕ) → number_at text c ≡ number_is.Malformed → numbers_at text top k ≡ None
+  pub stop_malformed : (k : ℕ) → number_at text c ≡ None → numbers_at text top k ≡ None
   unfolding ahead
   stop_malformed k h = none_counted text top k (so_far ∙ ap (ahead xs) (no_numbers (rest text c) (none_at_cursor text c h)))
 
-  module _ (n : ℕ) (e : FieldEnd) (d : Cursor) (h : number_at text c ≡ number_is.Value n e d) where
-    pub stop_text : (k : ℕ) → e ≡ Text → numbers_at text top k ≡ None
+  module _ (f : Number) (h : number_at text c ≡ Some f) where
+    pub stop_text : (k : ℕ) → f.end ≡ Text → numbers_at text top k ≡ None
     unfolding ahead numbers_in
-    stop_text k p = none_counted text top k (so_far ∙ ap (λ (o : Option (List Field × List ℕ)). ahead xs (numbers_in o)) (number_text text c n e d h p))
+    stop_text k p = none_counted text top k (so_far ∙ ap (λ (o : Option (List Field × List ℕ)). ahead xs (numbers_in o)) (number_text text c f h p))
 
-    pub after_comma : Placed text c → e ≡ Comma → numbers_in (line_at (rest text top)) ≡ ahead (xs ++ (stored n ∷ [])) (numbers_in (line_at (rest text d)))
+    pub after_comma : Placed text c → f.end ≡ Comma
+        → numbers_in (line_at (rest text top)) ≡ ahead (xs ++ (stored f.value ∷ [])) (numbers_in (line_at (rest text f.next)))
     after_comma q p =
-        let line = number_comma text c n e d h q p in
-        let first = number_numeral text c n e d h in
+        let line = number_comma text c f h q p in
+        let first = number_numeral text c f h in
         so_far
-        ∙ ap (ahead xs) (ap numbers_in line ∙ with_numeral_lem (first_field (rest text c)) n (line_at (rest text d)) first)
-        ∙ ahead_ahead xs (stored n ∷ []) (numbers_in (line_at (rest text d)))
+        ∙ ap (ahead xs) (ap numbers_in line ∙ with_numeral_lem (first_field (rest text c)) f.value (line_at (rest text f.next)) first)
+        ∙ ahead_ahead xs (stored f.value ∷ []) (numbers_in (line_at (rest text f.next)))
 
-    pub after_newline : Placed text c → e ≡ Newline → numbers_in (line_at (rest text top)) ≡ Some (xs ++ (stored n ∷ []), rest text d)
+    pub after_newline : Placed text c → f.end ≡ Newline → numbers_in (line_at (rest text top)) ≡ Some (xs ++ (stored f.value ∷ []), rest text f.next)
     unfolding ahead
     after_newline q p =
-        let line = number_newline text c n e d h q p in
-        let first = number_numeral text c n e d h in
-        so_far ∙ ap (ahead xs) (ap numbers_in line ∙ with_last (first_field (rest text c)) n (rest text d) first)
+        let line = number_newline text c f h q p in
+        let first = number_numeral text c f h in
+        so_far ∙ ap (ahead xs) (ap numbers_in line ∙ with_last (first_field (rest text c)) f.value (rest text f.next) first)
 
 -- ------------------------------------------------------------------ reading them
 
@@ -170,11 +170,11 @@ stands text c d p h =
     sym (rw (e, sym h))
 
 module _ (text : List ℕ) (c : Cursor) (before after : List ℕ) where
-  pub refused : numbers_at text c (length before) ≡ None → length after ≡ length before → NumbersRead text c before after Malformed
+  pub refused : numbers_at text c (length before) ≡ None → length after ≡ length before → NumbersRead text c before after None
   unfolding numbers_of
   refused e h = record { found = rw e; filled = rw e h }
 
   pub accepted : (ns r : List ℕ) (d : Cursor) → numbers_at text c (length before) ≡ Some (ns, r) → after ≡ ns → d ≡ behind_line text c r
-      → NumbersRead text c before after (Read d)
+      → NumbersRead text c before after (Some d)
   unfolding numbers_of
   accepted ns r d e h k = record { found = rw (e, k); filled = rw e h }

@@ -1,5 +1,5 @@
 -- Cursors, and what is left behind them.
-use mathlib.Core.Path.{◌≡◌, refl, sym, ap, ◌∙◌}
+use mathlib.Core.Path.{◌≡◌, refl, sym, ap, subst, ◌∙◌}
 use mathlib.Core.List.{List, [], ◌∷◌}
 use mathlib.Core.Bool.{Bool, true, false}
 use Prim.Native.Nat.{ℕ, zero, suc, ◌+◌, ◌-◌, ◌≤◌, ◌<◌}
@@ -10,7 +10,7 @@ use borrow.Author.Tests.{le-leb, lt-leb}
 use lib.ListN.{length, take, drop, drop_of_length-le, length-drop}
 use lib.Seq.{drop-drop}
 use Rattle.lexer.specs.Views.{width, end_of, first_field, behind, text_ended}
-use Rattle.lexer.specs.Cursors.{Placed, rest, past, behind_field, span_to, span_at}
+use Rattle.lexer.specs.Cursors.{Fits, Placed, rest, past, behind_field, span_to, span_at}
 use Rattle.lexer.specs.declared.Cursor.{Cursor}
 use Rattle.lexer.specs.declared.Span.{Span}
 use Rattle.lexer.specs.declared.FieldEnd.{FieldEnd}
@@ -27,33 +27,29 @@ pub nothing_left : (text : List ℕ) (c : Cursor) → text_ended (rest text c) �
 unfolding rest
 nothing_left text c = nothing_drop text c.at
 
--- ------------------------------------------------------------------ the field at a cursor
-
-module _ (text : List ℕ) (c : Cursor) where
-  pub span_is : (e : FieldEnd) (to : ℕ) → end_of (rest text c) ≡ e → c.at + width (rest text c) ≡ to → span_to e to c ≡ span_at text c
-  unfolding span_at
-  span_is e to p q = rw (p, q)
+pub placed_fits : {text : List ℕ} {c : Cursor} → Placed text c → Fits c
+placed_fits p = record { at = omega (arith, p.in_text, p.short); line = omega (arith, p.line_small, p.in_text, p.short) }
 
 -- ------------------------------------------------------------------ the cursor behind a field
 
 -- the first field of a text, with the byte that ends it, is no longer than the text
-abbrev Fits : FieldEnd → (width length : ℕ) → Type 0
-Fits Comma w n = w < n
-Fits Newline w n = w < n
-Fits Text w n = w ≡ n
+abbrev Ended : FieldEnd → (width length : ℕ) → Type 0
+Ended Comma w n = w < n
+Ended Newline w n = w < n
+Ended Text w n = w ≡ n
 
-fits_more : (e : FieldEnd) (w n : ℕ) → Fits e w n → Fits e (suc w) (suc n)
+fits_more : (e : FieldEnd) (w n : ℕ) → Ended e w n → Ended e (suc w) (suc n)
 fits_more Comma w n h = omega arith
 fits_more Newline w n h = omega arith
 fits_more Text w n h = ap suc h
 
-field_fits : (t : List ℕ) → Fits (end_of t) (width t) (length t)
+field_fits : (t : List ℕ) → Ended (end_of t) (width t) (length t)
 unfolding end_of width
 field_fits [] = refl
 field_fits (b ∷ t) = go (eqb b 44) (eqb b 10) (field_fits t)
   where
-    go : (x y : Bool) → Fits (end_of t) (width t) (length t)
-        → Fits (when x then Comma else when y then Newline else end_of t) (when x then 0 else when y then 0 else suc (width t)) (suc (length t))
+    go : (x y : Bool) → Ended (end_of t) (width t) (length t)
+        → Ended (when x then Comma else when y then Newline else end_of t) (when x then 0 else when y then 0 else suc (width t)) (suc (length t))
     go true y h = omega arith
     go false true h = omega arith
     go false false h = fits_more (end_of t) (width t) (length t) h
@@ -61,7 +57,7 @@ field_fits (b ∷ t) = go (eqb b 44) (eqb b 10) (field_fits t)
 pub width_le : (t : List ℕ) → width t ≤ length t
 width_le t = go (end_of t) (field_fits t)
   where
-    go : (e : FieldEnd) → Fits e (width t) (length t) → width t ≤ length t
+    go : (e : FieldEnd) → Ended e (width t) (length t) → width t ≤ length t
     go Comma h = omega arith
     go Newline h = omega arith
     go Text h = omega arith
@@ -77,7 +73,7 @@ module _ (text : List ℕ) (c : Cursor) (p : Placed text c) where
       let e : c.at + suc (width (drop c.at text)) ≡ c.at + width (drop c.at text) + 1 = omega arith in
       sym (drop-drop (suc (width (drop c.at text))) c.at text ∙ ap (λ (k : ℕ). drop k text) e)
 
-  past_rest : (e : FieldEnd) → Fits e (width (rest text c)) (length (rest text c)) → drop (past e (c.at + width (rest text c)) c.line).at text ≡ behind (rest text c)
+  past_rest : (e : FieldEnd) → Ended e (width (rest text c)) (length (rest text c)) → drop (past e (c.at + width (rest text c)) c.line).at text ≡ behind (rest text c)
   unfolding past behind rest
   past_rest Comma h = past_byte
   past_rest Newline h = past_byte
@@ -86,7 +82,7 @@ module _ (text : List ℕ) (c : Cursor) (p : Placed text c) where
       drop_of_length-le text {i = c.at + width (drop c.at text)} (omega (arith, p.in_text))
       ∙ sym (drop_of_length-le (drop c.at text) {i = suc (width (drop c.at text))} (omega arith))
 
-  past_placed : (e : FieldEnd) → Fits e (width (rest text c)) (length (rest text c)) → Placed text (past e (c.at + width (rest text c)) c.line)
+  past_placed : (e : FieldEnd) → Ended e (width (rest text c)) (length (rest text c)) → Placed text (past e (c.at + width (rest text c)) c.line)
   unfolding past
   past_placed Comma h = let l = rest_length in record { line_small = omega (arith, p.line_small); in_text = omega (arith, p.in_text); short = p.short }
   past_placed Newline h = let l = rest_length in record { line_small = omega (arith, p.line_small); in_text = omega (arith, p.in_text); short = p.short }
@@ -101,6 +97,19 @@ module _ (text : List ℕ) (c : Cursor) (p : Placed text c) where
   pub next_placed : Placed text (behind_field text c)
   unfolding behind_field
   next_placed = past_placed (end_of (rest text c)) (field_fits (rest text c))
+
+-- a field from the cursor to a byte, with what ends it there
+module _ (text : List ℕ) (c : Cursor) (e : FieldEnd) (to : ℕ) (ends : end_of (rest text c) ≡ e) (long : c.at + width (rest text c) ≡ to) where
+  pub span_is : span_to e to c ≡ span_at text c
+  unfolding span_at
+  span_is = rw (ends, long)
+
+  pub past_is : past e to c.line ≡ behind_field text c
+  unfolding behind_field
+  past_is = rw (ends, long)
+
+  pub past_fits : Placed text c → Fits (past e to c.line)
+  past_fits p = placed_fits (subst (Placed text) (sym past_is) (next_placed text c p))
 
 module _ (text : List ℕ) (c : Cursor) where
   pub line_kept : end_of (rest text c) ≡ Comma → (behind_field text c).line ≡ c.line

@@ -1,4 +1,7 @@
 -- A stored number is in a range where the number is, and is then that number.
+use Rattle.std.specs.Result.{OkIff, result_unwrap_or}
+use Rattle.std.proofs.Common.{Result, Ok, Err}
+use Rattle.std.proofs.lemmas.Result.{OkIff-at_ok, OkIff-at_err}
 use mathlib.Core.Path.{◌≡◌, refl, sym, ap, ◌∙◌}
 use mathlib.Core.List.{List, [], ◌∷◌, map}
 use mathlib.Core.Bool.{Bool, true, false, and-false}
@@ -6,7 +9,7 @@ use Prim.Native.Nat.{ℕ, ◌≤◌, ◌<◌}
 use native.Mathlib.Omega.{arith}
 use lib.Dec.{leb}
 use lib.ListN.{length}
-use borrow.Author.Tests.{leb-false, lt-leb, le-ltb}
+use borrow.Author.Tests.{leb-false, le-leb, lt-leb, le-ltb}
 use Rattle.spec.specs.Choice.{when◌then◌else◌}
 use Rattle.spec.specs.Reading.{good, bad, bad_range, Range, ◌to◌, below, in_range, all_in_range}
 use Rattle.lexer.specs.Numbers.{stored}
@@ -30,6 +33,15 @@ kept n e = simp e
 pub cut : (n : ℕ) → leb n 4294967295 ≡ false → stored n ≡ 4294967295
 unfolding stored
 cut n e = simp e
+
+-- a number, if 32 bits hold it, and else the largest that they hold
+pub held_or_largest : {E : Type 0} (n : ℕ) (r : Result ℕ E) → OkIff r (n < 4294967296) n → result_unwrap_or r 4294967295 ≡ stored n
+held_or_largest {E} n (Ok x) h =
+    let p = OkIff-at_ok {E = E} (Ok x) (n < 4294967296) n x h refl in
+    p.1 ∙ sym (kept n (le-leb n 4294967295 (omega arith)))
+held_or_largest {E} n (Err e) h =
+    let p : n < 4294967296 → ⊥ = OkIff-at_err {E = E} (Err e) (n < 4294967296) n e h refl in
+    sym (cut n (lt-leb n 4294967295 (omega arith)))
 
 past_range : (r : Range) → Narrow r → (n : ℕ) → 4294967295 ≤ n → in_range r n ≡ false
 unfolding in_range

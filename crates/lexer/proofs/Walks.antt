@@ -17,7 +17,7 @@ use Rattle.lexer.specs.declared.FieldEnd.TheVariants.{Comma, Newline, Text}
 use Rattle.lexer.proofs.Fields.{line_comma, line_newline, line_text}
 use Rattle.lexer.proofs.Lines.{next_open, next_closed}
 use Rattle.lexer.specs.Numbers.{number_at}
-use Rattle.lexer.specs.declared.Number.TheVariants as number_is
+use Rattle.lexer.specs.declared.Number.{Number}
 use Rattle.lexer.proofs.Numerals.{value_at_cursor}
 use Rattle.lexer.proofs.Places.{next_rest, next_placed, line_kept, line_passed}
 
@@ -56,37 +56,37 @@ module _ (text : List ℕ) (c : Cursor) (s : Span) (is : s ≡ span_at text c) w
   span_line_kept e = ap (λ (d : Cursor). d.line) span_next ∙ line_kept text c (sym span_end ∙ e)
 
 -- what the numeral at a cursor says of the line there
-module _ (text : List ℕ) (c : Cursor) (n : ℕ) (e : FieldEnd) (d : Cursor) (is : number_at text c ≡ number_is.Value n e d) where
-  pub number_numeral : numeral (first_field (rest text c)) ≡ Some n
-  number_numeral = (value_at_cursor text c n e d is).0
+module _ (text : List ℕ) (c : Cursor) (f : Number) (is : number_at text c ≡ Some f) where
+  pub number_numeral : numeral (first_field (rest text c)) ≡ Some f.value
+  number_numeral = (value_at_cursor text c f is).0
 
-  pub number_end : end_of (rest text c) ≡ e
-  number_end = (value_at_cursor text c n e d is).1
+  pub number_end : end_of (rest text c) ≡ f.end
+  number_end = (value_at_cursor text c f is).1
 
-  pub number_next : behind_field text c ≡ d
-  number_next = (value_at_cursor text c n e d is).2
+  pub number_next : behind_field text c ≡ f.next
+  number_next = (value_at_cursor text c f is).2
 
-  pub number_line_kept : e ≡ Comma → d.line ≡ c.line
-  number_line_kept f = ap (λ (x : Cursor). x.line) (sym number_next) ∙ line_kept text c (number_end ∙ f)
+  pub number_line_kept : f.end ≡ Comma → f.next.line ≡ c.line
+  number_line_kept e = ap (λ (x : Cursor). x.line) (sym number_next) ∙ line_kept text c (number_end ∙ e)
 
-  pub number_line_passed : e ≡ Newline → d.line ≡ c.line + 1
-  number_line_passed f = ap (λ (x : Cursor). x.line) (sym number_next) ∙ line_passed text c (number_end ∙ f)
+  pub number_line_passed : f.end ≡ Newline → f.next.line ≡ c.line + 1
+  number_line_passed e = ap (λ (x : Cursor). x.line) (sym number_next) ∙ line_passed text c (number_end ∙ e)
 
-  pub number_text : e ≡ Text → line_at (rest text c) ≡ None
-  number_text f = line_text (rest text c) (number_end ∙ f)
+  pub number_text : f.end ≡ Text → line_at (rest text c) ≡ None
+  number_text e = line_text (rest text c) (number_end ∙ e)
 
   module _ (p : Placed text c) where
-    pub number_placed : Placed text d
+    pub number_placed : Placed text f.next
     number_placed = subst (Placed text) number_next (next_placed text c p)
 
-    pub number_behind : behind (rest text c) ≡ rest text d
+    pub number_behind : behind (rest text c) ≡ rest text f.next
     number_behind = sym (next_rest text c p) ∙ ap (rest text) number_next
 
-    pub number_comma : e ≡ Comma → line_at (rest text c) ≡ with_field (first_field (rest text c)) (line_at (rest text d))
-    number_comma f = rw (← number_behind) (line_comma (rest text c) (number_end ∙ f))
+    pub number_comma : f.end ≡ Comma → line_at (rest text c) ≡ with_field (first_field (rest text c)) (line_at (rest text f.next))
+    number_comma e = rw (← number_behind) (line_comma (rest text c) (number_end ∙ e))
 
-    pub number_newline : e ≡ Newline → line_at (rest text c) ≡ Some (first_field (rest text c) ∷ [], rest text d)
-    number_newline f = rw (← number_behind) (line_newline (rest text c) (number_end ∙ f))
+    pub number_newline : f.end ≡ Newline → line_at (rest text c) ≡ Some (first_field (rest text c) ∷ [], rest text f.next)
+    number_newline e = rw (← number_behind) (line_newline (rest text c) (number_end ∙ e))
 
 -- whether something is left
 pub left_none : (t : List ℕ) → text_ended t ≡ true → t ≡ []

@@ -8,6 +8,11 @@ use Rattle.lexer.specs.declared.Span.{Span}
 use Rattle.lexer.specs.declared.FieldEnd.{FieldEnd}
 use Rattle.lexer.specs.declared.FieldEnd.TheVariants.{Comma, Newline, Text}
 
+-- a cursor that 32 bits hold
+pub record Fits (c : Cursor) : Type 0 where
+  pub at : c.at < 4294967296
+  pub line : c.line < 4294967296
+
 -- a cursor that stands in a text or at its end, with no more lines than bytes behind it; the lines of the text can be counted in 32 bits
 pub record Placed (text : List ℕ) (c : Cursor) : Type 0 where
   pub line_small : c.line ≤ c.at

@@ -1,5 +1,5 @@
 -- Numerals at a cursor, as the shapes that the code hands back.
-use Rattle.std.specs.Prelude.{List, [], ◌∷◌, map, Bool, false, ◌&&◌, ◌≡◌, ℕ, ◌+◌, ◌-◌, ◌≤◌, ◌<◌, eqb, leb, ltb, length, drop, Option, None, Some}
+use Rattle.std.specs.Prelude.{List, [], ◌∷◌, map, Bool, false, ◌&&◌, ◌≡◌, ℕ, ◌+◌, ◌-◌, ◌≤◌, ◌<◌, eqb, leb, length, drop, Option, None, Some}
 use Rattle.spec.specs.Choice.{when◌then◌else◌}
 use Rattle.spec.specs.Text.{Field, digit_limit, digits, value as value_of, numeral}
 use Rattle.spec.specs.Reading.{numerals}
@@ -7,38 +7,20 @@ use Rattle.lexer.specs.Views.{width, end_of, first_field, line_at}
 use Rattle.lexer.specs.Cursors.{rest, behind_field}
 use Rattle.lexer.specs.declared.Cursor.{Cursor}
 use Rattle.lexer.specs.declared.FieldEnd.{FieldEnd}
-use Rattle.lexer.specs.declared.Numeral.{Numeral}
-use Rattle.lexer.specs.declared.Numeral.TheVariants as numeral_is
 use Rattle.lexer.specs.declared.Taken.{Taken}
 use Rattle.lexer.specs.declared.Number.{Number}
-use Rattle.lexer.specs.declared.Number.TheVariants as number_is
-use Rattle.lexer.specs.declared.Numbers.{Numbers}
-use Rattle.lexer.specs.declared.Numbers.TheVariants as numbers_are
 
 -- ------------------------------------------------------------------ one numeral
 
-unfoldable pub numeral_of : Option ℕ → Numeral
-numeral_of None = numeral_is.Malformed
-numeral_of (Some n) = numeral_is.Value n
-
-unfoldable pub number_of : Option ℕ → FieldEnd → Cursor → Number
-number_of None e c = number_is.Malformed
-number_of (Some n) e c = number_is.Value n e c
+unfoldable pub number_of : Option ℕ → FieldEnd → Cursor → Option Number
+number_of None e c = None
+number_of (Some n) e c = Some (record { value = n; end = e; next = c })
 
 -- the numeral at a cursor, what ends it, and the cursor behind it
-unfoldable pub number_at : List ℕ → Cursor → Number
+unfoldable pub number_at : List ℕ → Cursor → Option Number
 number_at text c = number_of (numeral (first_field (rest text c))) (end_of (rest text c)) (behind_field text c)
 
 -- ------------------------------------------------------------------ the digits in front
-
-pub record Lower (a b r : ℕ) : Type 0 where
-  pub below_first : r ≤ a
-  pub below_second : r ≤ b
-  pub one : r < b → r ≡ a
-
--- whether the first of so many digits is a 0 in front of others
-unfoldable pub zero_leads : (first width : ℕ) → Bool
-zero_leads b n = eqb b 48 && ltb 1 n
 
 unfoldable pub digit_first : List ℕ → Bool
 digit_first [] = false
@@ -89,9 +71,9 @@ numbers_at text c n = counted n (numbers_in (line_at (rest text c)))
 unfoldable pub behind_line : List ℕ → Cursor → List ℕ → Cursor
 behind_line text c r = record { at = length text - length r; line = c.line + 1 }
 
-unfoldable pub numbers_of : List ℕ → Cursor → Option (List ℕ × List ℕ) → Numbers
-numbers_of text c None = numbers_are.Malformed
-numbers_of text c (Some found) = numbers_are.Read (behind_line text c found.1)
+unfoldable pub numbers_of : List ℕ → Cursor → Option (List ℕ × List ℕ) → Option Cursor
+numbers_of text c None = None
+numbers_of text c (Some found) = Some (behind_line text c found.1)
 
 -- what a lent slice holds afterwards: the numbers; of a line of another form, only its length is promised
 abbrev pub Filled : Option (List ℕ × List ℕ) → (before after : List ℕ) → Type 0
@@ -99,6 +81,6 @@ Filled None before after = length after ≡ length before
 Filled (Some found) before after = after ≡ found.0
 
 -- reading the numerals of a line into a slice of as many places
-pub record NumbersRead (text : List ℕ) (c : Cursor) (before after : List ℕ) (answer : Numbers) : Type 0 where
+pub record NumbersRead (text : List ℕ) (c : Cursor) (before after : List ℕ) (answer : Option Cursor) : Type 0 where
   pub found : answer ≡ numbers_of text c (numbers_at text c (length before))
   pub filled : Filled (numbers_at text c (length before)) before after

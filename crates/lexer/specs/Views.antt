@@ -7,6 +7,15 @@ use Rattle.lexer.specs.declared.FieldEnd.TheVariants.{Comma, Newline, Text}
 
 -- ------------------------------------------------------------------ the first field
 
+-- what a byte ends a field with, if it ends one
+unfoldable pub end_byte : ℕ → Option FieldEnd
+end_byte b = when eqb b 44 then Some Comma else when eqb b 10 then Some Newline else None
+
+-- what ends a field before what is left, if anything does
+unfoldable pub end_before : List ℕ → Option FieldEnd
+end_before [] = Some Text
+end_before (b ∷ t) = end_byte b
+
 -- how many bytes stand in front of the first comma or byte 10
 unfoldable pub width : List ℕ → ℕ
 width [] = 0

@@ -1,5 +1,5 @@
 -- Reading lines one after the other: what the loop over them has read and stored after k of them.
-use Rattle.std.proofs.Common.{Result}
+use Rattle.std.proofs.Common.{Result, Ok, Err}
 use mathlib.Core.Path.{◌≡◌, refl, ap, ◌∙◌}
 use mathlib.Core.Logic.{inl, inr}
 use mathlib.Core.List.{List, [], ◌∷◌, ◌++◌, map}
@@ -26,7 +26,6 @@ use Rattle.program_lines.specs.Lines.{item_at, StepShown}
 use Rattle.program.specs.Lines.{items_at, StepsShown}
 use Rattle.program_tree.proofs.Limits.{limited_snoc, variables_snoc}
 use Rattle.program_lines.specs.declared.items.StepLine.TheVariants as step_line
-use Rattle.program.specs.declared.lines.StepLines.TheVariants as steps
 
 -- ------------------------------------------------------------------ one line more
 
@@ -163,11 +162,13 @@ module _ {text : List ℕ} {h : ProgramHeading} {n : ℕ} {c₀ : Cursor} {w₀ 
       let z : c₀.line + 1 + 0 ≡ c₀.line + 1 = omega arith in
       ap (λ rs. read_lines program_sheet rs (place_at text c₀)) (rw z at (items_numbered h c₀.line 0 n)) ∙ e
 
-  pub finish : n ≤ k → StepsShown text h n c₀ w₀ w (steps.Read i j c)
-  finish l = record {
+  pub finish : n ≤ k → (room : (i ≤ step_room) × (j ≤ step_room))
+      → StepsShown text h n c₀ w₀ w (Ok (record { steps = i; procs = j; last = c.line; in_room = room }, c))
+  finish l room = record {
     found = record {
       stored = s.stored;
       all = omega (arith, s.both, s.loop_step.few);
+      last = refl;
       shown = all_of _ (loop_steps_done s.loop_step l);
       placed = s.loop_step.placed;
     };
@@ -182,14 +183,14 @@ module _ {text : List ℕ} {h : ProgramHeading} {n : ℕ} {c₀ : Cursor} {w₀ 
         let here : c₀.line + 1 + k ≡ c.line + 1 = omega (arith, s.lined) in
         ap (λ i. read_line program_sheet (item_line h i) (place_at text c)) here ∙ e
 
-    pub refuses : (x : Refusal) → StepShown text h c (step_line.Refused x) → StepsShown text h n c₀ w₀ w (steps.Refused x)
-    refuses x p = record { found = all_of _ (loop_step_stops s.loop_step l (line_here p)); changed = s.changed }
+    pub refuses : {x : Refusal} → StepShown text h c (Err x) → StepsShown text h n c₀ w₀ w (Err x)
+    refuses p = record { found = all_of _ (loop_step_stops s.loop_step l (line_here p)); changed = s.changed }
 
     module _ (long₀ : length w₀ ≡ work_size) (few : n ≤ step_room) where
       whole : length w ≡ work_size
       whole = s.changed.long ∙ long₀
 
-      pub more_step : (x : Word) (v code : ℕ) (d : Cursor) → StepShown text h c (step_line.Step x v d) → code ≡ code_of x
+      pub more_step : (x : Word) (v code : ℕ) (d : Cursor) → StepShown text h c (Ok (step_line.Step x v d)) → code ≡ code_of x
           → StepsSoFar text h n c₀ w₀ (set (set (set w (words_at + i) code) (values_at + i) v) (lines_at + i) d.line) d (i + 1) j (k + 1)
       more_step x v code d p e =
           let one : Step = record { word = x; value = v; line = d.line } in
@@ -217,7 +218,7 @@ module _ {text : List ℕ} {h : ProgramHeading} {n : ℕ} {c₀ : Cursor} {w₀ 
             changed = changed_then words_at row_types_at s.changed (Rattle.workspace.proofs.Region.changed_wider words_at row_types_at (omega arith) (omega arith) within);
           }
 
-      pub more_proc : (x first : ℕ) (d : Cursor) → StepShown text h c (step_line.Proc x d) → first ≡ i
+      pub more_proc : (x first : ℕ) (d : Cursor) → StepShown text h c (Ok (step_line.Proc x d)) → first ≡ i
           → StepsSoFar text h n c₀ w₀ (set (set (set w (proc_lines_at + j) d.line) (proc_vars_at + j) x) (proc_firsts_at + j) first) d i (j + 1) (k + 1)
       more_proc x first d p e =
           let at_end_lem : 0 + length (steps_among s.stored.items) ≡ first = omega (arith, s.stored.steps_counted, e) in
@@ -245,12 +246,12 @@ module _ {text : List ℕ} {h : ProgramHeading} {n : ℕ} {c₀ : Cursor} {w₀ 
           }
 
       -- the same, with what the loop goes on with told otherwise
-      pub step_on : (x : Word) (v code : ℕ) (d : Cursor) → StepShown text h c (step_line.Step x v d) → code ≡ code_of x
+      pub step_on : (x : Word) (v code : ℕ) (d : Cursor) → StepShown text h c (Ok (step_line.Step x v d)) → code ≡ code_of x
           → (w' : List ℕ) (d' : Cursor) (i' j' : ℕ) → w' ≡ set (set (set w (words_at + i) code) (values_at + i) v) (lines_at + i) d.line
           → d' ≡ d → i' ≡ i + 1 → j' ≡ j → StepsSoFar text h n c₀ w₀ w' d' i' j' (k + 1)
       step_on x v code d p e w' d' i' j' ew ed ei ej = rw (ew, ed, ei, ej) (more_step x v code d p e)
 
-      pub proc_on : (x first : ℕ) (d : Cursor) → StepShown text h c (step_line.Proc x d) → first ≡ i
+      pub proc_on : (x first : ℕ) (d : Cursor) → StepShown text h c (Ok (step_line.Proc x d)) → first ≡ i
           → (w' : List ℕ) (d' : Cursor) (i' j' : ℕ) → w' ≡ set (set (set w (proc_lines_at + j) d.line) (proc_vars_at + j) x) (proc_firsts_at + j) first
           → d' ≡ d → i' ≡ i → j' ≡ j + 1 → StepsSoFar text h n c₀ w₀ w' d' i' j' (k + 1)
       proc_on x first d p e w' d' i' j' ew ed ei ej = rw (ew, ed, ei, ej) (more_proc x first d p e)

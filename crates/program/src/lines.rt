@@ -1,56 +1,52 @@
 // The lines behind line 1 of a program sheet: steps and `proc` lines, stored in the work space in line order.
+ghost use Rattle.std.specs.Prelude.{◌≤◌};
 ghost use Rattle.lexer.specs.Cursors.{Placed};
-ghost use Rattle.program_tree.specs.Structure.{RoomFor};
+ghost use Rattle.workspace.specs.Layout.{step_room};
 ghost use Rattle.program.specs.Lines.{StepsShown};
 
 use lexer::Cursor;
 use program_lines::{StepLine, step_line};
+use program_tree::Stored;
 use spec::{ProgramHeading, Refusal};
-use workspace::{LINES, PROC_FIRSTS, PROC_LINES, PROC_VARS, VALUES, WORDS};
+use workspace::{LINES, PROC_FIRSTS, PROC_LINES, PROC_VARS, SIZE, VALUES, WORDS};
 
-// The numbers of steps and of `proc` lines, and the cursor behind the lines; or the refusal of one of them.
-#[derive(Drop)]
-pub(crate) enum StepLines {
-    Read(usize, usize, Cursor),
-    Refused(Refusal),
-}
-
-// The n lines from the cursor on, steps and `proc` lines each stored in line order.
+// The n lines from the cursor on, steps and `proc` lines each stored in line order; and the cursor behind them.
 pub(crate) fn step_lines(
     text: &[u8],
-    work: &mut [u32],
+    work: &mut [u32; SIZE],
     heading: ProgramHeading,
     n: usize,
     start: Cursor,
-) -> StepLines
-    requires { RoomFor n work.old × Placed text.now start }
+) -> Result<(Stored, Cursor), Refusal>
+    requires { (n ≤ step_room) × Placed text.now start }
     ensures { StepsShown text.now heading n start work.old work.new result }
 {
     let mut cursor = start;
-    let mut steps: usize = 0;
-    let mut procs: usize = 0;
-    let mut k: usize = 0;
-    while k < n {
-        match step_line(text, heading, cursor) {
-            StepLine::Step(word, v, behind) => {
+    let mut steps = 0;
+    let mut procs = 0;
+    for _ in 0..n {
+        let line = step_line(text, heading, cursor)?;
+        match line {
+            StepLine::Step(word, v, next) => {
                 work[WORDS + steps] = workspace::code_of(word);
                 work[VALUES + steps] = v;
-                work[LINES + steps] = behind.line;
+                work[LINES + steps] = next.line;
                 steps += 1;
-                cursor = behind;
+                cursor = next;
             }
-            StepLine::Proc(x, behind) => {
-                work[PROC_LINES + procs] = behind.line;
+            StepLine::Proc(x, next) => {
+                work[PROC_LINES + procs] = next.line;
                 work[PROC_VARS + procs] = x;
                 work[PROC_FIRSTS + procs] = steps as u32;
                 procs += 1;
-                cursor = behind;
-            }
-            StepLine::Refused(refusal) => {
-                return StepLines::Refused(refusal);
+                cursor = next;
             }
         }
-        k += 1;
     }
-    StepLines::Read(steps, procs, cursor)
+    let stored = Stored {
+        steps,
+        procs,
+        last: cursor.line,
+    };
+    Ok((stored, cursor))
 }

@@ -1,5 +1,5 @@
 -- Line 1 of a program sheet.
-use Rattle.std.proofs.Common.{Some}
+use Rattle.std.proofs.Common.{Some, None, Ok, Err}
 use mathlib.Core.Path.{◌≡◌, refl, sym, ap, ◌∙◌}
 use mathlib.Core.Bool.{true, false, ◌&&◌, and-true}
 use mathlib.Core.List.{List, [], ◌∷◌}
@@ -21,9 +21,6 @@ use Rattle.lexer.specs.declared.Span.{Span}
 use Rattle.lexer.proofs.Sheets.{begin_at_none, begin_at_some, next_at, passed_at}
 use Rattle.lexer.proofs.Walks.{start_placed, start_rest, left_none, left_some, first_wrong}
 use Rattle.program_lines.specs.Lines.{TailShown, PairShown, count_at, HeadedAt, CountShown}
-use Rattle.program_lines.specs.declared.tails.Tail.TheVariants.{Value, Malformed}
-use Rattle.program_lines.specs.declared.tails.Pair.TheVariants as pair
-use Rattle.program_lines.specs.declared.counts.CountLine.TheVariants as count
 use Rattle.program_lines.proofs.TailLaws.{tail_line, many_malformed, many_shows, tail_malformed, tail_shows}
 
 module _ (text : List ℕ) (c : Cursor) (top : c ≡ start) where
@@ -37,7 +34,7 @@ module _ (text : List ℕ) (c : Cursor) (top : c ≡ start) where
   at_text : rest text c ≡ text
   at_text = ap (rest text) top ∙ start_rest text
 
-  pub count_empty : text_ended (rest text c) ≡ true → CountShown text (count.Refused (ProgramForm 1))
+  pub count_empty : text_ended (rest text c) ≡ true → CountShown text (Err (ProgramForm 1))
   unfolding count_at ◌>>=◌ form
   count_empty e = rw (begin_at_none program_sheet text (sym at_text ∙ left_none (rest text c) e)) refl
 
@@ -49,7 +46,7 @@ module _ (text : List ℕ) (c : Cursor) (top : c ≡ start) where
 
   -- no heading
   pub count_other : text_ended (rest text c) ≡ false → same (bytes "P") (first_field (rest text c)) ≡ false → same (bytes "P2") (first_field (rest text c)) ≡ false
-      → CountShown text (count.Refused (ProgramForm 1))
+      → CountShown text (Err (ProgramForm 1))
   unfolding form count_line or_bad_form look_up program_headings
   count_other e u v =
       counts e
@@ -71,14 +68,14 @@ module _ (text : List ℕ) (c : Cursor) (s : Span) (f : HeadedAt text c s P) whe
   unfolding count_line or_bad_form count_ranges
   plain_shows fs = rw f.spelled refl
 
-  pub plain_malformed : TailShown text s.next s.end Malformed → CountShown text (count.Refused (ProgramForm 1))
+  pub plain_malformed : TailShown text s.next s.end None → CountShown text (Err (ProgramForm 1))
   unfolding seen
   plain_malformed t =
       counts text c f.top f.here.left
       ∙ tail_malformed count_line (seen (counts_of P)) refl (1 to 256) text c s f.here.field f.here.placed (left_some (rest text c) f.here.left) plain_shows t
       ∙ rw (at_top text c f.top) refl
 
-  module _ (n : ℕ) (d : Cursor) (t : TailShown text s.next s.end (Value n d)) where
+  module _ (n : ℕ) (d : Cursor) (t : TailShown text s.next s.end (Some (n, d))) where
     plain_reads : count_at text
         ≡ passed program_sheet (c.line + 1) (lines (rest text d)) (seen (counts_of P) (when in_range (1 to 256) n then good (n ∷ []) else bad bad_range))
     unfolding seen
@@ -86,15 +83,15 @@ module _ (text : List ℕ) (c : Cursor) (s : Span) (f : HeadedAt text c s P) whe
         counts text c f.top f.here.left
         ∙ tail_shows count_line (seen (counts_of P)) refl (1 to 256) text c s f.here.field f.here.placed (left_some (rest text c) f.here.left) plain_shows (omega arith) n d t
 
-    pub plain_none : n < 1 → CountShown text (count.Refused (ProgramRange 1))
+    pub plain_none : n < 1 → CountShown text (Err (ProgramRange 1))
     unfolding faulty passed seen outside in_range
     plain_none l = plain_reads ∙ rw (lt-leb 1 n l, at_top text c f.top) refl
 
-    pub plain_many : 1 ≤ n → 256 < n → CountShown text (count.Refused (ProgramRange 1))
+    pub plain_many : 1 ≤ n → 256 < n → CountShown text (Err (ProgramRange 1))
     unfolding faulty passed seen outside in_range
     plain_many l m = plain_reads ∙ rw (le-leb 1 n l, lt-leb n 256 m, at_top text c f.top) refl
 
-    pub plain_right : 1 ≤ n → n ≤ 256 → CountShown text (count.Count P n 0 d)
+    pub plain_right : 1 ≤ n → n ≤ 256 → CountShown text (Ok (record { heading = P; steps = n; procedures = 0; next = d }))
     unfolding seen counts_of procedures_of in_range
     plain_right l m =
         let line = tail_line text c s f.here.field d t.0 t.3 in
@@ -113,14 +110,14 @@ module _ (text : List ℕ) (c : Cursor) (s : Span) (f : HeadedAt text c s P2) wh
   unfolding numbers numerals or_bad_form
   two_ranges = refl
 
-  pub full_malformed : PairShown text s.next s.end pair.Malformed → CountShown text (count.Refused (ProgramForm 1))
+  pub full_malformed : PairShown text s.next s.end None → CountShown text (Err (ProgramForm 1))
   unfolding seen
   full_malformed t =
       counts text c f.top f.here.left
       ∙ many_malformed count_line (seen (counts_of P2)) refl full_ranges two_ranges text c s f.here.field f.here.placed (left_some (rest text c) f.here.left) full_shows t
       ∙ rw (at_top text c f.top) refl
 
-  module _ (n k : ℕ) (d : Cursor) (t : PairShown text s.next s.end (pair.Values n k d)) where
+  module _ (n k : ℕ) (d : Cursor) (t : PairShown text s.next s.end (Some (n, k, d))) where
     full_reads : count_at text
         ≡ passed program_sheet (c.line + 1) (lines (rest text d)) (seen (counts_of P2) (when in_range (1 to 256) n && in_range (0 to 16) k then good (n ∷ k ∷ []) else bad bad_range))
     unfolding seen all_in_range
@@ -129,11 +126,11 @@ module _ (text : List ℕ) (c : Cursor) (s : Span) (f : HeadedAt text c s P2) wh
         ∙ many_shows count_line (seen (counts_of P2)) refl full_ranges two_ranges text c s f.here.field f.here.placed (left_some (rest text c) f.here.left) full_shows (omega arith, (omega arith, tt)) (n ∷ k ∷ []) d t.0 t.1
         ∙ ap (λ b. passed program_sheet (c.line + 1) (lines (rest text d)) (seen (counts_of P2) (when in_range (1 to 256) n && b then good (n ∷ k ∷ []) else bad bad_range))) (and-true (in_range (0 to 16) k))
 
-    pub full_none : n < 1 → CountShown text (count.Refused (ProgramRange 1))
+    pub full_none : n < 1 → CountShown text (Err (ProgramRange 1))
     unfolding faulty passed seen outside in_range
     full_none l = full_reads ∙ rw (lt-leb 1 n l, at_top text c f.top) refl
 
-    pub full_many : 1 ≤ n → 256 < n → CountShown text (count.Refused (ProgramRange 1))
+    pub full_many : 1 ≤ n → 256 < n → CountShown text (Err (ProgramRange 1))
     unfolding faulty passed seen outside in_range
     full_many l m = full_reads ∙ rw (le-leb 1 n l, lt-leb n 256 m, at_top text c f.top) refl
 
@@ -141,11 +138,11 @@ module _ (text : List ℕ) (c : Cursor) (s : Span) (f : HeadedAt text c s P2) wh
     unfolding in_range
     one_to l m = rw (le-leb 1 n l, le-leb n 256 m) refl
 
-    pub full_over : 1 ≤ n → n ≤ 256 → 16 < k → CountShown text (count.Refused (ProgramRange 1))
+    pub full_over : 1 ≤ n → n ≤ 256 → 16 < k → CountShown text (Err (ProgramRange 1))
     unfolding faulty passed seen outside
     full_over l m o = full_reads ∙ rw (one_to l m, up_to_out 16 k o, at_top text c f.top) refl
 
-    pub full_right : 1 ≤ n → n ≤ 256 → k ≤ 16 → CountShown text (count.Count P2 n k d)
+    pub full_right : 1 ≤ n → n ≤ 256 → k ≤ 16 → CountShown text (Ok (record { heading = P2; steps = n; procedures = k; next = d }))
     unfolding seen counts_of procedures_of
     full_right l m o =
         let line = tail_line text c s f.here.field d t.0 t.3 in

@@ -1,5 +1,5 @@
 -- The lines behind line 1 of a program sheet at the cursor.
-use Rattle.std.proofs.Common.{None, Some, Ok, Err}
+use Rattle.std.proofs.Common.{Option, None, Some, Ok, Err}
 use mathlib.Core.Path.{◌≡◌, refl, sym, ap, ◌∙◌}
 use mathlib.Core.Bool.{Bool, true, false}
 use mathlib.Core.List.{List, [], ◌∷◌}
@@ -29,11 +29,7 @@ use Rattle.lexer.proofs.Places.{span_field}
 use Rattle.lexer.proofs.Sheets.{next_at_none, passed_at}
 use Rattle.lexer.proofs.Walks.{left_none, left_some, first_wrong}
 use Rattle.lexer.proofs.Stored.{Narrow}
-use Rattle.keywords.specs.Words.{found_of}
-use Rattle.keywords.specs.declared.FoundWord.TheVariants.{Known, Unknown}
-use Rattle.keywords.proofs.Words.{found_known, found_unknown}
 use Rattle.program_lines.specs.Lines.{TailShown, FreelockAt, ProcAt, StepAt, item_at, StepShown, WordAt}
-use Rattle.program_lines.specs.declared.tails.Tail.TheVariants.{Value, Malformed}
 use Rattle.program_lines.specs.declared.items.StepLine.TheVariants as step_line
 use Rattle.program_lines.proofs.TailLaws.{tail_line, tail_malformed, tail_shows}
 
@@ -43,11 +39,8 @@ module _ (ws : List (List ℕ × Word)) (text : List ℕ) (c : Cursor) (s : Span
   at_span : look_up ws (first_field (rest text c)) ≡ look_up ws (take (s.to - s.from) (drop s.from text))
   at_span = ap (look_up ws) (sym (span_field text c s is))
 
-  pub span_known : (w : Word) → found_of (look_up ws (take (s.to - s.from) (drop s.from text))) ≡ Known w → look_up ws (first_field (rest text c)) ≡ Some w
-  span_known w e = at_span ∙ found_known _ w e
-
-  pub span_unknown : found_of (look_up ws (take (s.to - s.from) (drop s.from text))) ≡ Unknown → look_up ws (first_field (rest text c)) ≡ None
-  span_unknown e = at_span ∙ found_unknown _ e
+  pub span_spells : (o : Option Word) → o ≡ look_up ws (take (s.to - s.from) (drop s.from text)) → look_up ws (first_field (rest text c)) ≡ o
+  span_spells o e = at_span ∙ sym e
 
 -- ------------------------------------------------------------------ lines with the word freelock
 
@@ -59,12 +52,12 @@ module _ (text : List ℕ) (h : ProgramHeading) (c : Cursor) (s : Span) (f : Fre
   unfolding item_line
   freelock_shows fs = rw f.freelock refl
 
-  pub freelock_malformed : TailShown text s.next s.end Malformed → item_at text h c ≡ Err (ProgramForm (c.line + 1))
+  pub freelock_malformed : TailShown text s.next s.end None → item_at text h c ≡ Err (ProgramForm (c.line + 1))
   unfolding item_at read_line place_at refuse_after
   freelock_malformed t =
       tail_malformed (item_line h (c.line + 1)) (refuse_after freelock) refl (0 to 0) text c s f.here.field f.here.placed some_line freelock_shows t
 
-  module _ (v : ℕ) (d : Cursor) (t : TailShown text s.next s.end (Value v d)) where
+  module _ (v : ℕ) (d : Cursor) (t : TailShown text s.next s.end (Some (v, d))) where
     freelock_reads : item_at text h c
         ≡ passed program_sheet (c.line + 1) (lines (rest text d)) (refuse_after freelock (when in_range (0 to 0) v then good (v ∷ []) else bad bad_range))
     unfolding item_at read_line place_at refuse_after
@@ -113,12 +106,12 @@ over_limit w v l h = rw (le-leb (least_value w) v l, lt-leb v (largest_value w) 
 
 module _ (text : List ℕ) (h : ProgramHeading) (c : Cursor) where
   -- no line is left
-  pub step_missing : text_ended (rest text c) ≡ true → StepShown text h c (step_line.Refused (ProgramLines c.line))
+  pub step_missing : text_ended (rest text c) ≡ true → StepShown text h c (Err (ProgramLines c.line))
   unfolding item_at miscounted
   step_missing e = next_at_none program_sheet text (item_line h (c.line + 1)) c (left_none (rest text c) e)
 
   -- no word of a step
-  pub step_unknown : {s : Span} → StepAt text c s → look_up (words_under h) (first_field (rest text c)) ≡ None → StepShown text h c (step_line.Refused (ProgramForm (c.line + 1)))
+  pub step_unknown : {s : Span} → StepAt text c s → look_up (words_under h) (first_field (rest text c)) ≡ None → StepShown text h c (Err (ProgramForm (c.line + 1)))
   unfolding item_at read_line place_at form item_line or_bad_form
   step_unknown f u = first_wrong program_sheet (item_line h (c.line + 1)) c.line (rest text c) (left_some (rest text c) f.here.left) (λ fs. rw (f.other, f.plain, u) refl)
 
@@ -127,7 +120,7 @@ module _ (text : List ℕ) (h : ProgramHeading) (c : Cursor) (s : Span) (w : Wor
   unfolding item_line or_bad_form word_line
   step_shows fs = rw (f.step.other, f.step.plain, f.spelled) refl
 
-  pub step_malformed : TailShown text s.next s.end Malformed → StepShown text h c (step_line.Refused (ProgramForm (c.line + 1)))
+  pub step_malformed : TailShown text s.next s.end None → StepShown text h c (Err (ProgramForm (c.line + 1)))
   unfolding item_at read_line place_at seen
   step_malformed t =
       tail_malformed (item_line h (c.line + 1)) (seen (step_of (c.line + 1) w)) refl (value_range w) text c s f.step.here.field f.step.here.placed
@@ -135,7 +128,7 @@ module _ (text : List ℕ) (h : ProgramHeading) (c : Cursor) (s : Span) (w : Wor
       step_shows
       t
 
-  module _ (v : ℕ) (d : Cursor) (t : TailShown text s.next s.end (Value v d)) where
+  module _ (v : ℕ) (d : Cursor) (t : TailShown text s.next s.end (Some (v, d))) where
     step_reads : item_at text h c
         ≡ passed program_sheet (c.line + 1) (lines (rest text d)) (seen (step_of (c.line + 1) w) (when in_range (value_range w) v then good (v ∷ []) else bad bad_range))
     unfolding item_at read_line place_at seen
@@ -148,15 +141,15 @@ module _ (text : List ℕ) (h : ProgramHeading) (c : Cursor) (s : Span) (w : Wor
         d
         t
 
-    pub step_under : v < least_value w → StepShown text h c (step_line.Refused (ProgramRange (c.line + 1)))
+    pub step_under : v < least_value w → StepShown text h c (Err (ProgramRange (c.line + 1)))
     unfolding faulty passed seen outside
     step_under l = step_reads ∙ rw (under_least w v l) refl
 
-    pub step_over : least_value w ≤ v → largest_value w < v → StepShown text h c (step_line.Refused (ProgramRange (c.line + 1)))
+    pub step_over : least_value w ≤ v → largest_value w < v → StepShown text h c (Err (ProgramRange (c.line + 1)))
     unfolding faulty passed seen outside
     step_over l m = step_reads ∙ rw (over_limit w v l m) refl
 
-    pub step_right : least_value w ≤ v → v ≤ largest_value w → StepShown text h c (step_line.Step w v d)
+    pub step_right : least_value w ≤ v → v ≤ largest_value w → StepShown text h c (Ok (step_line.Step w v d))
     unfolding seen step_of
     step_right l m =
         let line = tail_line text c s f.step.here.field d t.0 t.3 in
@@ -168,7 +161,7 @@ module _ (text : List ℕ) (h : ProgramHeading) (c : Cursor) (s : Span) (w : Wor
 
 module _ (text : List ℕ) (c : Cursor) (s : Span) (f : ProcAt text c s) where
   -- "In a `P` sheet both new words are 11"
-  pub proc_plain : (h : ProgramHeading) → h ≡ P → StepShown text h c (step_line.Refused (ProgramForm (c.line + 1)))
+  pub proc_plain : (h : ProgramHeading) → h ≡ P → StepShown text h c (Err (ProgramForm (c.line + 1)))
   unfolding item_at read_line place_at form item_line proc_line
   proc_plain h e =
       first_wrong program_sheet (item_line h (c.line + 1)) c.line (rest text c) (left_some (rest text c) f.here.left) (λ fs. rw (f.other, f.proc, e) refl)
@@ -178,7 +171,7 @@ module _ (text : List ℕ) (c : Cursor) (s : Span) (f : ProcAt text c s) where
     unfolding item_line proc_line
     proc_shows fs = rw (f.other, f.proc, e) refl
 
-    pub proc_malformed : TailShown text s.next s.end Malformed → StepShown text h c (step_line.Refused (ProgramForm (c.line + 1)))
+    pub proc_malformed : TailShown text s.next s.end None → StepShown text h c (Err (ProgramForm (c.line + 1)))
     unfolding item_at read_line place_at seen
     proc_malformed t =
         tail_malformed (item_line h (c.line + 1)) (seen (proc_of (c.line + 1))) refl (0 to 255) text c s f.here.field f.here.placed
@@ -186,7 +179,7 @@ module _ (text : List ℕ) (c : Cursor) (s : Span) (f : ProcAt text c s) where
         proc_shows
         t
 
-    module _ (x : ℕ) (d : Cursor) (t : TailShown text s.next s.end (Value x d)) where
+    module _ (x : ℕ) (d : Cursor) (t : TailShown text s.next s.end (Some (x, d))) where
       proc_reads : item_at text h c
           ≡ passed program_sheet (c.line + 1) (lines (rest text d)) (seen (proc_of (c.line + 1)) (when in_range (0 to 255) x then good (x ∷ []) else bad bad_range))
       unfolding item_at read_line place_at seen
@@ -199,11 +192,11 @@ module _ (text : List ℕ) (c : Cursor) (s : Span) (f : ProcAt text c s) where
           d
           t
 
-      pub proc_over : 255 < x → StepShown text h c (step_line.Refused (ProgramRange (c.line + 1)))
+      pub proc_over : 255 < x → StepShown text h c (Err (ProgramRange (c.line + 1)))
       unfolding faulty passed seen outside
       proc_over l = proc_reads ∙ rw (up_to_out 255 x l) refl
 
-      pub proc_right : x ≤ 255 → StepShown text h c (step_line.Proc x d)
+      pub proc_right : x ≤ 255 → StepShown text h c (Ok (step_line.Proc x d))
       unfolding seen proc_of
       proc_right l =
           let line = tail_line text c s f.here.field d t.0 t.3 in

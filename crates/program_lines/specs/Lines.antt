@@ -1,5 +1,5 @@
--- The lines of a program sheet at the cursor, as the shapes that the code hands back.
-use Rattle.std.specs.Prelude.{◌≡◌, true, false, List, [], ◌∷◌, ℕ, ◌+◌, ◌≤◌, None, Some, Result, Ok, Err}
+-- The lines of a program sheet at the cursor, as what the code hands back.
+use Rattle.std.specs.Prelude.{◌≡◌, true, false, List, [], ◌∷◌, ℕ, ◌+◌, ◌≤◌, Option, None, Some, Result, Ok, Err}
 use Rattle.spec.specs.declared.Refusal.{Refusal}
 use Rattle.spec.specs.Text.{bytes, same, lines, look_up}
 use Rattle.spec.specs.Reading.{program_sheet, ◌>>=◌, Place, begin, read_line}
@@ -15,28 +15,23 @@ use Rattle.lexer.specs.declared.Cursor.{Cursor}
 use Rattle.lexer.specs.declared.Span.{Span}
 use Rattle.lexer.specs.declared.FieldEnd.{FieldEnd}
 use Rattle.lexer.specs.declared.FieldEnd.TheVariants.{Comma}
-use Rattle.program_lines.specs.declared.tails.Tail.{Tail}
-use Rattle.program_lines.specs.declared.tails.Tail.TheVariants.{Value, Malformed}
-use Rattle.program_lines.specs.declared.tails.Pair.{Pair}
-use Rattle.program_lines.specs.declared.tails.Pair.TheVariants as pair
 use Rattle.program_lines.specs.declared.counts.CountLine.{CountLine}
-use Rattle.program_lines.specs.declared.counts.CountLine.TheVariants as count
 use Rattle.program_lines.specs.declared.items.StepLine.{StepLine}
 use Rattle.program_lines.specs.declared.items.StepLine.TheVariants as step_line
 
 -- ------------------------------------------------------------------ the number behind a first field
 
 -- the cursor c stands behind the field and what ends it
-abbrev pub TailShown : List ℕ → Cursor → FieldEnd → Tail → Type 0
-TailShown text c e (Value v d) =
+abbrev pub TailShown : List ℕ → Cursor → FieldEnd → Option (ℕ × Cursor) → Type 0
+TailShown text c e (Some (v, d)) =
     (e ≡ Comma) × (numbers_at text c 1 ≡ Some (v ∷ [], rest text d)) × Placed text d × (d.line ≡ c.line + 1)
-TailShown text c e Malformed = e ≡ Comma → numbers_at text c 1 ≡ None
+TailShown text c e None = e ≡ Comma → numbers_at text c 1 ≡ None
 
 -- two numbers
-abbrev pub PairShown : List ℕ → Cursor → FieldEnd → Pair → Type 0
-PairShown text c e (pair.Values a b d) =
+abbrev pub PairShown : List ℕ → Cursor → FieldEnd → Option (ℕ × ℕ × Cursor) → Type 0
+PairShown text c e (Some (a, b, d)) =
     (e ≡ Comma) × (numbers_at text c 2 ≡ Some (a ∷ b ∷ [], rest text d)) × Placed text d × (d.line ≡ c.line + 1)
-PairShown text c e pair.Malformed = e ≡ Comma → numbers_at text c 2 ≡ None
+PairShown text c e None = e ≡ Comma → numbers_at text c 2 ≡ None
 
 -- a line is left at the cursor, and s is its first field
 pub record FieldAt (text : List ℕ) (c : Cursor) (s : Span) : Type 0 where
@@ -55,10 +50,13 @@ pub record HeadedAt (text : List ℕ) (c : Cursor) (s : Span) (h : ProgramHeadin
   pub here : FieldAt text c s
   pub spelled : look_up program_headings (first_field (rest text c)) ≡ Some h
 
-abbrev pub CountShown : List ℕ → CountLine → Type 0
-CountShown text (count.Count h n k d) =
-    (count_at text ≡ Ok (record { heading = h; steps = n; procedures = k }, place_at text d)) × (n ≤ 256) × (k ≤ 16) × Placed text d
-CountShown text (count.Refused x) = count_at text ≡ Err x
+abbrev pub CountShown : List ℕ → Result CountLine Refusal → Type 0
+CountShown text (Ok l) =
+    (count_at text ≡ Ok (record { heading = l.heading; steps = l.steps; procedures = l.procedures }, place_at text l.next))
+    × (l.steps ≤ 256)
+    × (l.procedures ≤ 16)
+    × Placed text l.next
+CountShown text (Err x) = count_at text ≡ Err x
 
 -- ------------------------------------------------------------------ the lines behind it
 
@@ -87,15 +85,15 @@ pub record WordAt (text : List ℕ) (h : ProgramHeading) (c : Cursor) (s : Span)
   pub step : StepAt text c s
   pub spelled : look_up (words_under h) (first_field (rest text c)) ≡ Some w
 
-abbrev pub StepShown : List ℕ → ProgramHeading → Cursor → StepLine → Type 0
-StepShown text h c (step_line.Step w v d) =
+abbrev pub StepShown : List ℕ → ProgramHeading → Cursor → Result StepLine Refusal → Type 0
+StepShown text h c (Ok (step_line.Step w v d)) =
     (item_at text h c ≡ Ok (step (record { word = w; value = v; line = d.line }), place_at text d))
     × (v ≤ largest_value w)
     × Placed text d
     × (d.line ≡ c.line + 1)
-StepShown text h c (step_line.Proc x d) =
+StepShown text h c (Ok (step_line.Proc x d)) =
     (item_at text h c ≡ Ok (proc x d.line, place_at text d))
     × (x ≤ 255)
     × Placed text d
     × (d.line ≡ c.line + 1)
-StepShown text h c (step_line.Refused x) = item_at text h c ≡ Err x
+StepShown text h c (Err x) = item_at text h c ≡ Err x

@@ -1,13 +1,12 @@
 -- Judging bodies and root in line order, with a table, comes to the scopes of the procedures and the root. A procedure is a let whose
 -- scope begins at once: its variable is bound at its line and in scope in its body alone.
-use Rattle.std.proofs.Common.{Result, Ok, Err}
+use Rattle.std.proofs.Common.{Option, None, Some, is_some, Result, Ok, Err}
+use Rattle.std.proofs.lemmas.List.{get_or-replicate}
 use mathlib.Core.Path.{◌≡◌, refl, sym, ap, ◌∙◌}
 use mathlib.Core.List.{List, [], ◌∷◌, ◌++◌, append-nil, map, map-append}
-use mathlib.Core.Logic.{inl}
 use mathlib.Core.Bool.{Bool, true, false}
 use Prim.Native.Nat.{ℕ, suc, ◌+◌, ◌-◌, ◌<◌, ◌≤◌}
 use native.Mathlib.Omega.{arith}
-use lib.Dec.{ltb}
 use lib.ListN.{length, get_or, set, length-map}
 use Rattle.spec.specs.declared.Refusal.{Refusal}
 use Rattle.spec.specs.Choice.{when◌then◌else◌}
@@ -23,11 +22,11 @@ use Rattle.workspace.specs.Holds.{ends, lets, all_ends, all_lets, first_steps}
 use Rattle.workspace.proofs.Held.{ends_length, body_steps, root_steps}
 use Rattle.workspace.proofs.Expression.{codes, values, lines_of, Standing}
 use Rattle.program_tree.specs.Items.{Limited}
-use Rattle.program_scopes.specs.Judging.{no_mark, scope_from, scope_till}
-use Rattle.program_scopes.specs.Scopes.{unbound, scopes_from, first_at, with_front, followed, body_scopes, scopes_behind}
+use Rattle.program_scopes.specs.Judging.{scope_from, scope_till}
+use Rattle.program_scopes.specs.Scopes.{Table, unbound, scopes_from, first_at, with_front, followed, body_scopes, scopes_behind}
 use Rattle.program_tree.proofs.Limits.{limited_parts}
 use Rattle.program_scopes.proofs.JudgingLaws.{from_proc, till_proc}
-use Rattle.program_scopes.proofs.ScopeLaws.{after_on, replicate_any}
+use Rattle.program_scopes.proofs.ScopeLaws.{after_on}
 use Rattle.program_scopes.proofs.Tables.{names, Agrees, extends_same, extends_then, agrees_narrow, agrees_onward, Binds, let_extends, let_first, let_second}
 use Rattle.program_scopes.proofs.Walk.{Gone, Walked, walk}
 
@@ -55,17 +54,17 @@ unfoldable pub all_size : List Procedure → (root : Expr) → ℕ
 all_size [] root = size root
 all_size (p ∷ ps) root = size p.body + all_size ps root
 
-abbrev pub AllWalked : (w : List ℕ) (n count m f k : ℕ) (ps : List Procedure) (root : Expr) (t : List ℕ) → Result (List ℕ) Refusal → Type 0
+abbrev pub AllWalked : (w : List ℕ) (n count m f k : ℕ) (ps : List Procedure) (root : Expr) (t : Table) → Result (List ℕ) Refusal → Type 0
 AllWalked w n count m f k ps root t (Err r) = scopes_behind w n count m f t ≡ Err r
 AllWalked w n count m f k ps root t (Ok b) = scopes_behind w n count m f t ≡ Ok (all_lets f k ps root)
 
 -- ------------------------------------------------------------------ steps that are passed
 
-passed : (count : ℕ) (w : List ℕ) (k s : ℕ) (ls t b : List ℕ) (x : Gone count w 0 k s ls t b) → scopes_from w count (s + 0) k t ≡ Ok (ls, x.table)
+passed : (count : ℕ) (w : List ℕ) (k s : ℕ) (ls : List ℕ) (t : Table) (b : List ℕ) (x : Gone count w 0 k s ls t b) → scopes_from w count (s + 0) k t ≡ Ok (ls, x.table)
 unfolding scopes_from
 passed count w k s ls t b x = x.goes ∙ after_on ls [] x.table ∙ ap (λ l. Ok (l, x.table)) (append-nil ls)
 
-root_walked : (count n f k : ℕ) (w : List ℕ) (root : Expr) (t : List ℕ) (o : Result (List ℕ) Refusal) → first_at w f ≡ k → k + size root ≡ n
+root_walked : (count n f k : ℕ) (w : List ℕ) (root : Expr) (t : Table) (o : Result (List ℕ) Refusal) → first_at w f ≡ k → k + size root ≡ n
     → Walked count w 0 k (size root) (lets k [] root) t o → AllWalked w n count 0 f k [] root t o
 unfolding scopes_behind followed with_front all_lets
 root_walked count n f k w root t (Err r) p e x =
@@ -76,10 +75,10 @@ root_walked count n f k w root t (Ok b) p e x =
 
 -- ------------------------------------------------------------------ a body, and what is behind it
 
-module _ (w : List ℕ) (n count m f k : ℕ) (p : Procedure) (ps : List Procedure) (root : Expr) (t : List ℕ)
-    (q : body_scopes w count f t ≡ scopes_from w count (size p.body + 0) k (set t p.parameter (proc_mark + f))) where
-  abbrev t₁ : List ℕ
-  t₁ = set t p.parameter (proc_mark + f)
+module _ (w : List ℕ) (n count m f k : ℕ) (p : Procedure) (ps : List Procedure) (root : Expr) (t : Table)
+    (q : body_scopes w count f t ≡ scopes_from w count (size p.body + 0) k (set t p.parameter (Some (proc_mark + f)))) where
+  abbrev t₁ : Table
+  t₁ = set t p.parameter (Some (proc_mark + f))
 
   abbrev ls : List ℕ
   ls = lets k ((p.parameter, proc_mark + f) ∷ []) p.body
@@ -97,14 +96,14 @@ module _ (w : List ℕ) (n count m f k : ℕ) (p : Procedure) (ps : List Procedu
   body_then (Err r) more x y = rw (q, x) refl
   body_then (Ok b) more x y = behind b x (more b) (y b x)
 
-module _ (w : List ℕ) (n count m f k : ℕ) (p : Procedure) (ps : List Procedure) (root : Expr) (t bound : List ℕ)
+module _ (w : List ℕ) (n count m f k : ℕ) (p : Procedure) (ps : List Procedure) (root : Expr) (t : Table) (bound : List ℕ)
     (h₁ : first_at w f ≡ k) (h₂ : first_at w (f + 1) ≡ k + size p.body) (hl : get_or w (proc_lines_at + f) 0 ≡ p.line)
-    (hv : get_or w (proc_vars_at + f) 0 ≡ p.parameter) (bind : among p.parameter bound ≡ ltb (get_or t p.parameter no_mark) no_mark) where
+    (hv : get_or w (proc_vars_at + f) 0 ≡ p.parameter) (bind : among p.parameter bound ≡ is_some (get_or t p.parameter None)) where
   rebound : among p.parameter bound ≡ true → body_scopes w count f t ≡ Err (Rebound p.line)
   unfolding body_scopes
   rebound e = rw (hv, sym bind ∙ e, hl) refl
 
-  fresh : among p.parameter bound ≡ false → body_scopes w count f t ≡ scopes_from w count (size p.body + 0) k (set t p.parameter (proc_mark + f))
+  fresh : among p.parameter bound ≡ false → body_scopes w count f t ≡ scopes_from w count (size p.body + 0) k (set t p.parameter (Some (proc_mark + f)))
   unfolding body_scopes
   fresh e =
       let d : k + size p.body - k ≡ size p.body + 0 = omega arith in
@@ -112,9 +111,9 @@ module _ (w : List ℕ) (n count m f k : ℕ) (p : Procedure) (ps : List Procedu
 
   body_walked : (o : List ℕ → Result (List ℕ) Refusal) (more : List ℕ → Result (List ℕ) Refusal)
       → (among p.parameter bound ≡ false
-      → Walked count w 0 k (size p.body) (lets k ((p.parameter, proc_mark + f) ∷ []) p.body) (set t p.parameter (proc_mark + f)) (o (p.parameter ∷ bound)))
+      → Walked count w 0 k (size p.body) (lets k ((p.parameter, proc_mark + f) ∷ []) p.body) (set t p.parameter (Some (proc_mark + f))) (o (p.parameter ∷ bound)))
       → (among p.parameter bound ≡ false → (b : List ℕ)
-      → (x : Gone count w 0 k (size p.body) (lets k ((p.parameter, proc_mark + f) ∷ []) p.body) (set t p.parameter (proc_mark + f)) b)
+      → (x : Gone count w 0 k (size p.body) (lets k ((p.parameter, proc_mark + f) ∷ []) p.body) (set t p.parameter (Some (proc_mark + f))) b)
       → AllWalked w n count m (f + 1) (k + size p.body) ps root x.table (more b))
       → (y : Bool) → among p.parameter bound ≡ y
       → AllWalked w n count (suc m) f k (p ∷ ps) root t
@@ -125,26 +124,22 @@ module _ (w : List ℕ) (n count m f k : ℕ) (p : Procedure) (ps : List Procedu
 
 -- ------------------------------------------------------------------ all of them
 
-pub walk_all : (w : List ℕ) (n count : ℕ) → n ≤ 256 → count ≤ 16 → (ps : List Procedure) (root : Expr) (f k : ℕ) (t bound : List ℕ)
+pub walk_all : (w : List ℕ) (n count : ℕ) → n ≤ 256 → (ps : List Procedure) (root : Expr) (f k : ℕ) (t : Table) (bound : List ℕ)
     → Standings w f k ps root → k + all_size ps root ≡ n → f + length ps ≡ count → Agrees w k n t [] bound
     → AllWalked w n count (length ps) f k ps root t (scopes count ps root bound)
 unfolding scopes scope_step Standings all_size names
-walk_all w n count few hc [] root f k t bound s e c a =
+walk_all w n count few [] root f k t bound s e c a =
     root_walked count n f k w root t (scope count root [] bound) s.0 e
     (walk count w root k 0 n t [] bound s.1 s.2 (omega arith) few a)
-walk_all w n count few hc (p ∷ ps) root f k t bound s e c a =
+walk_all w n count few (p ∷ ps) root f k t bound s e c a =
     let end = k + size p.body in
     let mark = proc_mark + f in
     let next : first_at w (f + 1) ≡ end = first_stands w (f + 1) end ps root s.6 in
-    let low : f + 1 ≤ count = omega arith in
-    let at₁ : f ≡ mark - 256 = omega arith in
-    let at₂ : f + 1 ≡ mark - 255 = omega arith in
-    let begins : scope_from w mark ≡ k = sym (from_proc w mark mark k refl (omega arith) (sym (ap (λ i. first_at w i) (sym at₁) ∙ s.0))) in
-    let stops : scope_till w mark ≡ end = sym (till_proc w mark mark end refl (omega arith) (sym (ap (λ i. first_at w i) (sym at₂) ∙ next))) in
+    let begins : scope_from w mark ≡ k = from_proc w f ∙ s.0 in
+    let stops : scope_till w mark ≡ end = till_proc w f ∙ next in
     let v = p.parameter in
     let B : Binds w mark k k end v t [] bound = record {
       variable = s.3;
-      mark = omega arith;
       begins = begins;
       ends = stops;
       order = (omega arith, omega arith);
@@ -154,12 +149,12 @@ walk_all w n count few hc (p ∷ ps) root f k t bound s e c a =
     (λ b. scope count p.body (v ∷ []) b)
     (λ b. scopes count ps root b)
     (λ free.
-    walk count w p.body k 0 end (set t v mark) ((v, mark) ∷ []) (v ∷ bound) s.4 s.5 (omega arith) (omega arith)
-    (let_second B free (set t v mark) (v ∷ bound) (let_first B free).long (extends_same w k (set t v mark)) (let_first B free).bind))
+    walk count w p.body k 0 end (set t v (Some mark)) ((v, mark) ∷ []) (v ∷ bound) s.4 s.5 (omega arith) (omega arith)
+    (let_second B free (set t v (Some mark)) (v ∷ bound) (let_first B free).long (extends_same w k (set t v (Some mark))) (let_first B free).bind))
     (λ free b x.
-    walk_all w n count few hc ps root (f + 1) end x.table b s.6 (omega arith) (omega arith)
+    walk_all w n count few ps root (f + 1) end x.table b s.6 (omega arith) (omega arith)
     (agrees_onward w k n end t x.table [] bound b (omega arith) a x.long
-    (extends_then w end end t (set t v mark) x.table (omega arith) (let_extends B free) x.extends)
+    (extends_then w end end t (set t v (Some mark)) x.table (omega arith) (let_extends B free) x.extends)
     x.bind))
     (among v bound)
     refl
@@ -169,8 +164,8 @@ pub none_agrees : (w : List ℕ) (n : ℕ) → Agrees w 0 n unbound [] []
 unfolding unbound among names
 none_agrees w n = record {
   long = refl;
-  bind = λ v l. rw (replicate_any 256 v no_mark) refl;
-  at = λ v l. inl (rw (replicate_any 256 v no_mark) (omega arith));
+  bind = λ v l. rw (get_or-replicate {A = Option ℕ} 256 v None None l) refl;
+  at = λ v l. rw (get_or-replicate {A = Option ℕ} 256 v None None l) tt;
 }
 
 -- ------------------------------------------------------------------ from the columns

@@ -1,15 +1,17 @@
 -- Judging the steps of an expression in line order, with a table, comes to the scopes of the expression.
 -- One induction on the expression: the table that agrees with the scopes in front of it agrees behind it.
-use Rattle.std.proofs.Common.{Result, Ok, Err}
+use Rattle.std.proofs.Common.{Option, None, Some, IfSome, Result, Ok, Err}
+use Rattle.std.proofs.lemmas.Option.{IfSome_then}
+use Rattle.std.proofs.Math.Bool.{and-false}
 use mathlib.Core.Path.{◌≡◌, refl, sym, ap, subst, ◌∙◌}
 use mathlib.Core.Logic.{◌⊎◌, inl, inr, ⊎_elim}
 use mathlib.Core.List.{List, [], ◌∷◌, ◌++◌}
-use mathlib.Core.Bool.{Bool, true, false, false≢true}
+use mathlib.Core.Bool.{Bool, true, false}
 use Prim.Native.Nat.{ℕ, suc, ◌+◌, ◌<◌, ◌≤◌}
 use native.Mathlib.Omega.{arith}
 use lib.Dec.{leb, ltb}
 use lib.ListN.{length, get_or, set}
-use borrow.Author.Tests.{le-leb, lt-leb, lt-ltb, le-ltb, ltb-true, ltb-false}
+use borrow.Author.Tests.{le-leb, lt-leb, lt-ltb, le-ltb}
 use Rattle.spec.specs.declared.Refusal.{Refusal}
 use Rattle.spec.specs.Choice.{when◌then◌else◌}
 use Rattle.spec.specs.Reading.{◌>>=◌}
@@ -27,10 +29,9 @@ use Rattle.workspace.specs.Holds.{let_in, let_of, lets}
 use Rattle.workspace.proofs.Codes.{word_of_code}
 use Rattle.workspace.proofs.Expression.{Standing, Head, leaf_head, unary_head, binary_head, standing_end, standing_part, standing_first, standing_second}
 use Rattle.program_tree.specs.Items.{Limited}
-use Rattle.program_scopes.specs.Judging.{no_mark, scope_from, scope_till, judge_let, judge_var, judge_call, judge_by, judge_of}
-use Rattle.program_scopes.specs.Scopes.{Passing, storing, continued, scopes_from}
+use Rattle.program_scopes.specs.Judging.{scope_from, scope_till, judge_let, judge_var, judge_call, judge_by, judge_of}
+use Rattle.program_scopes.specs.Scopes.{Table, Passing, storing, continued, scopes_from}
 use Rattle.spec.specs.declared.Role.TheVariants.{Uses, Calls, Neither}
-use Rattle.program_scopes.specs.declared.binders.Judged.TheVariants.{Store, Refused}
 use Rattle.program_tree.proofs.Limits.{limited_first, limited_behind, limited_parts}
 use Rattle.program_scopes.proofs.JudgingLaws.{from_let, till_let}
 use Rattle.program_scopes.proofs.ScopeLaws.{after, after_append, after_stop}
@@ -45,44 +46,36 @@ module _ (count : ℕ) where
   -- ------------------------------------------------------------------ what walking over some steps comes to
 
   -- s steps from index k on, for which ls are stored, and the m steps behind them with the table that is left
-  pub record Gone (w : List ℕ) (m k s : ℕ) (ls t bound : List ℕ) : Type 0 where
-    pub table : List ℕ
+  pub record Gone (w : List ℕ) (m k s : ℕ) (ls : List ℕ) (t : Table) (bound : List ℕ) : Type 0 where
+    pub table : Table
     pub long : length table ≡ 256
     pub extends : Extends w (k + s) t table
     pub bind : Bound table bound
     pub goes : scopes_from w count (s + m) k t ≡ after ls (scopes_from w count m (k + s) table)
 
-  abbrev pub Walked : List ℕ → (m k s : ℕ) → (ls t : List ℕ) → Result (List ℕ) Refusal → Type 0
+  abbrev pub Walked : List ℕ → (m k s : ℕ) → (ls : List ℕ) → Table → Result (List ℕ) Refusal → Type 0
   Walked w m k s ls t (Err r) = scopes_from w count (s + m) k t ≡ Err r
   Walked w m k s ls t (Ok bound) = Gone w m k s ls t bound
 
   -- ------------------------------------------------------------------ one step
 
-  one_of : {A : Type 0} (r s : A) (x y z : Bool) → (x ≡ true) ⊎ ((y ≡ true) ⊎ (z ≡ true))
-      → (when x then r else when y then r else when z then r else s) ≡ r
-  one_of r s true y z o = refl
-  one_of r s false true z o = refl
-  one_of r s false false true o = refl
-  one_of r s false false false o =
-      absurd (⊎_elim (λ e. false≢true e) (λ p. ⊎_elim (λ e. false≢true e) (λ e. false≢true e) p) o)
-
-  var_refused : (w : List ℕ) (k b : ℕ) → (no_mark ≤ b) ⊎ ((k < scope_from w b) ⊎ (scope_till w b ≤ k)) → judge_var w k b ≡ Refused (Unbound (step_line_at w k))
+  var_refused : (w : List ℕ) (k : ℕ) (o : Option ℕ) → IfSome o (λ b. (k < scope_from w b) ⊎ (scope_till w b ≤ k)) → judge_var w k o ≡ Err (Unbound (step_line_at w k))
   unfolding judge_var
-  var_refused w k b o =
-      one_of (Refused (Unbound (step_line_at w k))) (Store b) (leb no_mark b) (ltb k (scope_from w b)) (leb (scope_till w b) k)
-      (⊎_elim
-      (λ h. inl (le-leb no_mark b h))
-      (λ p. inr (⊎_elim (λ h. inl (lt-ltb k (scope_from w b) h)) (λ h. inr (le-leb (scope_till w b) k h)) p))
-      o)
+  var_refused w k None r = refl
+  var_refused w k (Some b) r =
+      ⊎_elim
+      (λ h. rw (lt-leb (scope_from w b) k h) refl)
+      (λ h. rw (le-ltb k (scope_till w b) h, and-false (leb (scope_from w b) k)) refl)
+      r
 
-  module _ (w : List ℕ) (m k : ℕ) (t : List ℕ) {x : Word} {l : Position} {v : ℕ} (h : Head w k x l v) where
-    step : scopes_from w count (suc m) k t ≡ continued (λ u. scopes_from w count m (k + 1) u) k t v (judge_by w count k (get_or t v no_mark) (role x))
+  module _ (w : List ℕ) (m k : ℕ) (t : Table) {x : Word} {l : Position} {v : ℕ} (h : Head w k x l v) where
+    step : scopes_from w count (suc m) k t ≡ continued (λ u. scopes_from w count m (k + 1) u) k t v (judge_by w count k (get_or t v None) (role x))
     unfolding scopes_from judge_of word_at value_at
     step = rw (h.code, h.value, word_of_code x) refl
 
     step_other : role x ≡ Neither → scopes_from w count (suc m) k t ≡ storing 0 (scopes_from w count m (k + 1) t)
     unfolding continued judge_by
-    step_other e = step ∙ ap (λ r. continued (λ u. scopes_from w count m (k + 1) u) k t v (judge_by w count k (get_or t v no_mark) r)) e
+    step_other e = step ∙ ap (λ r. continued (λ u. scopes_from w count m (k + 1) u) k t v (judge_by w count k (get_or t v None) r)) e
 
     -- a step that neither binds nor uses a variable, alone
     walk_other : (bound : List ℕ) → role x ≡ Neither → length t ≡ 256 → Bound t bound → Gone w m k 1 (0 ∷ []) t bound
@@ -97,28 +90,27 @@ module _ (count : ℕ) where
 
     -- a use of a variable
     module _ (hi : ℕ) (ins : List (ℕ × ℕ)) (bound : List ℕ) (e : role x ≡ Uses) (hh : k + 1 ≤ hi) (a : Agrees w k hi t ins bound) where
-      step_use : scopes_from w count (suc m) k t ≡ continued (λ u. scopes_from w count m (k + 1) u) k t v (judge_var w k (get_or t v no_mark))
+      step_use : scopes_from w count (suc m) k t ≡ continued (λ u. scopes_from w count m (k + 1) u) k t v (judge_var w k (get_or t v None))
       unfolding judge_by
-      step_use = step ∙ ap (λ r. continued (λ u. scopes_from w count m (k + 1) u) k t v (judge_by w count k (get_or t v no_mark) r)) e
+      step_use = step ∙ ap (λ r. continued (λ u. scopes_from w count m (k + 1) u) k t v (judge_by w count k (get_or t v None) r)) e
 
-      inside : (i b : ℕ) → b ≡ get_or t v no_mark → Right w k hi true i b → scopes_from w count (suc m) k t ≡ storing i (scopes_from w count m (k + 1) t)
+      inside : (i : ℕ) → Right w k hi true i (get_or t v None) → scopes_from w count (suc m) k t ≡ storing i (scopes_from w count m (k + 1) t)
       unfolding judge_var continued
-      inside i b q r =
-          let low : b < no_mark = r.1 in
-          let from : scope_from w b ≤ k = r.2 in
-          let till : k < scope_till w b = omega (arith, r.3) in
-          step_use ∙ rw (← q, lt-leb no_mark b low, le-ltb k (scope_from w b) from, lt-leb (scope_till w b) k till, r.0) refl
+      inside i r =
+          let from : scope_from w i ≤ k = r.1 in
+          let till : k < scope_till w i = omega (arith, r.2) in
+          step_use ∙ rw (r.0, le-leb (scope_from w i) k from, lt-ltb k (scope_till w i) till) refl
 
-      outside : (i b : ℕ) → b ≡ get_or t v no_mark → Right w k hi false i b → scopes_from w count (suc m) k t ≡ Err (Unbound l.line)
+      outside : (i : ℕ) → Right w k hi false i (get_or t v None) → scopes_from w count (suc m) k t ≡ Err (Unbound l.line)
       unfolding continued step_line_at
-      outside i b q r =
-          let o : (no_mark ≤ b) ⊎ ((k < scope_from w b) ⊎ (scope_till w b ≤ k)) =
-          ⊎_elim (λ p. inl p) (λ p. inr (⊎_elim (λ f. inl (omega arith)) (λ f. inr f) p)) r in
+      outside i r =
+          let o : IfSome (get_or t v None) (λ b. (k < scope_from w b) ⊎ (scope_till w b ≤ k)) =
+          IfSome_then (get_or t v None) r (λ b p. ⊎_elim (λ f. inl (omega arith)) (λ f. inr f) p) in
           step_use
           ∙ ap (continued (λ u. scopes_from w count m (k + 1) u) k t v)
-          (ap (judge_var w k) (sym q) ∙ var_refused w k b o ∙ ap (λ i. Refused (Unbound i)) h.line)
+          (var_refused w k (get_or t v None) o ∙ ap (λ i. Err (Unbound i)) h.line)
 
-      walk_use : (y : Bool) → Right w k hi y (let_in ins v) (get_or t v no_mark)
+      walk_use : (y : Bool) → Right w k hi y (let_in ins v) (get_or t v None)
           → Walked w m k 1 (let_in ins v ∷ []) t (when y then Ok bound else Err (Unbound l.line))
       unfolding after
       walk_use true r = record {
@@ -126,14 +118,14 @@ module _ (count : ℕ) where
         long = a.long;
         extends = extends_same w (k + 1) t;
         bind = a.bind;
-        goes = let q : 1 + m ≡ suc m = omega arith in rw q (inside (let_in ins v) (get_or t v no_mark) refl r);
+        goes = let q : 1 + m ≡ suc m = omega arith in rw q (inside (let_in ins v) r);
       }
-      walk_use false r = let q : 1 + m ≡ suc m = omega arith in rw q (outside (let_in ins v) (get_or t v no_mark) refl r)
+      walk_use false r = let q : 1 + m ≡ suc m = omega arith in rw q (outside (let_in ins v) r)
 
   -- ------------------------------------------------------------------ a step and its parts
 
   -- a step for which 0 is stored, and then its one part
-  walk_one : (w : List ℕ) (m k s : ℕ) (ls t : List ℕ) (o : Result (List ℕ) Refusal) → scopes_from w count (suc s + m) k t ≡ storing 0 (scopes_from w count (s + m) (k + 1) t)
+  walk_one : (w : List ℕ) (m k s : ℕ) (ls : List ℕ) (t : Table) (o : Result (List ℕ) Refusal) → scopes_from w count (suc s + m) k t ≡ storing 0 (scopes_from w count (s + m) (k + 1) t)
       → Walked w m (k + 1) s ls t o → Walked w m k (suc s) (0 ∷ ls) t o
   unfolding storing after
   walk_one w m k s ls t (Err r) p x = p ∙ ap (storing 0) x
@@ -148,7 +140,7 @@ module _ (count : ℕ) where
       }
 
   -- a step for which 0 is stored and that leaves the table t₀, and then its two parts
-  module _ (w : List ℕ) (m k s₁ s₂ : ℕ) (ls₁ ls₂ t t₀ : List ℕ)
+  module _ (w : List ℕ) (m k s₁ s₂ : ℕ) (ls₁ ls₂ : List ℕ) (t t₀ : Table)
       (p : scopes_from w count (suc (s₁ + s₂) + m) k t ≡ storing 0 (scopes_from w count (s₁ + (s₂ + m)) (k + 1) t₀))
       (x₀ : Extends w (k + suc (s₁ + s₂)) t t₀) where
     behind : (b₁ : List ℕ) (x₁ : Gone w (s₂ + m) (k + 1) s₁ ls₁ t₀ b₁) (o : Result (List ℕ) Refusal) → Walked w m (k + 1 + s₁) s₂ ls₂ x₁.table o
@@ -177,41 +169,39 @@ module _ (count : ℕ) where
     walk_two (Ok b₁) more x₁ x₂ = behind b₁ x₁ (more b₁) (x₂ b₁ x₁)
 
   -- a let, and then its two parts
-  module _ (w : List ℕ) (m k s₁ s₂ : ℕ) (ls₁ ls₂ t : List ℕ) {l : Position} {v : ℕ} (h : Head w k (Binary Let) l v) (bound : List ℕ)
+  module _ (w : List ℕ) (m k s₁ s₂ : ℕ) (ls₁ ls₂ : List ℕ) (t : Table) {l : Position} {v : ℕ} (h : Head w k (Binary Let) l v) (bound : List ℕ)
       (end : end_at w k ≡ k + suc (s₁ + s₂)) (small : v < 256) (long : length t ≡ 256) (bind : Bound t bound) where
-    step_let : scopes_from w count (suc (s₁ + s₂) + m) k t ≡ continued (λ u. scopes_from w count (s₁ + (s₂ + m)) (k + 1) u) k t v (judge_let (step_line_at w k) (get_or t v no_mark))
+    step_let : scopes_from w count (suc (s₁ + s₂) + m) k t ≡ continued (λ u. scopes_from w count (s₁ + (s₂ + m)) (k + 1) u) k t v (judge_let (step_line_at w k) (get_or t v None))
     unfolding judge_by role
     step_let = let q : suc (s₁ + s₂) + m ≡ suc (s₁ + (s₂ + m)) = omega arith in rw q (step w (s₁ + (s₂ + m)) k t h)
 
-    walk_let : (x₀ : among v bound ≡ false → Extends w (k + suc (s₁ + s₂)) t (set t v k))
+    walk_let : (x₀ : among v bound ≡ false → Extends w (k + suc (s₁ + s₂)) t (set t v (Some k)))
         → (o₁ : List ℕ → Result (List ℕ) Refusal) (more : List ℕ → Result (List ℕ) Refusal)
-        → (among v bound ≡ false → Walked w (s₂ + m) (k + 1) s₁ ls₁ (set t v k) (o₁ (v ∷ bound)))
-        → (among v bound ≡ false → (b₁ : List ℕ) (x₁ : Gone w (s₂ + m) (k + 1) s₁ ls₁ (set t v k) b₁) → Walked w m (k + 1 + s₁) s₂ ls₂ x₁.table (more b₁))
+        → (among v bound ≡ false → Walked w (s₂ + m) (k + 1) s₁ ls₁ (set t v (Some k)) (o₁ (v ∷ bound)))
+        → (among v bound ≡ false → (b₁ : List ℕ) (x₁ : Gone w (s₂ + m) (k + 1) s₁ ls₁ (set t v (Some k)) b₁) → Walked w m (k + 1 + s₁) s₂ ls₂ x₁.table (more b₁))
         → (y : Bool) → among v bound ≡ y
         → Walked w m k (suc (s₁ + s₂)) (0 ∷ (ls₁ ++ ls₂)) t ((when y then Err (Rebound l.line) else Ok (v ∷ bound)) >>= λ b. o₁ b >>= more)
     unfolding continued judge_let step_line_at ◌>>=◌
     walk_let x₀ o₁ more x₁ x₂ true e =
-        let low : get_or t v no_mark < no_mark = ltb-true (get_or t v no_mark) no_mark (sym (bind v small) ∙ e) in
-        step_let ∙ rw (lt-leb no_mark (get_or t v no_mark) low, h.line) refl
+        step_let ∙ rw (sym (bind v small) ∙ e, h.line) refl
     walk_let x₀ o₁ more x₁ x₂ false e =
-        let free : no_mark ≤ get_or t v no_mark = ltb-false (get_or t v no_mark) no_mark (sym (bind v small) ∙ e) in
-        walk_two w m k s₁ s₂ ls₁ ls₂ t (set t v k) (step_let ∙ rw (le-leb no_mark (get_or t v no_mark) free) refl) (x₀ e) (o₁ (v ∷ bound)) more (x₁ e) (x₂ e)
+        walk_two w m k s₁ s₂ ls₁ ls₂ t (set t v (Some k)) (step_let ∙ rw (sym (bind v small) ∙ e) refl) (x₀ e) (o₁ (v ∷ bound)) more (x₁ e) (x₂ e)
 
   -- ------------------------------------------------------------------ an expression
 
-  step_first : (w : List ℕ) (m k s : ℕ) (t : List ℕ) {x : Word} {l : Position} {v : ℕ} → Head w k x l v → role x ≡ Neither
+  step_first : (w : List ℕ) (m k s : ℕ) (t : Table) {x : Word} {l : Position} {v : ℕ} → Head w k x l v → role x ≡ Neither
       → scopes_from w count (suc s + m) k t ≡ storing 0 (scopes_from w count (s + m) (k + 1) t)
   step_first w m k s t h e = let q : suc s + m ≡ suc (s + m) = omega arith in rw q (step_other w (s + m) k t h e)
 
-  step_pair : (w : List ℕ) (m k s₁ s₂ : ℕ) (t : List ℕ) {x : Word} {l : Position} {v : ℕ} → Head w k x l v → role x ≡ Neither
+  step_pair : (w : List ℕ) (m k s₁ s₂ : ℕ) (t : Table) {x : Word} {l : Position} {v : ℕ} → Head w k x l v → role x ≡ Neither
       → scopes_from w count (suc (s₁ + s₂) + m) k t ≡ storing 0 (scopes_from w count (s₁ + (s₂ + m)) (k + 1) t)
   step_pair w m k s₁ s₂ t h e = let q : s₁ + s₂ + m ≡ s₁ + (s₂ + m) = omega arith in step_first w m k (s₁ + s₂) t h e ∙ rw q refl
 
   -- a step of two parts that binds nothing, from its parts
-  walk_pair : (w : List ℕ) (m k hi : ℕ) (t : List ℕ) (ins : List (ℕ × ℕ)) (bound : List ℕ) (e₁ e₂ : Expr) {x : Word} {l : Position} {v : ℕ}
+  walk_pair : (w : List ℕ) (m k hi : ℕ) (t : Table) (ins : List (ℕ × ℕ)) (bound : List ℕ) (e₁ e₂ : Expr) {x : Word} {l : Position} {v : ℕ}
       → Head w k x l v → role x ≡ Neither → Agrees w k hi t ins bound
       → (Agrees w (k + 1) hi t ins bound → Walked w (size e₂ + m) (k + 1) (size e₁) (lets (k + 1) ins e₁) t (scope count e₁ (names ins) bound))
-      → ((b u : List ℕ) → Agrees w (k + 1 + size e₁) hi u ins b → Walked w m (k + 1 + size e₁) (size e₂) (lets (k + 1 + size e₁) ins e₂) u (scope count e₂ (names ins) b))
+      → ((b : List ℕ) (u : Table) → Agrees w (k + 1 + size e₁) hi u ins b → Walked w m (k + 1 + size e₁) (size e₂) (lets (k + 1 + size e₁) ins e₂) u (scope count e₂ (names ins) b))
       → Walked w m k (suc (size e₁ + size e₂)) (0 ∷ (lets (k + 1) ins e₁ ++ lets (k + 1 + size e₁) ins e₂)) t
       (scope count e₁ (names ins) bound >>= λ b. scope count e₂ (names ins) b)
   walk_pair w m k hi t ins bound e₁ e₂ h role a x₁ x₂ =
@@ -226,13 +216,13 @@ module _ (count : ℕ) where
       (agrees_onward w k hi (k + 1 + size e₁) t y.table ins bound b (omega arith) a y.long y.extends y.bind))
 
   -- a step of one part, which calls a procedure or not, and then its part
-  module _ (w : List ℕ) (m k s : ℕ) (ls t : List ℕ) (ins : List (ℕ × ℕ)) (bound : List ℕ) (x : UnaryWord) {l : Position} {v : ℕ} (h : Head w k (Unary x) l v)
+  module _ (w : List ℕ) (m k s : ℕ) (ls : List ℕ) (t : Table) (ins : List (ℕ × ℕ)) (bound : List ℕ) (x : UnaryWord) {l : Position} {v : ℕ} (h : Head w k (Unary x) l v)
       (more : List ℕ → Result (List ℕ) Refusal) where
     step_calls : role (Unary x) ≡ Calls → scopes_from w count (suc s + m) k t ≡ continued (λ u. scopes_from w count (s + m) (k + 1) u) k t v (judge_call w count k)
     unfolding judge_by
     step_calls e =
         let q : suc s + m ≡ suc (s + m) = omega arith in
-        rw q (step w (s + m) k t h ∙ ap (λ r. continued (λ u. scopes_from w count (s + m) (k + 1) u) k t v (judge_by w count k (get_or t v no_mark) r)) e)
+        rw q (step w (s + m) k t h ∙ ap (λ r. continued (λ u. scopes_from w count (s + m) (k + 1) u) k t v (judge_by w count k (get_or t v None) r)) e)
 
     walk_call : role (Unary x) ≡ Calls → Walked w m (k + 1) s ls t (more bound) → (y : Bool) → ltb v count ≡ y
         → Walked w m k (suc s) (0 ∷ ls) t ((when y then Ok bound else Err (NoProcedure l.line)) >>= more)
@@ -246,7 +236,7 @@ module _ (count : ℕ) where
     walk_unary true e x₁ = rw e (walk_call (rw e refl) x₁ (ltb v count) refl)
     walk_unary false e x₁ = rw e (walk_one w m k s ls t (more bound) (step_first w m k s t h (rw e refl)) x₁)
 
-  pub walk : (w : List ℕ) (e : Expr) (k m hi : ℕ) (t : List ℕ) (ins : List (ℕ × ℕ)) (bound : List ℕ) → Standing w k e → Limited (prefix e)
+  pub walk : (w : List ℕ) (e : Expr) (k m hi : ℕ) (t : Table) (ins : List (ℕ × ℕ)) (bound : List ℕ) → Standing w k e → Limited (prefix e)
       → k + size e ≤ hi → hi ≤ 256 → Agrees w k hi t ins bound → Walked w m k (size e) (lets k ins e) t (scope count e (names ins) bound)
   unfolding scope scope_step ◌>>=◌ role binding largest_value let_of lets size names prefix
   walk w (leaf Var l v) k m hi t ins bound s r hh top a =
@@ -267,12 +257,11 @@ module _ (count : ℕ) where
       let ended : end_at w k ≡ end = standing_end (binary Let l v e₁ e₂) s in
       let divided : end_at w (k + 1) ≡ mid = standing_end e₁ first in
       let parts = limited_parts (prefix e₁) (prefix e₂) (limited_behind r) in
-      let begins : scope_from w k ≡ mid = sym (from_let w k k mid refl (omega arith) (sym divided)) in
-      let stops : scope_till w k ≡ end = sym (till_let w k k end refl (omega arith) (sym ended)) in
+      let begins : scope_from w k ≡ mid = from_let w k (omega arith) ∙ divided in
+      let stops : scope_till w k ≡ end = till_let w k (omega arith) ∙ ended in
       let variable : v < 256 = omega (arith, limited_first r) in
       let B : Binds w k k mid end v t ins bound = record {
         variable = variable;
-        mark = omega arith;
         begins = begins;
         ends = stops;
         order = (omega arith, omega arith);
@@ -285,7 +274,7 @@ module _ (count : ℕ) where
       (λ b. scope count e₁ (names ins) b)
       (λ b. scope count e₂ (v ∷ names ins) b)
       (λ free.
-      walk w e₁ (k + 1) (size e₂ + m) mid (set t v k) ins (v ∷ bound) first parts.0 (omega arith) (omega arith)
+      walk w e₁ (k + 1) (size e₂ + m) mid (set t v (Some k)) ins (v ∷ bound) first parts.0 (omega arith) (omega arith)
       (let_first B free))
       (λ free b₁ x₁.
       walk w e₂ mid m end x₁.table ((v, k) ∷ ins) b₁ (standing_second Let l v e₁ e₂ s) parts.1 (omega arith) (omega arith)

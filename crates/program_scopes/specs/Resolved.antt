@@ -1,14 +1,14 @@
 -- What arranging stored lines answers, and what it leaves in the work space.
-use Rattle.std.specs.Prelude.{◌≡◌, List, [], map, ℕ, ◌+◌, ◌≤◌, length, Result, Ok}
+use Rattle.std.specs.Prelude.{List, [], map, ℕ, ◌+◌, ◌≤◌, Result, Ok}
 use Rattle.spec.specs.declared.Refusal.{Refusal}
 use Rattle.spec.specs.Reading.{◌>>=◌}
 use Rattle.spec.specs.Expression.{Expr, Item, steps_among, Procedure, structure, scopes}
-use Rattle.workspace.specs.Layout.{ends_at, lets_at, proc_lines_at, proc_vars_at, proc_firsts_at, row_types_at, work_size}
+use Rattle.workspace.specs.Layout.{ends_at, lets_at, proc_lines_at, proc_vars_at, proc_firsts_at, row_types_at}
 use Rattle.workspace.specs.Holds.{all_ends, all_lets, first_steps, HoldsSteps}
 use Rattle.workspace.specs.Region.{Region, ChangedWithin}
 use Rattle.program_tree.specs.Items.{ItemsStored}
-use Rattle.program_tree.specs.Outcomes.{Answers}
-use Rattle.workspace.specs.declared.Ruling.{Ruling}
+use Rattle.program_tree.specs.declared.Stored.{Stored}
+use Rattle.program_tree.specs.Outcomes.{Passes}
 
 -- the procedures and the root that lines list, with their variables in scope; `last` is the last line read
 unfoldable pub resolved_of : (last count : ℕ) → List Item → Result (List Procedure × Expr) Refusal
@@ -16,11 +16,10 @@ resolved_of last count items =
     structure last count 0 items >>= λ found. scopes count found.0 found.1 [] >>= λ bound. Ok found
 
 -- lines are stored that may list so many procedures
-pub record Resolvable (steps procs count : ℕ) (w : List ℕ) : Type 0 where
-  pub long : length w ≡ work_size
-  pub all : steps + procs ≤ 256 + count
+pub record Resolvable (s : Stored) (count : ℕ) (w : List ℕ) : Type 0 where
+  pub all : s.steps + s.procs ≤ 256 + count
   pub few : count ≤ 16
-  pub stored : ItemsStored steps procs w
+  pub stored : ItemsStored s.steps s.procs w
 
 -- what the work space holds of them, beside their steps
 pub record HoldsTree (w : List ℕ) (ps : List Procedure) (root : Expr) : Type 0 where
@@ -30,7 +29,7 @@ pub record HoldsTree (w : List ℕ) (ps : List Procedure) (root : Expr) : Type 0
   pub proc_vars : Region w proc_vars_at (map (λ (p : Procedure). p.parameter) ps)
   pub proc_firsts : Region w proc_firsts_at (first_steps 0 ps)
 
-pub record Resolved (steps procs count last : ℕ) (w w' : List ℕ) (r : Ruling) : Type 0 where
-  pub found : (st : ItemsStored steps procs w)
-      → Answers (λ (t : List Procedure × Expr). HoldsTree w' t.0 t.1 × HoldsSteps w' (steps_among st.items)) r (resolved_of last count st.items)
+pub record Resolved (s : Stored) (count : ℕ) (w w' : List ℕ) (r : Result (Unit {0}) Refusal) : Type 0 where
+  pub found : (st : ItemsStored s.steps s.procs w)
+      → Passes (λ (t : List Procedure × Expr). HoldsTree w' t.0 t.1 × HoldsSteps w' (steps_among st.items)) r (resolved_of s.last count st.items)
   pub changed : ChangedWithin ends_at row_types_at w w'

@@ -10,6 +10,7 @@ use native.Mathlib.Nat.{sub-zero}
 use Rattle.spec.specs.Reading.{◌>>=◌}
 use Rattle.spec.specs.Expression.{Expr, size, Step, Item, step, proc, line_of_item, expression, no_line_left, Procedure, structure}
 use Rattle.spec.specs.declared.Refusal.{Refusal}
+use Rattle.spec.specs.declared.Refusal.TheVariants.{ProgramLines}
 use Rattle.workspace.specs.Layout.{ends_at, step_room}
 use Rattle.workspace.specs.Region.{Region, ChangedWithin}
 use Rattle.workspace.specs.Holds.{ends, all_ends}
@@ -17,276 +18,192 @@ use Rattle.workspace.specs.Steps.{step_line_at}
 use Rattle.workspace.proofs.Region.{region_moved, region_append, region_kept, changed_nothing, changed_then, changed_wider}
 use Rattle.workspace.proofs.Held.{ends_length}
 use Rattle.program_tree.specs.Items.{ItemsStored}
-use Rattle.program_tree.specs.Structure.{RoomFor}
+use Rattle.program_tree.specs.declared.Stored.{Stored}
 use Rattle.program_tree.specs.Trees.{left_at, ExpressionDue, ExpressionFound, StoredFrom, LinesLeft, body_due, BodyAnswer, BodyFound, root_first, TreeAnswer, Structured}
-use Rattle.workspace.specs.declared.Ruling.{Ruling}
-use Rattle.workspace.specs.declared.Ruling.TheVariants as outcome
-use Rattle.program_tree.specs.declared.Found.{Found}
-use Rattle.program_tree.specs.declared.Found.TheVariants.{At, Refused}
-use Rattle.program_tree.proofs.StructureLaws.{left_proc, left_step, left_none}
+use Rattle.program_tree.proofs.Outcomes.{same_refusal, refused, found}
 use Rattle.program_tree.proofs.TreeLaws.{next_by, next_by_lem, items_stored, expression_answers, expression_due, steps_left}
 
-no_refusal : {e : ℕ} {x : Refusal} {r : Found} → r ≡ Refused x → r ≡ At e → ⊥
-no_refusal p q = let z : ◌≡◌ {A = ℕ} 0 1 = cc in omega arith
+-- ------------------------------------------------------------------ one procedure of the walk
 
-same_at : {d e : ℕ} {r : Found} → r ≡ At d → r ≡ At e → e ≡ d
-same_at p q = cc
+-- what is found, with a procedure in front
+abbrev behind_procedure : Procedure → Result (List Procedure × Expr) Refusal → Result (List Procedure × Expr) Refusal
+behind_procedure p o = o >>= λ t. Ok (p ∷ t.0, t.1)
 
-same_refusal : {x y : Refusal} {r : Found} → r ≡ Refused x → r ≡ Refused y → x ≡ y
-same_refusal p q = cc
-
--- ------------------------------------------------------------------ answers from an index on
-
-abbrev pub AnswerFrom : (w' : List ℕ) (i : ℕ) → Found → Result (List Procedure × Expr) Refusal → Type 0
-AnswerFrom w' i r (Err x) = r ≡ Refused x
-AnswerFrom w' i r (Ok (ps, root)) = (r ≡ At (root_first i ps)) × Region w' (ends_at + i) (all_ends i ps root)
-
-answer_top : (w' : List ℕ) (r : Found) (o : Result (List Procedure × Expr) Refusal) → AnswerFrom w' 0 r o → TreeAnswer w' r o
-answer_top w' r (Err x) a = a
-answer_top w' r (Ok (ps, root)) a = a
-
--- a procedure in front of what is found
-unfoldable in_front : Procedure → Result (List Procedure × Expr) Refusal → Result (List Procedure × Expr) Refusal
-in_front p (Err r) = Err r
-in_front p (Ok (ps, root)) = Ok (p ∷ ps, root)
-
-answer_front : {w w' : List ℕ} (i : ℕ) (p : Procedure) (r : Found) → Region w (ends_at + i) (ends i p.body)
+front_answers : {w w' : List ℕ} (i : ℕ) (p : Procedure) (r : Result ℕ Refusal) → Region w (ends_at + i) (ends i p.body)
     → ChangedWithin (ends_at + (i + size p.body)) (ends_at + step_room) w w'
-    → (o : Result (List Procedure × Expr) Refusal) → AnswerFrom w' (i + size p.body) r o → AnswerFrom w' i r (in_front p o)
-unfolding in_front root_first all_ends
-answer_front i p r m c (Err x) a = a
-answer_front i p r m c (Ok (ps, root)) a = (
+    → (o : Result (List Procedure × Expr) Refusal) → TreeAnswer w' (i + size p.body) r o → TreeAnswer w' i r (behind_procedure p o)
+unfolding root_first all_ends ◌>>=◌
+front_answers i p r m c (Err x) a = a
+front_answers i p r m c (Ok (ps, root)) a = (
   a.0,
   region_append (ends i p.body) (all_ends (i + size p.body) ps root)
       (region_kept c (inl (omega (arith, ends_length i p.body))) m)
       (region_moved _ _ (omega (arith, ends_length i p.body)) a.1),
 )
 
-front_by : (line x : ℕ) (b : Expr) (o : Result (List Procedure × Expr) Refusal)
-    → (o >>= λ t. Ok (record { line = line; parameter = x; body = b } ∷ t.0, t.1)) ≡ in_front (record { line = line; parameter = x; body = b }) o
-unfolding in_front ◌>>=◌
-front_by line x b (Err r) = refl
-front_by line x b (Ok (ps, root)) = refl
-
--- ------------------------------------------------------------------ one procedure of the walk
-
 -- a procedure was read: its body, and the lines behind it
-record BodyOn (steps procs i j last e : ℕ) (w' : List ℕ) (items : List Item) : Type 0 where
+record BodyOn (s : Stored) (i j e : ℕ) (w' : List ℕ) (items : List Item) : Type 0 where
   procedure : Procedure
   behind : List Item
   ended : e ≡ i + size procedure.body
   marks : Region w' (ends_at + i) (ends i procedure.body)
-  stored : StoredFrom w' steps procs e j behind
-  walked : (k : ℕ) → structure last (suc k) i items ≡ in_front procedure (structure last k (i + size procedure.body) behind)
+  stored : StoredFrom w' s e j behind
+  walked : (k : ℕ) → structure s.last (suc k) i items ≡ behind_procedure procedure (structure s.last k (i + size procedure.body) behind)
 
-module _ (steps procs i j last : ℕ) (w' : List ℕ) (r : Found) where
-  on_by : (e x line : ℕ) (items : List Item) → r ≡ At e → (o : Result (Expr × List Item) Refusal) → expression last i items ≡ o
-      → BodyAnswer steps procs i j w' r o → BodyOn steps procs i j last e w' (proc x line ∷ items)
-  unfolding structure ◌>>=◌
-  on_by e x line items p (Err y) q a = absurd (no_refusal a p)
-  on_by e x line items p (Ok (b, behind)) q a = record {
-    procedure = record { line = line; parameter = x; body = b };
-    behind = behind;
-    ended = same_at a.0 p;
-    marks = a.1;
-    stored = subst (λ n. StoredFrom w' steps procs n j behind) (sym (same_at a.0 p)) a.2;
-    walked = λ k. rw q (front_by line x b (structure last k (i + size b) behind));
-  }
+walked_by : (last k i x line : ℕ) (b : Expr) (items behind : List Item) → expression last i items ≡ Ok (b, behind)
+    → structure last (suc k) i (proc x line ∷ items) ≡ behind_procedure (record { line = line; parameter = x; body = b }) (structure last k (i + size b) behind)
+unfolding structure ◌>>=◌
+walked_by last k i x line b items behind p = rw p refl
 
-  body_on : (e : ℕ) (items : List Item) → r ≡ At e → BodyAnswer steps procs i j w' r (body_due last i items) → BodyOn steps procs i j last e w' items
+module _ (s : Stored) (i j : ℕ) (w' : List ℕ) where
+  body_on : (e : ℕ) (items : List Item) → BodyAnswer s i j w' (Ok e) (body_due s.last i items) → BodyOn s i j e w' items
   unfolding body_due
-  body_on e [] p a = absurd (no_refusal a p)
-  body_on e (step s ∷ items) p a = absurd (no_refusal a p)
-  body_on e (proc x line ∷ items) p a = on_by e x line items p (expression last i items) refl a
+  body_on e [] a = absurd (grind arith)
+  body_on e (step x ∷ items) a = absurd (grind arith)
+  body_on e (proc x line ∷ items) a =
+      let b = found _ _ (expression s.last i items) a in
+      record {
+        procedure = record { line = line; parameter = x; body = b.value.0 };
+        behind = b.value.1;
+        ended = b.same;
+        marks = b.holds.0;
+        stored = subst (λ n. StoredFrom w' s n j b.value.1) (sym b.same) b.holds.1;
+        walked = λ k. walked_by s.last k i x line b.value.0 items b.value.1 b.is;
+      }
 
-  off_by : (x : Refusal) (y line : ℕ) (items : List Item) → r ≡ Refused x → (o : Result (Expr × List Item) Refusal) → expression last i items ≡ o
-      → BodyAnswer steps procs i j w' r o → (k : ℕ) → structure last (suc k) i (proc y line ∷ items) ≡ Err x
-  unfolding structure ◌>>=◌
-  off_by x y line items p (Err z) q a k = rw q (ap Err (same_refusal a p))
-  off_by x y line items p (Ok (b, behind)) q a k = absurd (no_refusal p a.0)
-
-  body_off : (x : Refusal) (items : List Item) → r ≡ Refused x → BodyAnswer steps procs i j w' r (body_due last i items)
-      → (k : ℕ) → structure last (suc k) i items ≡ Err x
-  unfolding body_due structure
-  body_off x [] p a k = ap Err (same_refusal a p)
-  body_off x (step s ∷ items) p a k = ap Err (same_refusal a p)
-  body_off x (proc y line ∷ items) p a k = off_by x y line items p (expression last i items) refl a k
+  body_off : (x : Refusal) (items : List Item) → BodyAnswer s i j w' (Err x) (body_due s.last i items)
+      → (k : ℕ) → structure s.last (suc k) i items ≡ Err x
+  unfolding body_due structure ◌>>=◌
+  body_off x [] a k = same_refusal a
+  body_off x (step y ∷ items) a k = same_refusal a
+  body_off x (proc y line ∷ items) a k = rw (refused _ _ (expression s.last i items) a) refl
 
 -- ------------------------------------------------------------------ the loop
 
 -- the lines that are left of some lines
-pub record Rest (steps procs count last : ℕ) (w : List ℕ) (i f : ℕ) (items : List Item) : Type 0 where
+pub record Rest (s : Stored) (count : ℕ) (w : List ℕ) (i f : ℕ) (items : List Item) : Type 0 where
   pub rest : List Item
-  pub stored : StoredFrom w steps procs i f rest
-  pub answers : (w' : List ℕ) (r : Found) → ChangedWithin (ends_at + i) (ends_at + step_room) w w'
-      → AnswerFrom w' i r (structure last (count - f) i rest) → TreeAnswer w' r (structure last count 0 items)
+  pub stored : StoredFrom w s i f rest
+  pub answers : (w' : List ℕ) (r : Result ℕ Refusal) → ChangedWithin (ends_at + i) (ends_at + step_room) w w'
+      → TreeAnswer w' i r (structure s.last (count - f) i rest) → TreeAnswer w' 0 r (structure s.last count 0 items)
 
 -- the loop at index i, behind f procedures
-pub record Walked (steps procs count last : ℕ) (w₀ w : List ℕ) (i f : ℕ) : Type 0 where
-  pub few : f ≤ count
+pub record Walked (s : Stored) (count : ℕ) (w₀ w : List ℕ) (i f : ℕ) : Type 0 where
   pub changed : ChangedWithin ends_at (ends_at + step_room) w₀ w
-  pub left : LinesLeft steps procs i f w
-  pub rests : (items : List Item) → StoredFrom w₀ steps procs 0 0 items → Rest steps procs count last w i f items
+  pub left : LinesLeft s i f w
+  pub rests : (items : List Item) → StoredFrom w₀ s 0 0 items → Rest s count w i f items
 
-pub walk_start : (steps procs count last : ℕ) (w : List ℕ) → RoomFor steps w → procs ≤ step_room → ItemsStored steps procs w
-    → Walked steps procs count last w w 0 0
-walk_start steps procs count last w room few st = record {
-  few = omega arith;
+pub walk_start : {s : Stored} (count : ℕ) {w : List ℕ} → ItemsStored s.steps s.procs w → Walked s count w w 0 0
+walk_start {s} count {w} st = record {
   changed = changed_nothing ends_at (ends_at + step_room) w;
-  left = record { room = room; few = few; items = st.items; stored = items_stored steps procs st.items st.held st.steps_counted st.procs_counted };
+  left = record { items = st.items; stored = items_stored s st.items st.held st.steps_counted st.procs_counted };
   rests = λ items h. record {
     rest = items;
     stored = h;
-    answers = λ w' r c a. answer_top w' r (structure last count 0 items) (subst (λ m. AnswerFrom w' 0 r (structure last m 0 items)) (sub-zero count) a);
+    answers = λ w' r c a. rw sub-zero at a;
   };
 }
 
-module _ {steps procs count last : ℕ} {w₀ w : List ℕ} {i f : ℕ} (s : Walked steps procs count last w₀ w i f) where
+module _ {s : Stored} {count : ℕ} {w₀ w : List ℕ} {i f : ℕ} (v : Walked s count w₀ w i f) where
   -- any answer from here on
-  answered : (w' : List ℕ) (r : Found) → ChangedWithin (ends_at + i) (ends_at + step_room) w w'
-      → ((items : List Item) → StoredFrom w steps procs i f items → AnswerFrom w' i r (structure last (count - f) i items))
-      → Structured steps procs count last w₀ w' r
+  answered : (w' : List ℕ) (r : Result ℕ Refusal) → ChangedWithin (ends_at + i) (ends_at + step_room) w w'
+      → ((items : List Item) → StoredFrom w s i f items → TreeAnswer w' i r (structure s.last (count - f) i items))
+      → Structured s count w₀ w' r
   answered w' r c a = record {
-    found = λ items h es ep. let R = s.rests items (items_stored steps procs items h es ep) in R.answers w' r c (a R.rest R.stored);
-    changed = changed_then ends_at (ends_at + step_room) s.changed (changed_wider ends_at (ends_at + step_room) (omega arith) (omega arith) c);
+    found = λ items h es ep. let R = v.rests items (items_stored s items h es ep) in R.answers w' r c (a R.rest R.stored);
+    changed = changed_then ends_at (ends_at + step_room) v.changed (changed_wider ends_at (ends_at + step_room) (omega arith) (omega arith) c);
   }
 
-  module _ (l : f < count) {w₁ : List ℕ} {r : Found} (x : BodyFound steps procs i f last w w₁ r) where
+  module _ (l : f < count) where
     fewer : count - f ≡ suc (count - (f + 1))
     fewer = omega arith
 
-    pub walk_refuses : (y : Refusal) → r ≡ Refused y → Structured steps procs count last w₀ w₁ (Refused y)
-    walk_refuses y p = answered w₁ (Refused y) x.changed
-        (λ items h. rw (fewer, body_off steps procs i (f + 1) last w₁ r y items p (x.found items h) (count - (f + 1))) refl)
+    pub walk_refuses : {w₁ : List ℕ} {y : Refusal} → BodyFound s i f w w₁ (Err y) → Structured s count w₀ w₁ (Err y)
+    walk_refuses {w₁} {y} x = answered w₁ (Err y) x.changed
+        (λ items h. rw (fewer, body_off s i (f + 1) w₁ y items (x.found items h) (count - (f + 1))) refl)
 
-    module _ {e : ℕ} (p : r ≡ At e) where
-      on_at : (items : List Item) → StoredFrom w steps procs i f items → BodyOn steps procs i (f + 1) last e w₁ items
-      on_at items h = body_on steps procs i (f + 1) last w₁ r e items p (x.found items h)
+    module _ {w₁ : List ℕ} {e : ℕ} (x : BodyFound s i f w w₁ (Ok e)) where
+      on_at : (items : List Item) → StoredFrom w s i f items → BodyOn s i (f + 1) e w₁ items
+      on_at items h = body_on s i (f + 1) w₁ e items (x.found items h)
 
-      further : (items : List Item) → BodyOn steps procs i (f + 1) last e w₁ items → (w' : List ℕ) (r' : Found)
-          → ChangedWithin (ends_at + e) (ends_at + step_room) w₁ w' → (o : BodyOn steps procs i (f + 1) last e w₁ items)
-          → AnswerFrom w' e r' (structure last (count - (f + 1)) e o.behind) → AnswerFrom w' i r' (structure last (count - f) i items)
-      further items b w' r' c o a =
+      further : (items : List Item) (o : BodyOn s i (f + 1) e w₁ items) (w' : List ℕ) (r : Result ℕ Refusal)
+          → ChangedWithin (ends_at + e) (ends_at + step_room) w₁ w'
+          → TreeAnswer w' e r (structure s.last (count - (f + 1)) e o.behind) → TreeAnswer w' i r (structure s.last (count - f) i items)
+      further items o w' r c a =
           rw (fewer, o.walked (count - (f + 1)))
-          (answer_front i o.procedure r' o.marks (rw o.ended at c) (structure last (count - (f + 1)) (i + size o.procedure.body) o.behind)
-          (rw o.ended at a))
+          (front_answers i o.procedure r o.marks (rw o.ended at c) (structure s.last (count - (f + 1)) (i + size o.procedure.body) o.behind) (rw o.ended at a))
 
-      pub walk_on : Walked steps procs count last w₀ w₁ e (f + 1)
+      pub walk_on : Walked s count w₀ w₁ e (f + 1)
       walk_on = record {
-        few = omega arith;
-        changed = changed_then ends_at (ends_at + step_room) s.changed (changed_wider ends_at (ends_at + step_room) (omega arith) (omega arith) x.changed);
+        changed = changed_then ends_at (ends_at + step_room) v.changed (changed_wider ends_at (ends_at + step_room) (omega arith) (omega arith) x.changed);
         left = record {
-          room = record { long = x.changed.long ∙ s.left.room.long; few = s.left.room.few };
-          few = s.left.few;
-          items = (on_at s.left.items s.left.stored).behind;
-          stored = (on_at s.left.items s.left.stored).stored;
+          items = (on_at v.left.items v.left.stored).behind;
+          stored = (on_at v.left.items v.left.stored).stored;
         };
         rests = λ items h.
-            let R = s.rests items h in
+            let R = v.rests items h in
             let o = on_at R.rest R.stored in
             record {
               rest = o.behind;
               stored = o.stored;
-              answers = λ w' r' c a. R.answers w' r'
+              answers = λ w' r c a. R.answers w' r
                   (changed_then (ends_at + i) (ends_at + step_room) x.changed
                   (changed_wider (ends_at + i) (ends_at + step_room) (omega (arith, o.ended)) (omega arith) c))
-                  (further R.rest o w' r' c o a);
+                  (further R.rest o w' r c a);
             };
       }
 
 -- ------------------------------------------------------------------ the root
 
 -- what is left behind it
-abbrev LeftAnswer : Ruling → Result (Unit {0}) Refusal → Type 0
-LeftAnswer o (Err x) = o ≡ outcome.Refused x
-LeftAnswer o (Ok u) = o ≡ outcome.Holds
+left_answer : (s : Stored) (e j : ℕ) (w : List ℕ) (items : List Item) → StoredFrom w s e j items → left_at w s e j ≡ no_line_left items
+unfolding left_at StoredFrom next_by no_line_left line_of_item step_line_at
+left_answer s e j w [] h = rw (next_by_lem w s e j [] h) refl
+left_answer s e j w (step x ∷ items) h = rw (next_by_lem w s e j (step x ∷ items) h) (ap (λ (t : Step). Err (ProgramLines t.line)) h.1)
+left_answer s e j w (proc x k ∷ items) h = rw (next_by_lem w s e j (proc x k ∷ items) h) (ap (λ k. Err (ProgramLines k)) h.2)
 
-left_answer : (steps procs e j : ℕ) (w : List ℕ) (items : List Item) → StoredFrom w steps procs e j items → LeftAnswer (left_at w steps procs e j) (no_line_left items)
-unfolding StoredFrom no_line_left line_of_item next_by step_line_at
-left_answer steps procs e j w [] h = sym (left_none w steps procs e j (next_by_lem w steps procs e j [] h))
-left_answer steps procs e j w (step s ∷ items) h =
-    sym (left_step w steps procs e j (next_by_lem w steps procs e j (step s ∷ items) h) (ap (λ (t : Step). t.line) (sym h.1)))
-left_answer steps procs e j w (proc x k ∷ items) h =
-    sym (left_proc w steps procs e j (next_by_lem w steps procs e j (proc x k ∷ items) h) (sym h.2))
+root_by : (last i : ℕ) (b : Expr) (items behind : List Item) (t : Result (Unit {0}) Refusal) → expression last i items ≡ Ok (b, behind) → no_line_left behind ≡ t
+    → structure last 0 i items ≡ (t >>= λ u. Ok ([], b))
+unfolding structure ◌>>=◌
+root_by last i b items behind t p q = rw (p, q) refl
 
-no_pass : {x : Refusal} {o : Ruling} → o ≡ outcome.Refused x → o ≡ outcome.Holds → ⊥
-no_pass p q = let z : ◌≡◌ {A = ℕ} 0 1 = cc in omega arith
+module _ {s : Stored} {count : ℕ} {w₀ w : List ℕ} {i f : ℕ} (v : Walked s count w₀ w i f) (few : f ≤ count) (all : count ≤ f) where
+  here : (items : List Item) → StoredFrom w s i f items → StoredFrom w s i count items
+  here items h = let e : f ≡ count = omega arith in rw e at h
 
-same_fault : {x y : Refusal} {o : Ruling} → o ≡ outcome.Refused x → o ≡ outcome.Refused y → x ≡ y
-same_fault p q = cc
+  pub root_due : ExpressionDue s i count w
+  root_due = expression_due v.left.items (here v.left.items v.left.stored)
 
-module _ (steps procs i j last : ℕ) (w' : List ℕ) (r : Found) (items : List Item) where
-  root_off_by : (x : Refusal) → r ≡ Refused x → (o : Result (Expr × List Item) Refusal) → expression last i items ≡ o → BodyAnswer steps procs i j w' r o
-      → AnswerFrom w' i (Refused x) (structure last 0 i items)
+  rooted : {w₁ : List ℕ} {r : Result ℕ Refusal} → ExpressionFound s i count w w₁ r → (r' : Result ℕ Refusal)
+      → ((items : List Item) → BodyAnswer s i count w₁ r (expression s.last i items) → TreeAnswer w₁ i r' (structure s.last 0 i items))
+      → Structured s count w₀ w₁ r'
+  rooted {w₁} x r' a =
+      let none : count - f ≡ 0 = omega arith in
+      answered v w₁ r' x.changed (λ items h. rw none (a items (expression_answers x items (here items h))))
+
+  pub root_refused : {w₁ : List ℕ} {y : Refusal} → ExpressionFound s i count w w₁ (Err y) → Structured s count w₀ w₁ (Err y)
   unfolding structure ◌>>=◌
-  root_off_by x p (Err y) q a = rw q (ap Refused (same_refusal p a))
-  root_off_by x p (Ok (b, behind)) q a = absurd (no_refusal p a.0)
+  root_refused {w₁} {y} x = rooted x (Err y) (λ items a. rw (refused _ _ (expression s.last i items) a) refl)
 
-  module _ (e : ℕ) (p : r ≡ At e) (t : Ruling) (is : t ≡ left_at w' steps procs e j) where
-    left_of : (b : Expr) (behind : List Item) → BodyAnswer steps procs i j w' r (Ok (b, behind)) → LeftAnswer t (no_line_left behind)
-    left_of b behind a =
-        subst (λ o. LeftAnswer o (no_line_left behind)) (sym is)
-        (left_answer steps procs e j w' behind (subst (λ n. StoredFrom w' steps procs n j behind) (sym (same_at a.0 p)) a.2))
+  module _ {w₁ : List ℕ} {e : ℕ} (x : ExpressionFound s i count w w₁ (Ok e)) where
+    pub root_within : e ≤ s.steps
+    root_within =
+        let a = expression_answers x v.left.items (here v.left.items v.left.stored) in
+        let b = found _ _ (expression s.last i v.left.items) a in
+        omega (arith, b.same, steps_left w₁ s (i + size b.value.0) count b.value.1 b.holds.1)
 
-    passed_by : (b : Expr) (behind : List Item) → expression last i items ≡ Ok (b, behind) → Region w' (ends_at + i) (ends i b) → t ≡ outcome.Holds
-        → (u : Result (Unit {0}) Refusal) → no_line_left behind ≡ u → LeftAnswer t u → AnswerFrom w' i (At i) (structure last 0 i items)
-    unfolding structure ◌>>=◌ root_first all_ends
-    passed_by b behind q m g (Err x) v a = absurd (no_pass a g)
-    passed_by b behind q m g (Ok d) v a = rw (q, v) (refl, m)
+    -- the root is read, and then what is left is judged
+    left : (t : Result (Unit {0}) Refusal) (r' : Result ℕ Refusal) → t ≡ left_at w₁ s e count
+        → ((b : Expr) → Region w₁ (ends_at + i) (ends i b) → TreeAnswer w₁ i r' (t >>= λ u. Ok ([], b))) → Structured s count w₀ w₁ r'
+    left t r' is answer = rooted x r' (λ items a.
+        let b = found _ _ (expression s.last i items) a in
+        let behind = subst (λ n. StoredFrom w₁ s n count b.value.1) (sym b.same) b.holds.1 in
+        rw (root_by s.last i b.value.0 items b.value.1 t b.is (sym (is ∙ left_answer s e count w₁ b.value.1 behind))) (answer b.value.0 b.holds.0))
 
-    failed_by : (x : Refusal) (b : Expr) (behind : List Item) → expression last i items ≡ Ok (b, behind) → t ≡ outcome.Refused x
-        → (u : Result (Unit {0}) Refusal) → no_line_left behind ≡ u → LeftAnswer t u → AnswerFrom w' i (Refused x) (structure last 0 i items)
-    unfolding structure ◌>>=◌
-    failed_by x b behind q g (Err y) v a = rw (q, v) (ap Refused (same_fault g a))
-    failed_by x b behind q g (Ok d) v a = absurd (no_pass g a)
+    pub root_passed : Ok tt ≡ left_at w₁ s e count → Structured s count w₀ w₁ (Ok i)
+    unfolding ◌>>=◌ root_first all_ends
+    root_passed is = left (Ok tt) (Ok i) is (λ b m. (refl, m))
 
-    root_passed_by : t ≡ outcome.Holds → (o : Result (Expr × List Item) Refusal) → expression last i items ≡ o → BodyAnswer steps procs i j w' r o
-        → AnswerFrom w' i (At i) (structure last 0 i items)
-    root_passed_by g (Err y) q a = absurd (no_refusal a p)
-    root_passed_by g (Ok (b, behind)) q a = passed_by b behind q a.1 g (no_line_left behind) refl (left_of b behind a)
-
-    root_failed_by : (x : Refusal) → t ≡ outcome.Refused x → (o : Result (Expr × List Item) Refusal) → expression last i items ≡ o → BodyAnswer steps procs i j w' r o
-        → AnswerFrom w' i (Refused x) (structure last 0 i items)
-    root_failed_by x g (Err y) q a = absurd (no_refusal a p)
-    root_failed_by x g (Ok (b, behind)) q a = failed_by x b behind q g (no_line_left behind) refl (left_of b behind a)
-
-module _ {steps procs count last : ℕ} {w₀ w : List ℕ} {i f : ℕ} (s : Walked steps procs count last w₀ w i f) (l : count ≤ f) where
-  none_due : count - f ≡ 0
-  none_due = omega arith
-
-  all_read : f ≡ count
-  all_read = omega (arith, s.few)
-
-  here : (items : List Item) → StoredFrom w steps procs i f items → StoredFrom w steps procs i count items
-  here items h = subst (λ n. StoredFrom w steps procs i n items) all_read h
-
-  pub root_due : ExpressionDue steps procs i count w
-  root_due = expression_due steps procs i count w s.left.room s.left.few s.left.items (here s.left.items s.left.stored)
-
-  module _ {w₁ : List ℕ} {r : Found} (x : ExpressionFound steps procs i count last w w₁ r) where
-    root_at : (items : List Item) → StoredFrom w steps procs i f items → BodyAnswer steps procs i count w₁ r (expression last i items)
-    root_at items h = expression_answers s.left.room.few s.left.few x items (here items h)
-
-    rooted : (r' : Found) → ((items : List Item) → StoredFrom w steps procs i f items → AnswerFrom w₁ i r' (structure last 0 i items))
-        → Structured steps procs count last w₀ w₁ r'
-    rooted r' a = answered s w₁ r' x.changed (λ items h. rw none_due (a items h))
-
-    pub root_off : (y : Refusal) → r ≡ Refused y → Structured steps procs count last w₀ w₁ (Refused y)
-    root_off y p = rooted (Refused y)
-        (λ items h. root_off_by steps procs i count last w₁ r items y p (expression last i items) refl (root_at items h))
-
-    module _ {e : ℕ} (p : r ≡ At e) where
-      ends_by : (items : List Item) → (o : Result (Expr × List Item) Refusal) → expression last i items ≡ o → BodyAnswer steps procs i count w₁ r o → e ≤ steps
-      ends_by items (Err y) q a = absurd (no_refusal a p)
-      ends_by items (Ok (b, behind)) q a = omega (arith, same_at a.0 p, steps_left w₁ steps procs (i + size b) count behind a.2)
-
-      pub root_within : e ≤ steps
-      root_within = ends_by s.left.items (expression last i s.left.items) refl (root_at s.left.items s.left.stored)
-
-      pub root_passed : (t : Ruling) → t ≡ left_at w₁ steps procs e count → t ≡ outcome.Holds → Structured steps procs count last w₀ w₁ (At i)
-      root_passed t is g = rooted (At i)
-          (λ items h. root_passed_by steps procs i count last w₁ r items e p t is g (expression last i items) refl (root_at items h))
-
-      pub root_failed : (t : Ruling) → t ≡ left_at w₁ steps procs e count → (y : Refusal) → t ≡ outcome.Refused y → Structured steps procs count last w₀ w₁ (Refused y)
-      root_failed t is y g = rooted (Refused y)
-          (λ items h. root_failed_by steps procs i count last w₁ r items e p t is y g (expression last i items) refl (root_at items h))
+    pub root_failed : {y : Refusal} → Err y ≡ left_at w₁ s e count → Structured s count w₀ w₁ (Err y)
+    unfolding ◌>>=◌
+    root_failed {y} is = left (Err y) (Err y) is (λ b m. refl)

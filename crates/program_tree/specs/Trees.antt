@@ -9,78 +9,71 @@ use Rattle.workspace.specs.Region.{Region, ChangedWithin}
 use Rattle.workspace.specs.Holds.{ends, all_ends}
 use Rattle.workspace.specs.Steps.{step_at, steps_from}
 use Rattle.program_tree.specs.Items.{proc_rows, HoldsItems}
-use Rattle.program_tree.specs.Structure.{RoomFor}
-use Rattle.workspace.specs.declared.Ruling.{Ruling}
-use Rattle.workspace.specs.declared.Ruling.TheVariants as outcome
+use Rattle.program_tree.specs.Outcomes.{Answers}
 use Rattle.program_tree.specs.declared.Next.{Next}
 use Rattle.program_tree.specs.declared.Next.TheVariants.{Proc, Step, End}
-use Rattle.program_tree.specs.declared.Found.{Found}
-use Rattle.program_tree.specs.declared.Found.TheVariants.{At, Refused}
+use Rattle.program_tree.specs.declared.Stored.{Stored}
 
 -- ------------------------------------------------------------------ what stands where
 
 -- whether `proc` line j stands at index i
-unfoldable pub proc_next : List ℕ → (procs i j : ℕ) → Bool
-proc_next w procs i j = ltb j procs && eqb (get_or w (proc_firsts_at + j) 0) i
+unfoldable pub proc_next : List ℕ → Stored → (i j : ℕ) → Bool
+proc_next w s i j = ltb j s.procs && eqb (get_or w (proc_firsts_at + j) 0) i
 
 -- what stands at index i, behind j of the `proc` lines
-unfoldable pub next_of : List ℕ → (steps procs i j : ℕ) → Next
-next_of w steps procs i j =
-    when proc_next w procs i j then Proc
-    else when ltb i steps then Step
+unfoldable pub next_of : List ℕ → Stored → (i j : ℕ) → Next
+next_of w s i j =
+    when proc_next w s i j then Proc
+    else when ltb i s.steps then Step
     else End
 
 -- the index behind the steps in front of `proc` line j
-unfoldable pub limit_at : List ℕ → (steps procs j : ℕ) → ℕ
-limit_at w steps procs j = when ltb j procs then get_or w (proc_firsts_at + j) 0 else steps
+unfoldable pub limit_at : List ℕ → Stored → (j : ℕ) → ℕ
+limit_at w s j = when ltb j s.procs then get_or w (proc_firsts_at + j) 0 else s.steps
 
-unfoldable pub break_line : List ℕ → (procs j last : ℕ) → ℕ
-break_line w procs j last = when ltb j procs then get_or w (proc_lines_at + j) 0 else last
+unfoldable pub break_line : List ℕ → Stored → (j : ℕ) → ℕ
+break_line w s j = when ltb j s.procs then get_or w (proc_lines_at + j) 0 else s.last
 
-abbrev left_by : List ℕ → (e j : ℕ) → Next → Ruling
-left_by w e j Proc = outcome.Refused (ProgramLines (get_or w (proc_lines_at + j) 0))
-left_by w e j Step = outcome.Refused (ProgramLines (get_or w (lines_at + e) 0))
-left_by w e j End = outcome.Holds
+abbrev left_by : List ℕ → (e j : ℕ) → Next → Result (Unit {0}) Refusal
+left_by w e j Proc = Err (ProgramLines (get_or w (proc_lines_at + j) 0))
+left_by w e j Step = Err (ProgramLines (get_or w (lines_at + e) 0))
+left_by w e j End = Ok tt
 
-unfoldable pub left_at : List ℕ → (steps procs e j : ℕ) → Ruling
-left_at w steps procs e j = left_by w e j (next_of w steps procs e j)
+unfoldable pub left_at : List ℕ → Stored → (e j : ℕ) → Result (Unit {0}) Refusal
+left_at w s e j = left_by w e j (next_of w s e j)
 
 -- ------------------------------------------------------------------ one expression
 
 -- an expression is due at index i, behind j of the `proc` lines
-pub record ExpressionDue (steps procs i j : ℕ) (w : List ℕ) : Type 0 where
-  pub room : RoomFor steps w
-  pub few : procs ≤ step_room
-  pub before : i ≤ limit_at w steps procs j
-  pub within : limit_at w steps procs j ≤ step_room
+pub record ExpressionDue (s : Stored) (i j : ℕ) (w : List ℕ) : Type 0 where
+  pub before : i ≤ limit_at w s j
+  pub within : limit_at w s j ≤ step_room
 
 -- where it ends, or where it breaks off
-abbrev pub ExpressionAnswer : (w w' : List ℕ) (i limit line : ℕ) → Found → List Expr → Type 0
-ExpressionAnswer w w' i limit line r [] = r ≡ Refused (ProgramLines line)
-ExpressionAnswer w w' i limit line r (e ∷ es) = (r ≡ At (i + size e)) × Region w' (ends_at + i) (ends i e)
+abbrev pub ExpressionAnswer : (w' : List ℕ) (i line : ℕ) → Result ℕ Refusal → List Expr → Type 0
+ExpressionAnswer w' i line r [] = r ≡ Err (ProgramLines line)
+ExpressionAnswer w' i line r (e ∷ es) = (r ≡ Ok (i + size e)) × Region w' (ends_at + i) (ends i e)
 
-pub record ExpressionFound (steps procs i j last : ℕ) (w w' : List ℕ) (r : Found) : Type 0 where
-  pub found : ExpressionAnswer w w' i (limit_at w steps procs j) (break_line w procs j last) r (listed i (steps_from w i (limit_at w steps procs j - i)))
+pub record ExpressionFound (s : Stored) (i j : ℕ) (w w' : List ℕ) (r : Result ℕ Refusal) : Type 0 where
+  pub found : ExpressionAnswer w' i (break_line w s j) r (listed i (steps_from w i (limit_at w s j - i)))
   pub changed : ChangedWithin (ends_at + i) (ends_at + step_room) w w'
 
 -- ------------------------------------------------------------------ one procedure
 
 -- lines stand stored from index i and `proc` line j on, up to the last step and the last `proc` line
-unfoldable pub StoredFrom : (w : List ℕ) (steps procs i j : ℕ) → List Item → Type 0
-StoredFrom w steps procs i j [] = (i ≡ steps) × (j ≡ procs)
-StoredFrom w steps procs i j (step s ∷ items) = (i < steps) × (step_at w i ≡ s) × StoredFrom w steps procs (i + 1) j items
-StoredFrom w steps procs i j (proc x k ∷ items) =
-    (j < procs)
+unfoldable pub StoredFrom : (w : List ℕ) → Stored → (i j : ℕ) → List Item → Type 0
+StoredFrom w s i j [] = (i ≡ s.steps) × (j ≡ s.procs)
+StoredFrom w s i j (step x ∷ items) = (i < s.steps) × (step_at w i ≡ x) × StoredFrom w s (i + 1) j items
+StoredFrom w s i j (proc x k ∷ items) =
+    (j < s.procs)
     × (get_or w (proc_firsts_at + j) 0 ≡ i)
     × (get_or w (proc_lines_at + j) 0 ≡ k)
-    × StoredFrom w steps procs i (j + 1) items
+    × StoredFrom w s i (j + 1) items
 
 -- a procedure, or the root, is due at index i, behind j of the `proc` lines
-pub record LinesLeft (steps procs i j : ℕ) (w : List ℕ) : Type 0 where
-  pub room : RoomFor steps w
-  pub few : procs ≤ step_room
+pub record LinesLeft (s : Stored) (i j : ℕ) (w : List ℕ) : Type 0 where
   pub items : List Item
-  pub stored : StoredFrom w steps procs i j items
+  pub stored : StoredFrom w s i j items
 
 -- the body of the procedure that is due, and the lines behind it
 unfoldable pub body_due : (last i : ℕ) → List Item → Result (Expr × List Item) Refusal
@@ -89,13 +82,13 @@ body_due last i (step s ∷ items) = Err (ProgramLines s.line)
 body_due last i (proc x k ∷ items) = expression last i items
 
 -- where it ends, and what stands stored behind it, behind j of the `proc` lines
-abbrev pub BodyAnswer : (steps procs i j : ℕ) (w' : List ℕ) → Found → Result (Expr × List Item) Refusal → Type 0
-BodyAnswer steps procs i j w' r (Err x) = r ≡ Refused x
-BodyAnswer steps procs i j w' r (Ok (e, items)) =
-    (r ≡ At (i + size e)) × Region w' (ends_at + i) (ends i e) × StoredFrom w' steps procs (i + size e) j items
+abbrev pub BodyAnswer : Stored → (i j : ℕ) (w' : List ℕ) → Result ℕ Refusal → Result (Expr × List Item) Refusal → Type 0
+BodyAnswer s i j w' =
+    Answers (λ (b : Expr × List Item). i + size b.0)
+    (λ b. Region w' (ends_at + i) (ends i b.0) × StoredFrom w' s (i + size b.0) j b.1)
 
-pub record BodyFound (steps procs i j last : ℕ) (w w' : List ℕ) (r : Found) : Type 0 where
-  pub found : (items : List Item) → StoredFrom w steps procs i j items → BodyAnswer steps procs i (j + 1) w' r (body_due last i items)
+pub record BodyFound (s : Stored) (i j : ℕ) (w w' : List ℕ) (r : Result ℕ Refusal) : Type 0 where
+  pub found : (items : List Item) → StoredFrom w s i j items → BodyAnswer s i (j + 1) w' r (body_due s.last i items)
   pub changed : ChangedWithin (ends_at + i) (ends_at + step_room) w w'
 
 -- ------------------------------------------------------------------ all of them
@@ -105,12 +98,14 @@ unfoldable pub root_first : (i : ℕ) → List Procedure → ℕ
 root_first i [] = i
 root_first i (p ∷ ps) = root_first (i + size p.body) ps
 
-abbrev pub TreeAnswer : (w' : List ℕ) → Found → Result (List Procedure × Expr) Refusal → Type 0
-TreeAnswer w' r (Err x) = r ≡ Refused x
-TreeAnswer w' r (Ok (ps, root)) = (r ≡ At (root_first 0 ps)) × Region w' ends_at (all_ends 0 ps root)
+-- where the root begins, behind the procedures from index i on, and where the steps of them all end
+abbrev pub TreeAnswer : (w' : List ℕ) (i : ℕ) → Result ℕ Refusal → Result (List Procedure × Expr) Refusal → Type 0
+TreeAnswer w' i =
+    Answers (λ (t : List Procedure × Expr). root_first i t.0)
+    (λ t. Region w' (ends_at + i) (all_ends i t.0 t.1))
 
--- what the walk answers, for the lines that the work space holds; `last` is the last line read
-pub record Structured (steps procs count last : ℕ) (w w' : List ℕ) (r : Found) : Type 0 where
-  pub found : (items : List Item) → HoldsItems w items → length (steps_among items) ≡ steps → length (proc_rows 0 items) ≡ procs
-      → TreeAnswer w' r (structure last count 0 items)
+-- what the walk answers, for the lines that the work space holds
+pub record Structured (s : Stored) (count : ℕ) (w w' : List ℕ) (r : Result ℕ Refusal) : Type 0 where
+  pub found : (items : List Item) → HoldsItems w items → length (steps_among items) ≡ s.steps → length (proc_rows 0 items) ≡ s.procs
+      → TreeAnswer w' 0 r (structure s.last count 0 items)
   pub changed : ChangedWithin ends_at (ends_at + step_room) w w'

@@ -1,13 +1,13 @@
 -- What a step does to the machine, in five ways: a thread goes on, takes a call, makes a thing, spawns a thread, or joins one. The rows of the words
 -- stand here once; Kept and Books look at the five ways alone.
+use Rattle.std.proofs.Common.{Some, slice_get}
 use Prim.Native.Nat.{ℕ, suc}
 use mathlib.Core.Path.{◌≡◌, refl, ◌∙◌, subst}
 use mathlib.Core.Logic.{◌≢◌, ◌⊎◌, inl, inr}
 use mathlib.Core.Bool.{Bool, true, false}
-use mathlib.Core.Option.{some}
 use mathlib.Core.List.{List, [], ◌∷◌}
 use native.Mathlib.Omega.{arith}
-use lib.ListN.{get_elem?, set}
+use lib.ListN.{set}
 use Rattle.spec.specs.Expression.{Position, Expr}
 use Rattle.calculus.specs.Expression.{Value, name, Unary, join, ref, read, lock, unlock, post, wait, hold, call, Redex, unary_redex}
 use Rattle.calculus.specs.State.{Slot, unused, cell, rwlock, Part, first, second, update}
@@ -41,8 +41,8 @@ pub data After (M : Machine) (i tid : ℕ) (ps : List Path) (q : Path) (w : Rede
   })
   spawned : (n : ℕ) (b b' : Control) → effect w ≡ spawns → ControlOk b → ControlOk b' → Tells b ps → Tells b' [] →
       After M i tid ps q w (add_thread (running n b') (goes_to M i tid M.names b))
-  joined : (n j : ℕ) (u : MachineThread) (b : Control) → effect w ≡ joins → (traits w).joining ≡ some n → lowest n M.threads ≡ some j →
-      get_elem? M.threads j ≡ some u → ControlOk b → Tells b ps → After M i tid ps q w (mark_joined j u (goes_to M i tid M.names b))
+  joined : (n j : ℕ) (u : MachineThread) (b : Control) → effect w ≡ joins → (traits w).joining ≡ Some n → lowest n M.threads ≡ Some j →
+      slice_get M.threads j ≡ Some u → ControlOk b → Tells b ps → After M i tid ps q w (mark_joined j u (goes_to M i tid M.names b))
 
 -- ---- Names
 
@@ -58,7 +58,7 @@ module _ (M : Machine) (i tid : ℕ) (σ : Env) (K : List Frame) (kept : Kept M)
   abbrev Done : Redex → Machine → Type 0
   Done w N = After M i tid (paths K) (path_from K []) w N
 
-  told : {w : Redex} (N N' : Machine) → Done w N → some N ≡ some N' → Done w N'
+  told : {w : Redex} (N N' : Machine) → Done w N → Some N ≡ Some N' → Done w N'
   told {w} N N' h e = subst (Done w) (some_injective e) h
 
   module _ (B : Vars) (n : Nested B K) where
@@ -68,13 +68,13 @@ module _ (M : Machine) (i tid : ℕ) (σ : Env) (K : List Frame) (kept : Kept M)
     leaves_after : {w : Redex} (m : ℕ) (slot : Slot) → effect w ≡ plain → M.names m ≢ unused → Done w (leaves M i tid σ K m slot)
     leaves_after m slot e used = goes _ _ e (used_kept M.names M.next m slot kept.unused_from used) (returns zero_value) (return_tells σ zero_value K)
 
-    unary_after : (o : Unary) (v : Value) (N : Machine) → step_unary M i tid σ K o v ≡ some N → Done (unary_redex o v) N
+    unary_after : (o : Unary) (v : Value) (N : Machine) → step_unary M i tid σ K o v ≡ Some N → Done (unary_redex o v) N
     unfolding unary_traits traits
     unary_after join v N q =
         let (m, named, q₁) = bind_is_some (name_of v) q in
         let (_, _, q₂) = bind_is_some (if_identifier (M.names m)) q₁ in
         let (j, found, q₃) = bind_is_some (lowest m M.threads) q₂ in
-        let (u, there, q₄) = bind_is_some (get_elem? M.threads j) q₃ in
+        let (u, there, q₄) = bind_is_some (slice_get M.threads j) q₃ in
         told (mark_joined j u (gives M i tid σ K M.names zero_value)) N (joined m j u _ refl named found there (returns zero_value) (return_tells σ zero_value K)) q₄
     unary_after ref v N q = told (creates M i tid σ K (cell v)) N (made cells (cell v) _ refl (returns (name M.next)) (return_tells σ (name M.next) K)) q
     unary_after read v N q =
@@ -105,7 +105,7 @@ module _ (M : Machine) (i tid : ℕ) (σ : Env) (K : List Frame) (kept : Kept M)
         let (inside, _, q₃) = bind_is_some (inside_after p.0 w p.1) q₂ in
         told (leaves M i tid σ K m (rwlock p.0 inside)) N (leaves_after m (rwlock p.0 inside) refl (answer_means_used rw_state (M.names m) refl e)) q₃
     unary_after (call f) v N q =
-        let (p, there, q₁) = bind_is_some (get_elem? M.procedures f) q in
+        let (p, there, q₁) = bind_is_some (slice_get M.procedures f) q in
         told (goes_to M i tid M.names (enter (update zeros p.parameter v) p.body (mark_frame σ ∷ K))) N
         (called _ refl
         (enter_ok (update zeros p.parameter v) p.body (p.parameter ∷ []) (mark_frame σ ∷ K)
@@ -126,7 +126,7 @@ module _ (M : Machine) (i tid : ℕ) (σ : Env) (K : List Frame) (kept : Kept M)
   unrolled_tells second k e = return_tells σ zero_value K
 
   word_after : (c : Part) (w : Word) (N : Machine) → WordOk w → Nested (WordBinds w) K →
-      step_word M i tid σ K c w ≡ some N → Done (redex σ w) N
+      step_word M i tid σ K c w ≡ Some N → Done (redex σ w) N
   unfolding traits
   word_after c (let_word k x v e) N r n q =
       told _ N (goes M.names _ refl kept.unused_from
@@ -157,22 +157,22 @@ pub record Moved (M : Machine) (i : ℕ) (N : Machine) : Type 0 where
   pub thread : MachineThread
   pub live_there : LiveAt M.threads i thread
   pub word : Redex
-  pub was_next : next_redex thread.control ≡ some word
+  pub was_next : next_redex thread.control ≡ Some word
   pub after : After M i thread.tid (call_paths thread.control) (word_path thread.control) word N
 
-control_after : (M : Machine) (i : ℕ) (c : Part) (tid : ℕ) (b : Control) (N : Machine) → Kept M → ControlOk b → step_control M i c tid b ≡ some N →
-    (w : Redex) × (next_redex b ≡ some w) × After M i tid (call_paths b) (word_path b) w N
+control_after : (M : Machine) (i : ℕ) (c : Part) (tid : ℕ) (b : Control) (N : Machine) → Kept M → ControlOk b → step_control M i c tid b ≡ Some N →
+    (w : Redex) × (next_redex b ≡ Some w) × After M i tid (call_paths b) (word_path b) w N
 control_after M i c tid (done v) N kept ok q = none_is_not_some q
 control_after M i c tid (at σ w K) N kept ok q =
     (redex σ w, refl, word_after M i tid σ K kept c w N ok.0 ok.1 q)
 
-thread_after : (M : Machine) (i : ℕ) (c : Part) (t : MachineThread) (j : Bool) (N : Machine) → Kept M → get_elem? M.threads i ≡ some t → t.joined ≡ j →
-    step_thread M i c t j ≡ some N → Moved M i N
+thread_after : (M : Machine) (i : ℕ) (c : Part) (t : MachineThread) (j : Bool) (N : Machine) → Kept M → slice_get M.threads i ≡ Some t → t.joined ≡ j →
+    step_thread M i c t j ≡ Some N → Moved M i N
 thread_after M i c t true N kept there e q = none_is_not_some q
 thread_after M i c t false N kept there e q =
     let (w, next, after) = control_after M i c t.tid t.control N kept (every_at ThreadKept M.threads i t kept.threads_kept there) q in
     record { thread = t; live_there = record { there = there; not_joined = e }; word = w; was_next = next; after = after }
 
-pub step_moves : (M : Machine) (i : ℕ) (c : Part) (N : Machine) → Kept M → step M i c ≡ some N → Moved M i N
+pub step_moves : (M : Machine) (i : ℕ) (c : Part) (N : Machine) → Kept M → step M i c ≡ Some N → Moved M i N
 unfolding step
-step_moves M i c N kept q = let (t, e, q₁) = bind_is_some (get_elem? M.threads i) q in thread_after M i c t t.joined N kept e refl q₁
+step_moves M i c N kept q = let (t, e, q₁) = bind_is_some (slice_get M.threads i) q in thread_after M i c t t.joined N kept e refl q₁

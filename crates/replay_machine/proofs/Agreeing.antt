@@ -1,9 +1,9 @@
 -- Environments that agree on what an expression uses give the same expression; so a new value changes no frame that does not use its variable.
+use Rattle.std.proofs.Common.{Option, None, Some}
 use Prim.Native.Nat.{ℕ}
 use mathlib.Core.Path.{◌≡◌, refl, sym, ◌∙◌, ap}
 use mathlib.Core.Logic.{inl}
 use mathlib.Core.Bool.{Bool, true, false, ◌||◌}
-use mathlib.Core.Option.{Option, none, some}
 use mathlib.Core.List.{List, [], ◌∷◌}
 use native.Mathlib.Decide.{ℕ_discrete}
 use lib.Dec.{eqb}
@@ -38,7 +38,7 @@ hidden_agree I ρ ρ' x h y m = by_cases (ℕ_discrete y x)
     elsewhere true n q = absurd (n refl)
     elsewhere false n q = q
 
-    by_cases : (d : Dec (y ≡ x)) → choose d none (ρ y) ≡ choose d none (ρ' y)
+    by_cases : (d : Dec (y ≡ x)) → choose d None (ρ y) ≡ choose d None (ρ' y)
     by_cases (yes p) = refl
     by_cases (no n) = h y (elsewhere (eqb y x) (λ q. n (eqb-true y x q)) m)
 
@@ -82,7 +82,7 @@ module _ (σ : Env) (x : ℕ) (v : Value) where
 
   -- x is not in scope, so nothing in scope changes.
   unchanged : (I : List ℕ) → among x I ≡ false → AgreeOn I (all σ) (all σ')
-  unchanged I n y m = ap some (sym (update_other σ x y v (λ q. true_is_not_false (sym m ∙ ap (λ (z : ℕ). among z I) q ∙ n))))
+  unchanged I n y m = ap Some (sym (update_other σ x y v (λ q. true_is_not_false (sym m ∙ ap (λ (z : ℕ). among z I) q ∙ n))))
 
   rest_agrees : {B : Vars} (e : Expr) → B x → Rest B e → closed σ e ≡ closed σ' e
   rest_agrees e b ok = close_agree ok.fits.count e ok.scope (all σ) (all σ') ok.fits.used (unchanged ok.scope (ok.outside x b))

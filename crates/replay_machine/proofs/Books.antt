@@ -1,13 +1,13 @@
 -- The run that a replay on the machine stands for, and why a line does the same to both.
+use Rattle.std.proofs.Common.{Option, None, Some, option_map, slice_get}
 use Prim.Native.Nat.{ℕ, zero, suc, ◌+◌, ◌<◌}
 use mathlib.Core.Path.{◌≡◌, refl, sym, ◌∙◌, ap}
 use mathlib.Core.Logic.{◌≢◌}
 use mathlib.Core.Bool.{Bool, true, false, not, ◌&&◌}
-use mathlib.Core.Option.{Option, none, some, map}
 use mathlib.Core.List.{List, [], ◌∷◌}
 use native.Mathlib.Omega.{arith}
 use lib.Dec.{eqb}
-use lib.ListN.{get_elem?, set, length}
+use lib.ListN.{set, length}
 use borrow.Author.Tests.{eq-eqb, ne_eqb}
 use Rattle.spec.specs.Choice.{when◌then◌else◌}
 use Rattle.spec.proofs.Clashes.{true_is_not_false}
@@ -46,56 +46,56 @@ run_of R = record {
 
 -- ---- The place of a thread
 
-other_number : (i j : ℕ) (ns : List ℕ) → i ≢ j → place_of i (j ∷ ns) ≡ map suc (place_of i ns)
+other_number : (i j : ℕ) (ns : List ℕ) → i ≢ j → place_of i (j ∷ ns) ≡ option_map suc (place_of i ns)
 unfolding place_of
-other_number i j ns d = ap (λ (b : Bool). when b then some 0 else map suc (place_of i ns)) (ne_eqb i j d)
+other_number i j ns d = ap (λ (b : Bool). when b then Some 0 else option_map suc (place_of i ns)) (ne_eqb i j d)
 
-same_number : (i j : ℕ) (ns : List ℕ) → i ≡ j → place_of i (j ∷ ns) ≡ some 0
+same_number : (i j : ℕ) (ns : List ℕ) → i ≡ j → place_of i (j ∷ ns) ≡ Some 0
 unfolding place_of
-same_number i j ns e = ap (λ (b : Bool). when b then some 0 else map suc (place_of i ns)) (eq-eqb i j e)
+same_number i j ns e = ap (λ (b : Bool). when b then Some 0 else option_map suc (place_of i ns)) (eq-eqb i j e)
 
-pub place_of_live : (ts : List MachineThread) (k i : ℕ) (t : MachineThread) → LiveAt ts i t → place_of (k + i) (numbers_from k ts) ≡ some (rank ts i)
+pub place_of_live : (ts : List MachineThread) (k i : ℕ) (t : MachineThread) → LiveAt ts i t → place_of (k + i) (numbers_from k ts) ≡ Some (rank ts i)
 place_of_live [] k i t h = none_is_not_some h.there
 place_of_live (u ∷ ts) k zero t h = by_cases u.joined (ap (λ (x : MachineThread). x.joined) (some_injective h.there) ∙ h.not_joined)
   where
-    by_cases : (b : Bool) → b ≡ false → place_of (k + 0) (unless b (λ l. k ∷ l) (numbers_from (suc k) ts)) ≡ some 0
+    by_cases : (b : Bool) → b ≡ false → place_of (k + 0) (unless b (λ l. k ∷ l) (numbers_from (suc k) ts)) ≡ Some 0
     by_cases true q = true_is_not_false q
     by_cases false q = same_number (k + 0) k (numbers_from (suc k) ts) (omega arith)
 place_of_live (u ∷ ts) k (suc i) t h =
     by_cases u.joined (ap (λ (n : ℕ). place_of n (numbers_from (suc k) ts)) (omega arith)
     ∙ place_of_live ts (suc k) i t (record { there = h.there; not_joined = h.not_joined }))
   where
-    by_cases : (b : Bool) → place_of (k + suc i) (numbers_from (suc k) ts) ≡ some (rank ts i) →
-        place_of (k + suc i) (unless b (λ l. k ∷ l) (numbers_from (suc k) ts)) ≡ some (unless b suc (rank ts i))
+    by_cases : (b : Bool) → place_of (k + suc i) (numbers_from (suc k) ts) ≡ Some (rank ts i) →
+        place_of (k + suc i) (unless b (λ l. k ∷ l) (numbers_from (suc k) ts)) ≡ Some (unless b suc (rank ts i))
     by_cases true q = q
-    by_cases false q = other_number (k + suc i) k (numbers_from (suc k) ts) (λ e. omega (arith, e)) ∙ ap (map suc) q
+    by_cases false q = other_number (k + suc i) k (numbers_from (suc k) ts) (λ e. omega (arith, e)) ∙ ap (option_map suc) q
 
-no_place_below : (ts : List MachineThread) (k i : ℕ) → i < k → place_of i (numbers_from k ts) ≡ none
+no_place_below : (ts : List MachineThread) (k i : ℕ) → i < k → place_of i (numbers_from k ts) ≡ None
 unfolding place_of
 no_place_below [] k i h = refl
 no_place_below (u ∷ ts) k i h = by_cases u.joined (no_place_below ts (suc k) i (omega (arith, h)))
   where
-    by_cases : (b : Bool) → place_of i (numbers_from (suc k) ts) ≡ none → place_of i (unless b (λ l. k ∷ l) (numbers_from (suc k) ts)) ≡ none
+    by_cases : (b : Bool) → place_of i (numbers_from (suc k) ts) ≡ None → place_of i (unless b (λ l. k ∷ l) (numbers_from (suc k) ts)) ≡ None
     by_cases true q = q
-    by_cases false q = other_number i k (numbers_from (suc k) ts) (λ e. omega (arith, e, h)) ∙ ap (map suc) q
+    by_cases false q = other_number i k (numbers_from (suc k) ts) (λ e. omega (arith, e, h)) ∙ ap (option_map suc) q
 
 -- A thread that is not there, or is joined, has no place.
-pub no_place : (ts : List MachineThread) (k i : ℕ) → ((t : MachineThread) → get_elem? ts i ≡ some t → t.joined ≡ true) →
-    place_of (k + i) (numbers_from k ts) ≡ none
+pub no_place : (ts : List MachineThread) (k i : ℕ) → ((t : MachineThread) → slice_get ts i ≡ Some t → t.joined ≡ true) →
+    place_of (k + i) (numbers_from k ts) ≡ None
 unfolding place_of
 no_place [] k i h = refl
 no_place (u ∷ ts) k zero h = by_cases u.joined (h u refl)
   where
-    by_cases : (b : Bool) → b ≡ true → place_of (k + 0) (unless b (λ l. k ∷ l) (numbers_from (suc k) ts)) ≡ none
+    by_cases : (b : Bool) → b ≡ true → place_of (k + 0) (unless b (λ l. k ∷ l) (numbers_from (suc k) ts)) ≡ None
     by_cases true q = no_place_below ts (suc k) (k + 0) (omega arith)
     by_cases false q = true_is_not_false (sym q)
 no_place (u ∷ ts) k (suc i) h =
     by_cases u.joined (ap (λ (n : ℕ). place_of n (numbers_from (suc k) ts)) (omega arith) ∙ no_place ts (suc k) i h)
   where
-    by_cases : (b : Bool) → place_of (k + suc i) (numbers_from (suc k) ts) ≡ none →
-        place_of (k + suc i) (unless b (λ l. k ∷ l) (numbers_from (suc k) ts)) ≡ none
+    by_cases : (b : Bool) → place_of (k + suc i) (numbers_from (suc k) ts) ≡ None →
+        place_of (k + suc i) (unless b (λ l. k ∷ l) (numbers_from (suc k) ts)) ≡ None
     by_cases true q = q
-    by_cases false q = other_number (k + suc i) k (numbers_from (suc k) ts) (λ e. omega (arith, e)) ∙ ap (map suc) q
+    by_cases false q = other_number (k + suc i) k (numbers_from (suc k) ts) (λ e. omega (arith, e)) ∙ ap (option_map suc) q
 
 -- ---- The lowest finished thread
 
@@ -105,7 +105,7 @@ finished_decoded (done v) = refl
 finished_decoded (at σ w K) = ap has_finished (next_decoded σ w K)
 
 -- It stands at the first place of a finished thread with that identifier.
-pub lowest_is_first : (ts : List MachineThread) (k n j : ℕ) → lowest n ts ≡ some j → lowest_finished n (of_live (λ i t. decode_thread t) k ts) ≡ rank ts j
+pub lowest_is_first : (ts : List MachineThread) (k n j : ℕ) → lowest n ts ≡ Some j → lowest_finished n (of_live (λ i t. decode_thread t) k ts) ≡ rank ts j
 unfolding lowest lowest_finished
 lowest_is_first [] k n j h = none_is_not_some h
 lowest_is_first (t ∷ ts) k n j h =
@@ -120,15 +120,15 @@ lowest_is_first (t ∷ ts) k n j h =
     asked = eqb t.tid n && has_finished (next_word (decode t.control))
 
     Later : Type 0
-    Later = (m : ℕ) → lowest n ts ≡ some m → lowest_finished n rest ≡ rank ts m
+    Later = (m : ℕ) → lowest n ts ≡ Some m → lowest_finished n rest ≡ rank ts m
 
-    past : (b : Bool) (o : Option ℕ) → lowest n ts ≡ o → t.joined ≡ b → Later → map suc o ≡ some j →
+    past : (b : Bool) (o : Option ℕ) → lowest n ts ≡ o → t.joined ≡ b → Later → option_map suc o ≡ Some j →
         unless b suc (lowest_finished n rest) ≡ rank (t ∷ ts) j
-    past b none e is later z = none_is_not_some z
-    past b (some m) e is later z =
+    past b None e is later z = none_is_not_some z
+    past b (Some m) e is later z =
         ap (unless b suc) (later m e) ∙ ap (λ (c : Bool). unless c suc (rank ts m)) (sym is) ∙ ap (rank (t ∷ ts)) (some_injective z)
 
-    by_cases : (b c : Bool) → t.joined ≡ b → asked ≡ c → first_or (not b && c) (lowest n ts) ≡ some j → Later →
+    by_cases : (b c : Bool) → t.joined ≡ b → asked ≡ c → first_or (not b && c) (lowest n ts) ≡ Some j → Later →
         lowest_finished n (unless b (λ l. decode_thread t ∷ l) rest) ≡ rank (t ∷ ts) j
     by_cases true c is q z later = past true (lowest n ts) refl is later z
     by_cases false true is q z later =
@@ -157,7 +157,7 @@ uses_alike names (t ∷ ts) k = by_cases t.joined (uses_alike names ts (suc k))
 
 -- ---- What a step does to the numbers
 
-pub set_to_same : {A : Type 0} (xs : List A) (p : ℕ) (a : A) → get_elem? xs p ≡ some a → set xs p a ≡ xs
+pub set_to_same : {A : Type 0} (xs : List A) (p : ℕ) (a : A) → slice_get xs p ≡ Some a → set xs p a ≡ xs
 set_to_same [] p a h = refl
 set_to_same (x ∷ xs) zero a h = ap (λ y. y ∷ xs) (sym (some_injective h))
 set_to_same (x ∷ xs) (suc p) a h = ap (λ l. x ∷ l) (set_to_same xs p a h)

@@ -1,8 +1,8 @@
 -- Putting a value for a variable is one more entry of the environment.
+use Rattle.std.proofs.Common.{Option, None, Some}
 use Prim.Native.Nat.{ℕ}
 use mathlib.Core.Path.{◌≡◌, refl, sym, ◌∙◌, ap, fun_ext}
 use mathlib.Core.Logic.{◌≢◌}
-use mathlib.Core.Option.{Option, none, some}
 use native.Mathlib.Decide.{ℕ_discrete}
 use Rattle.spec.specs.Expression.{Expr}
 use Rattle.calculus.specs.Expression.{Value, Exp, value, var, let_in, if, while, spawn, write, unary, nullary, choose, substitute}
@@ -14,8 +14,8 @@ use Rattle.replay_machine.specs.Environment.{Env, PartialEnv, all, hide, value_o
 -- ---- A value for a variable that may have one: the first one stays
 
 abbrev or_bound : Option Value → Value → Option Value
-or_bound (some w) v = some w
-or_bound none v = some v
+or_bound (Some w) v = Some w
+or_bound None v = Some v
 
 abbrev put : PartialEnv → ℕ → Value → PartialEnv
 put ρ x v = update ρ x (or_bound (ρ x) v)
@@ -32,14 +32,14 @@ put_variable : (ρ : PartialEnv) (x : ℕ) (v : Value) (y : ℕ) → substitute 
 put_variable ρ x v y = by_cases (ρ y) (ρ x) (ℕ_discrete y x) (λ p. ap ρ p)
   where
     by_cases : (o p : Option Value) (d : Dec (y ≡ x)) → (y ≡ x → o ≡ p) → substitute x v (value_or o y) ≡ value_or (choose d (or_bound p v) o) y
-    by_cases (some w) p (yes q) h = ap (λ (z : Option Value). value_or (or_bound z v) y) (h q)
-    by_cases none p (yes q) h = chosen (ℕ_discrete y x) ∙ ap (λ (z : Option Value). value_or (or_bound z v) y) (h q)
+    by_cases (Some w) p (yes q) h = ap (λ (z : Option Value). value_or (or_bound z v) y) (h q)
+    by_cases None p (yes q) h = chosen (ℕ_discrete y x) ∙ ap (λ (z : Option Value). value_or (or_bound z v) y) (h q)
       where
         chosen : (d : Dec (y ≡ x)) → choose d (value v) (var y) ≡ value v
         chosen (yes r) = refl
         chosen (no r) = absurd (r q)
-    by_cases (some w) p (no q) h = refl
-    by_cases none p (no q) h = chosen (ℕ_discrete y x)
+    by_cases (Some w) p (no q) h = refl
+    by_cases None p (no q) h = chosen (ℕ_discrete y x)
       where
         chosen : (d : Dec (y ≡ x)) → choose d (value v) (var y) ≡ var y
         chosen (yes r) = absurd (q r)
@@ -48,14 +48,14 @@ put_variable ρ x v y = by_cases (ρ y) (ρ x) (ℕ_discrete y x) (λ p. ap ρ p
 -- A `let` of another variable does not hide what is put.
 put_apart : (ρ : PartialEnv) (x y : ℕ) (v : Value) → y ≢ x → put (hide ρ y) x v ≡ hide (put ρ x v) y
 put_apart ρ x y v d =
-    ap (λ (o : Option Value). update (hide ρ y) x (or_bound o v)) (update_other ρ y x none (λ q. d (sym q))) ∙ updates_swap ρ y x none (or_bound (ρ x) v) d
+    ap (λ (o : Option Value). update (hide ρ y) x (or_bound o v)) (update_other ρ y x None (λ q. d (sym q))) ∙ updates_swap ρ y x None (or_bound (ρ x) v) d
 
 -- The e2 of a `let` of y: of x itself, it keeps what it has; of another variable, x is put in it.
 put_in_scope : (ρ : PartialEnv) (x y : ℕ) (v : Value) (e : Exp) (d : Dec (y ≡ x)) →
     substitute x v (close (hide ρ y) e) ≡ close (put (hide ρ y) x v) e →
     choose d (close (hide ρ y) e) (substitute x v (close (hide ρ y) e)) ≡ close (hide (put ρ x v) y) e
 put_in_scope ρ x y v e (yes p) h =
-    ap (λ (σ : PartialEnv). close σ e) (ap (hide ρ) p ∙ sym (update_twice ρ x (or_bound (ρ x) v) none) ∙ ap (hide (put ρ x v)) (sym p))
+    ap (λ (σ : PartialEnv). close σ e) (ap (hide ρ) p ∙ sym (update_twice ρ x (or_bound (ρ x) v) None) ∙ ap (hide (put ρ x v)) (sym p))
 put_in_scope ρ x y v e (no d) h = h ∙ ap (λ (σ : PartialEnv). close σ e) (put_apart ρ x y v d)
 
 -- e[v/x] of an expression with an environment's values put in it.
@@ -77,32 +77,32 @@ substitute_put (nullary o) ρ x v = refl
 pub substitute_hidden : (e : Expr) (σ : Env) (x : ℕ) (v : Value) → substitute x v (closed_under σ x e) ≡ closed (update σ x v) e
 substitute_hidden e σ x v = substitute_put (erase e) (hide (all σ) x) x v ∙ ap (λ (ρ : PartialEnv). close ρ (erase e)) bound
   where
-    chosen : (y : ℕ) (d : Dec (y ≡ x)) → ◌≡◌ {A = Option Value} (choose d (some v) (choose d none (some (σ y)))) (some (choose d v (σ y)))
+    chosen : (y : ℕ) (d : Dec (y ≡ x)) → ◌≡◌ {A = Option Value} (choose d (Some v) (choose d None (Some (σ y)))) (Some (choose d v (σ y)))
     chosen y (yes p) = refl
     chosen y (no p) = refl
 
     bound : put (hide (all σ) x) x v ≡ all (update σ x v)
     bound =
-        ap (λ (o : Option Value). update (hide (all σ) x) x (or_bound o v)) (update_same (all σ) x none)
+        ap (λ (o : Option Value). update (hide (all σ) x) x (or_bound o v)) (update_same (all σ) x None)
         ∙ (fun_ext λ y. chosen y (ℕ_discrete y x))
 
 -- No variable is left for a value to be put for.
 pub substitute_closed : (e : Expr) (σ : Env) (x : ℕ) (v : Value) → substitute x v (closed σ e) ≡ closed σ e
 substitute_closed e σ x v = substitute_put (erase e) (all σ) x v ∙ ap (λ (ρ : PartialEnv). close ρ (erase e)) (fun_ext λ y. stays y (ℕ_discrete y x))
   where
-    stays : (y : ℕ) (d : Dec (y ≡ x)) → ◌≡◌ {A = Option Value} (choose d (some (σ x)) (some (σ y))) (some (σ y))
-    stays y (yes p) = ap (λ (z : ℕ). some (σ z)) (sym p)
+    stays : (y : ℕ) (d : Dec (y ≡ x)) → ◌≡◌ {A = Option Value} (choose d (Some (σ x)) (Some (σ y))) (Some (σ y))
+    stays y (yes p) = ap (λ (z : ℕ). Some (σ z)) (sym p)
     stays y (no p) = refl
 
 -- ---- No environment
 
 abbrev pub no_values : PartialEnv
-no_values x = none
+no_values x = None
 
 pub hide_none : (x : ℕ) → hide no_values x ≡ no_values
 hide_none x = fun_ext λ y. none_chosen (ℕ_discrete y x)
   where
-    none_chosen : {P : Type 0} (d : Dec P) → ◌≡◌ {A = Option Value} (choose d none none) none
+    none_chosen : {P : Type 0} (d : Dec P) → ◌≡◌ {A = Option Value} (choose d None None) None
     none_chosen (yes p) = refl
     none_chosen (no p) = refl
 

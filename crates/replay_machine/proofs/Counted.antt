@@ -1,12 +1,12 @@
 -- Every line that is done keeps what Counted says, and what it says bounds the threads and the names.
+use Rattle.std.proofs.Common.{Some, slice_get}
 use Prim.Native.Nat.{ℕ, zero, suc, ◌≤◌}
 use mathlib.Core.Path.{◌≡◌, refl, sym, ◌∙◌, ap, subst}
 use mathlib.Core.Bool.{true, ◌&&◌}
-use mathlib.Core.Option.{some}
 use mathlib.Core.List.{List, [], ◌∷◌}
 use native.Mathlib.Omega.{arith}
 use lib.Dec.{leb}
-use lib.ListN.{get_elem?, length}
+use lib.ListN.{length}
 use borrow.Author.Tests.{leb-true}
 use Rattle.spec.specs.Program.{Program}
 use Rattle.spec.specs.WellFormed.{WellFormedProgram}
@@ -40,7 +40,7 @@ names_grow M N i tid ps q w things h (made k new b e ok tells) =
 names_grow M N i tid ps q w things h (spawned n b b' e ok ok' tells tells') = h ∙ ap (λ (f : Effect). next_name (things_after f things)) (sym e)
 names_grow M N i tid ps q w things h (joined n j u b e named found there ok tells) = h ∙ ap (λ (f : Effect). next_name (things_after f things)) (sym e)
 
-pub stepped_counted : (R R' : Replay) (l : TraceLine) → Counted R → stepped R l ≡ some R' → within R' ≡ true → Counted R'
+pub stepped_counted : (R R' : Replay) (l : TraceLine) → Counted R → stepped R l ≡ Some R' → within R' ≡ true → Counted R'
 stepped_counted R R' l C q limited =
     let S = step_taken R R' l C.kept q in
     let D = S.moved in
@@ -91,7 +91,7 @@ counted_limits R C =
     limits_tell (length R.machine.threads) R.things
     (both_true (within_limits (length R.machine.threads) R.things) (counts_within (calls_in R.machine)) C.limited).0
 
-counts_tell : (ns : List ℕ) (p n : ℕ) → counts_within ns ≡ true → get_elem? ns p ≡ some n → n ≤ 64
+counts_tell : (ns : List ℕ) (p n : ℕ) → counts_within ns ≡ true → slice_get ns p ≡ Some n → n ≤ 64
 unfolding counts_within call_limit
 counts_tell [] p n h q = none_is_not_some q
 counts_tell (k ∷ ns) zero n h q =

@@ -1,12 +1,11 @@
 -- A step of the machine is a step of the calculus, both when it can be taken and when it cannot.
+use Rattle.std.proofs.Common.{Option, None, Some, slice_get, option_map}
 use Prim.Native.Nat.{ℕ, zero, suc}
 use mathlib.Core.Path.{◌≡◌, refl, sym, ◌∙◌, ap}
 use mathlib.Core.Logic.{◌≢◌, ◌⊎◌, inl}
 use mathlib.Core.Bool.{Bool, false}
-use mathlib.Core.Option
-use mathlib.Core.Option.{Option, none, some}
 use mathlib.Core.List.{List, [], ◌∷◌, ◌++◌, map}
-use lib.ListN.{get_elem?, set}
+use lib.ListN.{set}
 use Rattle.spec.specs.Expression as sheet
 use Rattle.spec.specs.Expression.{Position, Expr}
 use Rattle.calculus.specs.Expression.{Value, int, name, Unary, join, ref, read, lock, unlock, post, wait, hold, call, Exp, value, let_in, while, Redex, next_word, plug, substitute, Procedure}
@@ -30,8 +29,8 @@ use Rattle.replay_machine.proofs.Agreeing.{argument_put_lem, fill_agree}
 use Rattle.replay_machine.proofs.Places.{LiveAt, live_at, live_set, live_join, live_append, rank_set}
 use Rattle.replay_machine.proofs.Joining.{JoinableAt, lowest_found, joiner_is_another, no_join}
 
-ask : {A : Type 0} (o : Option A) (f : A → Option State) (g : A → Option Machine) → ((a : A) → f a ≡ Option.map decode_state (g a)) →
-    (o >>= f) ≡ Option.map decode_state (o >>= g)
+ask : {A : Type 0} (o : Option A) (f : A → Option State) (g : A → Option Machine) → ((a : A) → f a ≡ option_map decode_state (g a)) →
+    (o >>= f) ≡ option_map decode_state (o >>= g)
 ask o f g alike = asks decode_state o f g (λ a _. alike a)
 
 state_is : {ts us : List Thread} (f : ℕ → Slot) → ts ≡ us → ◌≡◌ {A = State} (record { threads = ts; names = f }) (record { threads = us; names = f })
@@ -41,7 +40,7 @@ state_is f h = ap (λ (l : List Thread). record { threads = l; names = f }) h
 
 -- Thread i is at that word, and not joined.
 abbrev pub AtWord : Machine → ℕ → ℕ → Env → Word → List Frame → Type 0
-AtWord M i tid σ w K = get_elem? M.threads i ≡ some (running tid (at σ w K))
+AtWord M i tid σ w K = slice_get M.threads i ≡ Some (running tid (at σ w K))
 
 module _ (M : Machine) (i tid : ℕ) (σ : Env) (w : Word) (K : List Frame) (here : AtWord M i tid σ w K) (m : Move)
     (placed : m.thread ≡ rank M.threads i) where
@@ -60,30 +59,30 @@ module _ (M : Machine) (i tid : ℕ) (σ : Env) (w : Word) (K : List Frame) (her
       ∙ sym (live_set (λ i t. decode_thread t) M.threads 0 i (running tid (at σ w K)) (running tid b) live_here refl)
 
   goes_on : (names : ℕ → Slot) (b : Control) (e : Exp) → decode b ≡ fill σ K e →
-      some (becomes (decode_state M) m thread names e) ≡ some (decode_state (goes_to M i tid names b))
-  goes_on names b e h = ap some (state_is names (threads_go_on b e h))
+      Some (becomes (decode_state M) m thread names e) ≡ Some (decode_state (goes_to M i tid names b))
+  goes_on names b e h = ap Some (state_is names (threads_go_on b e h))
 
   gives_alike : (names : ℕ → Slot) (v : Value) →
-      some (becomes (decode_state M) m thread names (value v)) ≡ some (decode_state (gives M i tid σ K names v))
+      Some (becomes (decode_state M) m thread names (value v)) ≡ Some (decode_state (gives M i tid σ K names v))
   gives_alike names v = goes_on names (return σ v K) (value v) (return_keeps σ v K)
 
   enters_alike : (e : Expr) (E : Exp) → closed σ e ≡ E →
-      some (becomes (decode_state M) m thread M.names E) ≡ some (decode_state (goes_to M i tid M.names (enter σ e K)))
+      Some (becomes (decode_state M) m thread M.names E) ≡ Some (decode_state (goes_to M i tid M.names (enter σ e K)))
   enters_alike e E h = goes_on M.names (enter σ e K) E (enter_keeps σ e K ∙ ap (fill σ K) h)
 
   -- A new thing.
   makes_alike : m.fresh ≡ M.next → M.names M.next ≡ unused → (new : Slot) →
-      named (decode_state M) m thread new ≡ some (decode_state (creates M i tid σ K new))
+      named (decode_state M) m thread new ≡ Some (decode_state (creates M i tid σ K new))
   makes_alike fresh free new =
-      ap (λ (n : ℕ). if_unused (M.names n) >> some (becomes (decode_state M) m thread (update M.names n new) (value (name n)))) fresh
-      ∙ ap (λ (sl : Slot). if_unused sl >> some (becomes (decode_state M) m thread (update M.names M.next new) (value (name M.next)))) free
+      ap (λ (n : ℕ). if_unused (M.names n) >> Some (becomes (decode_state M) m thread (update M.names n new) (value (name n)))) fresh
+      ∙ ap (λ (sl : Slot). if_unused sl >> Some (becomes (decode_state M) m thread (update M.names M.next new) (value (name M.next)))) free
       ∙ gives_alike (update M.names M.next new) (name M.next)
 
   -- A new thread stands last.
   spawns_alike : (e : Expr) (n : ℕ) →
-      some (with_thread (record { tid = n; body = closed σ e }) (becomes (decode_state M) m thread M.names zero_exp))
-      ≡ some (decode_state (add_thread (running n (enter σ e [])) (gives M i tid σ K M.names zero_value)))
-  spawns_alike e n = ap some (state_is M.names (
+      Some (with_thread (record { tid = n; body = closed σ e }) (becomes (decode_state M) m thread M.names zero_exp))
+      ≡ Some (decode_state (add_thread (running n (enter σ e [])) (gives M i tid σ K M.names zero_value)))
+  spawns_alike e n = ap Some (state_is M.names (
       ap (λ (l : List Thread). l ++ (record { tid = n; body = closed σ e } ∷ [])) (threads_go_on (return σ zero_value K) zero_exp (return_keeps σ zero_value K))
       ∙ ap (λ (d : Exp). live after ++ (record { tid = n; body = d } ∷ [])) (sym (enter_keeps σ e []))
       ∙ sym (live_append (λ i t. decode_thread t) after 0 (running n (enter σ e [])) refl)))
@@ -94,7 +93,7 @@ module _ (M : Machine) (i tid : ℕ) (σ : Env) (w : Word) (K : List Frame) (her
   -- ---- Join
 
   abbrev joins : (n : ℕ) → Option Machine
-  joins n = lowest n M.threads >>= λ j. get_elem? M.threads j >>= λ u. some (mark_joined j u (gives M i tid σ K M.names zero_value))
+  joins n = lowest n M.threads >>= λ j. slice_get M.threads j >>= λ u. Some (mark_joined j u (gives M i tid σ K M.names zero_value))
 
   abbrev joined_at : (p : ℕ) → State
   joined_at p = without_thread p (becomes (decode_state M) m thread M.names zero_exp)
@@ -120,35 +119,35 @@ module _ (M : Machine) (i tid : ℕ) (σ : Env) (w : Word) (K : List Frame) (her
       apart : i ≢ j
       apart = joiner_is_another n ts i j (running tid (at σ w K)) here refl L
 
-  joins_alike : (n : ℕ) → ((j : ℕ) → lowest n M.threads ≡ some j → m.finished ≡ rank M.threads j) →
-      (get_elem? (live M.threads) m.finished >>= λ u. if_equal u.tid n >> (value_of (next_word u.body) >> some (joined_at m.finished)))
-      ≡ Option.map decode_state (joins n)
+  joins_alike : (n : ℕ) → ((j : ℕ) → lowest n M.threads ≡ Some j → m.finished ≡ rank M.threads j) →
+      (slice_get (live M.threads) m.finished >>= λ u. if_equal u.tid n >> (value_of (next_word u.body) >> Some (joined_at m.finished)))
+      ≡ option_map decode_state (joins n)
   joins_alike n listed = by_cases (lowest n M.threads) refl
     where
       asked : (p : ℕ) → Thread → Option State
-      asked p u = if_equal u.tid n >> (value_of (next_word u.body) >> some (joined_at p))
+      asked p u = if_equal u.tid n >> (value_of (next_word u.body) >> Some (joined_at p))
 
-      by_cases : (o : Option ℕ) → lowest n M.threads ≡ o → (get_elem? (live M.threads) m.finished >>= asked m.finished)
-          ≡ Option.map decode_state (o >>= λ j. get_elem? M.threads j >>= λ u. some (mark_joined j u (gives M i tid σ K M.names zero_value)))
-      by_cases none q = no_join M.threads n m.finished (some (joined_at m.finished)) q
-      by_cases (some j) q =
+      by_cases : (o : Option ℕ) → lowest n M.threads ≡ o → (slice_get (live M.threads) m.finished >>= asked m.finished)
+          ≡ option_map decode_state (o >>= λ j. slice_get M.threads j >>= λ u. Some (mark_joined j u (gives M i tid σ K M.names zero_value)))
+      by_cases None q = no_join M.threads n m.finished (Some (joined_at m.finished)) q
+      by_cases (Some j) q =
           let L = lowest_found n M.threads j q in
-          ap (λ (p : ℕ). get_elem? (live M.threads) p >>= asked p) (listed j q)
+          ap (λ (p : ℕ). slice_get (live M.threads) p >>= asked p) (listed j q)
           ∙ ap (λ (o : Option Thread). o >>= asked (rank M.threads j))
           (live_at (λ i t. decode_thread t) M.threads 0 j L.thread (record { there = L.there; not_joined = L.can.not_joined }))
-          ∙ ap (λ (o : Option (Unit {0})). o >> (value_of (next_word (decode L.thread.control)) >> some (joined_at (rank M.threads j))))
+          ∙ ap (λ (o : Option (Unit {0})). o >> (value_of (next_word (decode L.thread.control)) >> Some (joined_at (rank M.threads j))))
           (equal_complete L.thread.tid n L.can.same)
-          ∙ ap (λ (b : Control). value_of (next_word (decode b)) >> some (joined_at (rank M.threads j))) L.can.finished
-          ∙ ap some (joined_leaves n j L)
-          ∙ sym (ap (λ (o : Option MachineThread). Option.map decode_state (o >>= λ u. some (mark_joined j u (gives M i tid σ K M.names zero_value)))) L.there)
+          ∙ ap (λ (b : Control). value_of (next_word (decode b)) >> Some (joined_at (rank M.threads j))) L.can.finished
+          ∙ ap Some (joined_leaves n j L)
+          ∙ sym (ap (λ (o : Option MachineThread). option_map decode_state (o >>= λ u. Some (mark_joined j u (gives M i tid σ K M.names zero_value)))) L.there)
 
 -- ---- The words
 
 -- The move lists, for a join, the lowest finished thread with its identifier.
 abbrev pub ListsLowest : Machine → Move → Word → Type 0
-ListsLowest M m w = (k : Position) (n j : ℕ) → w ≡ unary_word k join (name n) → lowest n M.threads ≡ some j → m.finished ≡ rank M.threads j
+ListsLowest M m w = (k : Position) (n j : ℕ) → w ≡ unary_word k join (name n) → lowest n M.threads ≡ Some j → m.finished ≡ rank M.threads j
 
-found_erased : (ps : List sheet.Procedure) (f : ℕ) → get_elem? (map erase_procedure ps) f ≡ Option.map erase_procedure (get_elem? ps f)
+found_erased : (ps : List sheet.Procedure) (f : ℕ) → slice_get (map erase_procedure ps) f ≡ option_map erase_procedure (slice_get ps f)
 found_erased [] f = refl
 found_erased (p ∷ ps) zero = refl
 found_erased (p ∷ ps) (suc f) = found_erased ps f
@@ -166,18 +165,18 @@ module _ (M : Machine) (i tid : ℕ) (σ : Env) (K : List Frame) (m : Move) (pla
     (fresh : m.fresh ≡ M.next) (free : M.names M.next ≡ unused) (fit : Every ProcedureKept M.procedures) where
   abbrev pub Row : Word → Type 0
   Row w = AtWord M i tid σ w K → ListsLowest M m w → reduct (decode_procedures M) (decode_state M) m (decode_thread (running tid (at σ w K))) (redex σ w)
-      ≡ Option.map decode_state (step_word M i tid σ K m.part w)
+      ≡ option_map decode_state (step_word M i tid σ K m.part w)
 
   module _ {w : Word} (here : AtWord M i tid σ w K) where
     gives_row : (names : ℕ → Slot) (v : Value) →
-        some (becomes (decode_state M) m (decode_thread (running tid (at σ w K))) names (value v)) ≡ some (decode_state (gives M i tid σ K names v))
+        Some (becomes (decode_state M) m (decode_thread (running tid (at σ w K))) names (value v)) ≡ Some (decode_state (gives M i tid σ K names v))
     gives_row names v = gives_alike M i tid σ w K here m placed names v
 
     goes_row : (names : ℕ → Slot) (b : Control) (e : Exp) → decode b ≡ fill σ K e →
-        some (becomes (decode_state M) m (decode_thread (running tid (at σ w K))) names e) ≡ some (decode_state (goes_to M i tid names b))
+        Some (becomes (decode_state M) m (decode_thread (running tid (at σ w K))) names e) ≡ Some (decode_state (goes_to M i tid names b))
     goes_row names b e h = goes_on M i tid σ w K here m placed names b e h
 
-    makes_row : (new : Slot) → named (decode_state M) m (decode_thread (running tid (at σ w K))) new ≡ some (decode_state (creates M i tid σ K new))
+    makes_row : (new : Slot) → named (decode_state M) m (decode_thread (running tid (at σ w K))) new ≡ Some (decode_state (creates M i tid σ K new))
     makes_row new = makes_alike M i tid σ w K here m placed fresh free new
 
   unary_alike : (k : Position) (o : Unary) (v : Value) → Row (unary_word k o v)
@@ -195,16 +194,16 @@ module _ (M : Machine) (i tid : ℕ) (σ : Env) (K : List Frame) (m : Move) (pla
   unary_alike k (hold w) v here listed =
       ask (name_of v) _ _ (λ n. ask (rw_state (M.names n)) _ _ (λ p. ask (inside_after p.0 w p.1) _ _ (λ _. gives_row here _ zero_value)))
   unary_alike k (call f) v here listed =
-      ap (λ (o : Option Procedure). o >>= λ p. some (becomes (decode_state M) m (decode_thread (running tid (at σ (unary_word k (call f) v) K))) M.names
+      ap (λ (o : Option Procedure). o >>= λ p. Some (becomes (decode_state M) m (decode_thread (running tid (at σ (unary_word k (call f) v) K))) M.names
       (substitute p.parameter v p.body))) (found_erased M.procedures f)
-      ∙ by_cases (get_elem? M.procedures f) refl
+      ∙ by_cases (slice_get M.procedures f) refl
     where
-      by_cases : (o : Option sheet.Procedure) → get_elem? M.procedures f ≡ o →
-          (Option.map erase_procedure o >>= λ p. some (becomes (decode_state M) m (decode_thread (running tid (at σ (unary_word k (call f) v) K))) M.names
+      by_cases : (o : Option sheet.Procedure) → slice_get M.procedures f ≡ o →
+          (option_map erase_procedure o >>= λ p. Some (becomes (decode_state M) m (decode_thread (running tid (at σ (unary_word k (call f) v) K))) M.names
           (substitute p.parameter v p.body)))
-          ≡ Option.map decode_state (o >>= λ p. some (goes_to M i tid M.names (enter (update zeros p.parameter v) p.body (mark_frame σ ∷ K))))
-      by_cases none q = refl
-      by_cases (some p) q = goes_row here M.names (enter (update zeros p.parameter v) p.body (mark_frame σ ∷ K)) _
+          ≡ option_map decode_state (o >>= λ p. Some (goes_to M i tid M.names (enter (update zeros p.parameter v) p.body (mark_frame σ ∷ K))))
+      by_cases None q = refl
+      by_cases (Some p) q = goes_row here M.names (enter (update zeros p.parameter v) p.body (mark_frame σ ∷ K)) _
           (enter_keeps (update zeros p.parameter v) p.body (mark_frame σ ∷ K)
           ∙ ap (fill σ K) (argument_put_lem zeros p.parameter v p.body (every_at ProcedureKept M.procedures f p fit q)))
 
@@ -233,9 +232,9 @@ module _ (M : Machine) (i tid : ℕ) (σ : Env) (K : List Frame) (m : Move) (pla
 -- ---- Steps
 
 control_alike : (M : Machine) (i tid : ℕ) (b : Control) (m : Move) → Every ProcedureKept M.procedures → ControlOk b → M.names M.next ≡ unused →
-    get_elem? M.threads i ≡ some (running tid b) → m.thread ≡ rank M.threads i → m.fresh ≡ M.next →
+    slice_get M.threads i ≡ Some (running tid b) → m.thread ≡ rank M.threads i → m.fresh ≡ M.next →
     ((σ : Env) (w : Word) (K : List Frame) → b ≡ at σ w K → ListsLowest M m w) →
-    (next_redex b >>= λ r. reduct (decode_procedures M) (decode_state M) m (decode_thread (running tid b)) r) ≡ Option.map decode_state (step_control M i m.part tid b)
+    (next_redex b >>= λ r. reduct (decode_procedures M) (decode_state M) m (decode_thread (running tid b)) r) ≡ option_map decode_state (step_control M i m.part tid b)
 control_alike M i tid (done v) m fit ok free here placed fresh listed = refl
 control_alike M i tid (at σ w K) m fit ok free here placed fresh listed = word_alike M i tid σ K m placed fresh free fit w ok.1 here (listed σ w K refl)
 
@@ -252,14 +251,14 @@ pub reduce_of_live : (M : Machine) (i : ℕ) (t : MachineThread) (m : Move) → 
     reduce (decode_procedures M) (decode_state M) m ≡ (next_redex t.control >>= λ r. reduct (decode_procedures M) (decode_state M) m (decode_thread t) r)
 unfolding reduce
 reduce_of_live M i t m h placed =
-    ap (λ (p : ℕ). get_elem? (live M.threads) p >>= λ u. word_of (next_word u.body) >>= λ r. reduct (decode_procedures M) (decode_state M) m u r) placed
+    ap (λ (p : ℕ). slice_get (live M.threads) p >>= λ u. word_of (next_word u.body) >>= λ r. reduct (decode_procedures M) (decode_state M) m u r) placed
     ∙ ap (λ (o : Option Thread). o >>= λ u. word_of (next_word u.body) >>= λ r. reduct (decode_procedures M) (decode_state M) m u r) (live_at (λ i t. decode_thread t) M.threads 0 i t h)
     ∙ ap (λ (o : Option Redex). o >>= λ r. reduct (decode_procedures M) (decode_state M) m (decode_thread t) r) (word_of_decoded t.control)
 
 pub step_exact : (M : Machine) (i : ℕ) (t : MachineThread) (m : Move) → Every ProcedureKept M.procedures → ControlOk t.control → M.names M.next ≡ unused → LiveAt M.threads i t →
     m.thread ≡ rank M.threads i → m.fresh ≡ M.next → ((σ : Env) (w : Word) (K : List Frame) → t.control ≡ at σ w K → ListsLowest M m w) →
-    reduce (decode_procedures M) (decode_state M) m ≡ Option.map decode_state (step M i m.part)
+    reduce (decode_procedures M) (decode_state M) m ≡ option_map decode_state (step M i m.part)
 step_exact M i t m fit ok free h placed fresh listed =
     reduce_of_live M i t m h placed
-    ∙ control_alike M i t.tid t.control m fit ok free (h.there ∙ ap some (live_is t h.not_joined)) placed fresh listed
-    ∙ ap (Option.map decode_state) (sym (step_of_live M i m.part t h))
+    ∙ control_alike M i t.tid t.control m fit ok free (h.there ∙ ap Some (live_is t h.not_joined)) placed fresh listed
+    ∙ ap (option_map decode_state) (sym (step_of_live M i m.part t h))

@@ -1,7 +1,7 @@
 -- Every step keeps what Kept says.
+use Rattle.std.proofs.Common.{Some}
 use Prim.Native.Nat.{ℕ}
 use mathlib.Core.Path.{◌≡◌}
-use mathlib.Core.Option.{some}
 use mathlib.Core.List.{List}
 use lib.ListN.{set}
 use Rattle.calculus.specs.Expression.{Redex}
@@ -44,5 +44,5 @@ module _ (M : Machine) (i tid : ℕ) (kept : Kept M) where
     unused_from = kept.unused_from;
   }
 
-pub step_kept : (M : Machine) (i : ℕ) (c : Part) (N : Machine) → Kept M → step M i c ≡ some N → Kept N
+pub step_kept : (M : Machine) (i : ℕ) (c : Part) (N : Machine) → Kept M → step M i c ≡ Some N → Kept N
 step_kept M i c N kept q = let m = step_moves M i c N kept q in after_kept M i m.thread.tid kept m.after

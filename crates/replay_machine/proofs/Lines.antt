@@ -1,11 +1,11 @@
 -- A line of a trace does to the replay on the machine what it does to the run that this stands for.
+use Rattle.std.proofs.Common.{Option, None, Some, option_map, slice_get}
 use Prim.Native.Nat.{ℕ, suc}
 use mathlib.Core.Path.{◌≡◌, refl, sym, ◌∙◌, ap, subst}
 use mathlib.Core.Bool.{Bool, true, false}
-use mathlib.Core.Option.{Option, none, some, map}
 use mathlib.Core.List.{List, [], ◌∷◌, ◌++◌}
 use native.Mathlib.Omega.{arith}
-use lib.ListN.{get_elem?, set, length}
+use lib.ListN.{set, length}
 use Rattle.calculus.specs.Expression.{Redex, next_word}
 use Rattle.calculus.specs.State.{State, Thread, Part, Move, update, remove}
 use Rattle.calculus.specs.Reduction.{◌>>=◌, word_of, reduce}
@@ -40,12 +40,12 @@ pub same_run : {r r' : Run} → r.procedures ≡ r'.procedures → r.state ≡ r
     r.threads ≡ r'.threads → r.things ≡ r'.things → r ≡ r'
 same_run p a b o c d = λ z. record { procedures = p z; state = a z; numbers = b z; calls = o z; threads = c z; things = d z }
 
-word_means_running : (b : Control) (w : Redex) → next_redex b ≡ some w → is_done b ≡ false
+word_means_running : (b : Control) (w : Redex) → next_redex b ≡ Some w → is_done b ≡ false
 word_means_running (done v) w h = none_is_not_some h
 word_means_running (at σ x K) w h = refl
 
 -- Thread i does the word w.
-module _ (R : Replay) (i : ℕ) (t : MachineThread) (h : LiveAt R.machine.threads i t) (w : Redex) (next : next_redex t.control ≡ some w) (c : Part) where
+module _ (R : Replay) (i : ℕ) (t : MachineThread) (h : LiveAt R.machine.threads i t) (w : Redex) (next : next_redex t.control ≡ Some w) (c : Part) where
   abbrev M : Machine
   M = R.machine
 
@@ -59,7 +59,7 @@ module _ (R : Replay) (i : ℕ) (t : MachineThread) (h : LiveAt R.machine.thread
   Same e N = after (run_of R) m (word_path t.control) e (decode_state N) ≡ run_of (record { machine = N; things = things_after e R.things })
 
   -- Of a join, the move lists the lowest finished thread.
-  lists_lowest : (n j : ℕ) → (traits w).joining ≡ some n → lowest n ts ≡ some j → m.finished ≡ rank ts j
+  lists_lowest : (n j : ℕ) → (traits w).joining ≡ Some n → lowest n ts ≡ Some j → m.finished ≡ rank ts j
   unfolding move_of finished_for
   lists_lowest n j named found = ap (λ (o : Option ℕ). finished_for o (live ts)) named ∙ lowest_is_first ts 0 n j found
 
@@ -70,7 +70,7 @@ module _ (R : Replay) (i : ℕ) (t : MachineThread) (h : LiveAt R.machine.thread
     numbers_stay : numbers_from 0 (set ts i moved) ≡ numbers_from 0 ts
     numbers_stay = numbers_set ts i t moved h refl
 
-    joined_number : (n j : ℕ) (u : MachineThread) → (traits w).joining ≡ some n → lowest n ts ≡ some j → get_elem? ts j ≡ some u →
+    joined_number : (n j : ℕ) (u : MachineThread) → (traits w).joining ≡ Some n → lowest n ts ≡ Some j → slice_get ts j ≡ Some u →
         remove (numbers_from 0 ts) m.finished ≡ numbers_from 0 (set (set ts i moved) j (as_joined u))
     joined_number n j u named found there =
         let L = lowest_found n ts j found in
@@ -81,7 +81,7 @@ module _ (R : Replay) (i : ℕ) (t : MachineThread) (h : LiveAt R.machine.thread
         ∙ sym (live_join (λ z x. z) (set ts i moved) 0 j u (as_joined u)
         (record { there = elsewhere ∙ there; not_joined = ap (λ (x : MachineThread). x.joined) (sym is) ∙ L.can.not_joined }) refl)
 
-    joined_calls : (n j : ℕ) (u : MachineThread) → (traits w).joining ≡ some n → lowest n ts ≡ some j → get_elem? ts j ≡ some u → Tells b (call_paths t.control) →
+    joined_calls : (n j : ℕ) (u : MachineThread) → (traits w).joining ≡ Some n → lowest n ts ≡ Some j → slice_get ts j ≡ Some u → Tells b (call_paths t.control) →
         open_calls (live (set (set ts i moved) j (as_joined u))) (remove (calls_from 0 ts) m.finished) ≡ calls_from 0 (set (set ts i moved) j (as_joined u))
     joined_calls n j u named found there tells =
         let L = lowest_found n ts j found in
@@ -133,50 +133,50 @@ module _ (R : Replay) (kept : Kept R.machine) (named : R.machine.next ≡ next_n
   -- What a thread at place p does, in the run and on the machine.
   abbrev in_run : (p : ℕ) (q : Path) → Redex → Option Run
   in_run p q w = part_chosen w l.choice >>= λ c. reduce (decode_procedures here) (decode_state here) (move_of (run_of R) p w c) >>= λ s.
-      some (after (run_of R) (move_of (run_of R) p w c) q (effect w) s)
+      Some (after (run_of R) (move_of (run_of R) p w c) q (effect w) s)
 
   abbrev on_machine : Redex → Option Replay
   on_machine w = part_chosen w l.choice >>= λ c. step here l.thread c >>= λ N.
-      some (record { machine = N; things = things_after (effect w) R.things })
+      Some (record { machine = N; things = things_after (effect w) R.things })
 
   module _ (t : MachineThread) (h : LiveAt here.threads l.thread t) where
-    lowest_listed : (w : Redex) (c : Part) → next_redex t.control ≡ some w → (σ : Env) (x : Word) (K : List Frame) → t.control ≡ at σ x K →
+    lowest_listed : (w : Redex) (c : Part) → next_redex t.control ≡ Some w → (σ : Env) (x : Word) (K : List Frame) → t.control ≡ at σ x K →
         ListsLowest here (move_of (run_of R) (rank here.threads l.thread) w c) x
     unfolding traits unary_traits
     lowest_listed w c next σ x K is k n j join_on found =
         lists_lowest R l.thread t h w next c n j
         (ap (λ (x : Redex). (traits x).joining) (some_injective (sym next ∙ ap next_redex is) ∙ ap (redex σ) join_on)) found
 
-    word_alike : (w : Redex) → next_redex t.control ≡ some w → in_run (rank here.threads l.thread) (word_path t.control) w ≡ map run_of (on_machine w)
+    word_alike : (w : Redex) → next_redex t.control ≡ Some w → in_run (rank here.threads l.thread) (word_path t.control) w ≡ option_map run_of (on_machine w)
     unfolding move_of
     word_alike w next = asks run_of (part_chosen w l.choice) _ _ (λ c chosen.
-        ap (λ (o : Option State). o >>= λ s. some (after (run_of R) (move_of (run_of R) (rank here.threads l.thread) w c) (word_path t.control) (effect w) s))
+        ap (λ (o : Option State). o >>= λ s. Some (after (run_of R) (move_of (run_of R) (rank here.threads l.thread) w c) (word_path t.control) (effect w) s))
         (step_exact here l.thread t (move_of (run_of R) (rank here.threads l.thread) w c) kept.procedures_kept
         (every_at ThreadKept here.threads l.thread t kept.threads_kept h.there) (kept.unused_from here.next (omega arith)) h refl (sym named)
         (lowest_listed w c next))
         ∙ stepped_alike c (step here l.thread c) refl)
       where
         stepped_alike : (c : Part) (o : Option Machine) → step here l.thread c ≡ o →
-            (map decode_state o >>= λ s. some (after (run_of R) (move_of (run_of R) (rank here.threads l.thread) w c) (word_path t.control) (effect w) s))
-            ≡ map run_of (o >>= λ N. some (record { machine = N; things = things_after (effect w) R.things }))
-        stepped_alike c none q = refl
-        stepped_alike c (some N) q = ap some (books_alike R l.thread t h w next c (moved_after c N q))
+            (option_map decode_state o >>= λ s. Some (after (run_of R) (move_of (run_of R) (rank here.threads l.thread) w c) (word_path t.control) (effect w) s))
+            ≡ option_map run_of (o >>= λ N. Some (record { machine = N; things = things_after (effect w) R.things }))
+        stepped_alike c None q = refl
+        stepped_alike c (Some N) q = ap Some (books_alike R l.thread t h w next c (moved_after c N q))
           where
-            moved_after : (d : Part) (N : Machine) → step here l.thread d ≡ some N → After here l.thread t.tid (call_paths t.control) (word_path t.control) w N
+            moved_after : (d : Part) (N : Machine) → step here l.thread d ≡ Some N → After here l.thread t.tid (call_paths t.control) (word_path t.control) w N
             moved_after d N q =
                 let D = step_moves here l.thread d N kept q in
                 subst (λ (x : Redex). After here l.thread t.tid (call_paths t.control) (word_path t.control) x N) (same_word {N = N} l D t h.there next)
                 (subst (λ (u : MachineThread). After here l.thread u.tid (call_paths u.control) (word_path u.control) D.word N) (some_injective (sym D.live_there.there ∙ h.there)) D.after)
 
-    live_alike : (next_redex t.control >>= in_run (rank here.threads l.thread) (word_path t.control)) ≡ map run_of (next_redex t.control >>= on_machine)
+    live_alike : (next_redex t.control >>= in_run (rank here.threads l.thread) (word_path t.control)) ≡ option_map run_of (next_redex t.control >>= on_machine)
     live_alike = asks run_of (next_redex t.control) _ _ word_alike
 
   abbrev in_run_at : (p : ℕ) → Option Run
-  in_run_at p = get_elem? (live here.threads) p >>= λ u. word_of (next_word u.body) >>= in_run p (next_path u.body)
+  in_run_at p = slice_get (live here.threads) p >>= λ u. word_of (next_word u.body) >>= in_run p (next_path u.body)
 
   -- The thread is there and not joined.
   present_alike : (t : MachineThread) → LiveAt here.threads l.thread t →
-      (place_of l.thread (numbers_from 0 here.threads) >>= in_run_at) ≡ map run_of (next_redex t.control >>= on_machine)
+      (place_of l.thread (numbers_from 0 here.threads) >>= in_run_at) ≡ option_map run_of (next_redex t.control >>= on_machine)
   present_alike t h =
       ap (λ (o : Option ℕ). o >>= in_run_at)
       (ap (λ (n : ℕ). place_of n (numbers_from 0 here.threads)) (omega arith) ∙ place_of_live here.threads 0 l.thread t h)
@@ -186,21 +186,21 @@ module _ (R : Replay) (kept : Kept R.machine) (named : R.machine.next ≡ next_n
       ∙ ap (λ (q : Path). next_redex t.control >>= in_run (rank here.threads l.thread) q) (path_of_decoded t.control)
       ∙ live_alike t h
 
-  absent_alike : ((t : MachineThread) → get_elem? here.threads l.thread ≡ some t → t.joined ≡ true) →
-      (place_of l.thread (numbers_from 0 here.threads) >>= in_run_at) ≡ none
+  absent_alike : ((t : MachineThread) → slice_get here.threads l.thread ≡ Some t → t.joined ≡ true) →
+      (place_of l.thread (numbers_from 0 here.threads) >>= in_run_at) ≡ None
   absent_alike h =
       ap (λ (o : Option ℕ). o >>= in_run_at) (ap (λ (n : ℕ). place_of n (numbers_from 0 here.threads)) (omega arith) ∙ no_place here.threads 0 l.thread h)
 
-  pub line_alike : run.stepped (run_of R) l ≡ map run_of (stepped R l)
+  pub line_alike : run.stepped (run_of R) l ≡ option_map run_of (stepped R l)
   unfolding run.stepped stepped word_of_thread
-  line_alike = by_cases (get_elem? here.threads l.thread) refl
+  line_alike = by_cases (slice_get here.threads l.thread) refl
     where
-      by_joined : (t : MachineThread) → get_elem? here.threads l.thread ≡ some t → (b : Bool) → t.joined ≡ b →
-          (place_of l.thread (numbers_from 0 here.threads) >>= in_run_at) ≡ map run_of (word_of_thread b t >>= on_machine)
+      by_joined : (t : MachineThread) → slice_get here.threads l.thread ≡ Some t → (b : Bool) → t.joined ≡ b →
+          (place_of l.thread (numbers_from 0 here.threads) >>= in_run_at) ≡ option_map run_of (word_of_thread b t >>= on_machine)
       by_joined t q true e = absent_alike (λ u z. ap (λ (x : MachineThread). x.joined) (some_injective (sym z ∙ q)) ∙ e)
       by_joined t q false e = present_alike t (record { there = q; not_joined = e })
 
-      by_cases : (o : Option MachineThread) → get_elem? here.threads l.thread ≡ o →
-          (place_of l.thread (numbers_from 0 here.threads) >>= in_run_at) ≡ map run_of (o >>= λ t. word_of_thread t.joined t >>= on_machine)
-      by_cases none q = absent_alike (λ t z. none_is_not_some (sym q ∙ z))
-      by_cases (some t) q = by_joined t q t.joined refl
+      by_cases : (o : Option MachineThread) → slice_get here.threads l.thread ≡ o →
+          (place_of l.thread (numbers_from 0 here.threads) >>= in_run_at) ≡ option_map run_of (o >>= λ t. word_of_thread t.joined t >>= on_machine)
+      by_cases None q = absent_alike (λ t z. none_is_not_some (sym q ∙ z))
+      by_cases (Some t) q = by_joined t q t.joined refl

@@ -1,9 +1,9 @@
 -- The open calls of a thread are the marks in its frames: a mark stands for a call that was taken at the path of the frames behind it.
+use Rattle.std.proofs.Common.{Option, Some}
 use Prim.Native.Nat.{suc}
 use mathlib.Core.Path.{◌≡◌, refl, ◌∙◌, ap}
 use mathlib.Core.Bool.{Bool, true, false, not}
 use mathlib.Core.List.{List, [], ◌∷◌}
-use mathlib.Core.Option.{Option, some}
 use lib.ListN.{length}
 use Rattle.spec.specs.Choice.{when◌then◌else◌}
 use Rattle.spec.specs.Expression.{Position, Expr, leaf, unary, binary}
@@ -62,7 +62,7 @@ calls_counted (at σ w K) = paths_counted K
 
 -- ---- What stands at a path
 
-part_around : (σ : Env) (k : Position) (f : FrameForm) (E : Exp) → part_of (around σ (step_frame k f) E) (awaited f) ≡ some E
+part_around : (σ : Env) (k : Position) (f : FrameForm) (E : Exp) → part_of (around σ (step_frame k f) E) (awaited f) ≡ Some E
 unfolding part_of only_part
 part_around σ k (let_part x e) E = refl
 part_around σ k (spawn_part e) E = refl

@@ -1,11 +1,11 @@
 -- What a step does to the open calls of all threads: those of the thread that moves change, the others stay as they are.
+use Rattle.std.proofs.Common.{Some, slice_get}
 use Prim.Native.Nat.{ℕ, zero, suc}
 use mathlib.Core.Path.{◌≡◌, refl, sym, ◌∙◌, ap}
 use mathlib.Core.Bool.{Bool, true, false}
-use mathlib.Core.Option.{some}
 use mathlib.Core.List.{List, [], ◌∷◌, ◌++◌}
 use native.Mathlib.Omega.{arith}
-use lib.ListN.{get_elem?, set, length}
+use lib.ListN.{set, length}
 use Rattle.calculus.specs.State.{Thread, remove}
 use Rattle.calculus.proofs.Laws.Maps.{some_injective, none_is_not_some}
 use Rattle.replay_theory.specs.Paths.{Path}
@@ -48,7 +48,7 @@ open_remove (u ∷ ts) [] p = open_of_none (remove (u ∷ ts) p)
 open_remove (u ∷ ts) (qs ∷ calls) zero = refl
 open_remove (u ∷ ts) (qs ∷ calls) (suc p) = ap (λ (l : List (List Path)). still_open u.body qs ∷ l) (open_remove ts calls p)
 
-taken_is_set : (calls : List (List Path)) (p : ℕ) (q : Path) (ps : List Path) → get_elem? calls p ≡ some ps → record_call p q calls ≡ set calls p (q ∷ ps)
+taken_is_set : (calls : List (List Path)) (p : ℕ) (q : Path) (ps : List Path) → slice_get calls p ≡ Some ps → record_call p q calls ≡ set calls p (q ∷ ps)
 unfolding record_call
 taken_is_set [] p q ps h = none_is_not_some h
 taken_is_set (c ∷ calls) zero q ps h = ap (λ (l : List Path). (q ∷ l) ∷ calls) (some_injective h)

@@ -1,11 +1,11 @@
 -- Places: the threads that are not joined, by their numbers and by their places among themselves.
+use Rattle.std.proofs.Common.{Option, Some, slice_get}
 use Prim.Native.Nat.{ℕ, zero, suc, ◌+◌}
 use mathlib.Core.Path.{◌≡◌, refl, sym, ◌∙◌, ap}
 use mathlib.Core.Bool.{Bool, true, false}
-use mathlib.Core.Option.{Option, some}
 use mathlib.Core.List.{List, [], ◌∷◌, ◌++◌}
 use native.Mathlib.Omega.{arith}
-use lib.ListN.{get_elem?, set, length}
+use lib.ListN.{set, length}
 use Rattle.spec.proofs.Clashes.{true_is_not_false}
 use Rattle.calculus.specs.State.{remove}
 use Rattle.calculus.proofs.Laws.Maps.{some_injective, none_is_not_some}
@@ -15,7 +15,7 @@ use Rattle.replay_machine.specs.State.{MachineThread, unless, of_live, rank}
 
 -- Thread i is t, and not joined.
 pub record LiveAt (ts : List MachineThread) (i : ℕ) (t : MachineThread) : Type 0 where
-  pub there : get_elem? ts i ≡ some t
+  pub there : slice_get ts i ≡ Some t
   pub not_joined : t.joined ≡ false
 
 below : {u t : MachineThread} {ts : List MachineThread} {i : ℕ} → LiveAt (u ∷ ts) (suc i) t → LiveAt ts i t
@@ -35,15 +35,15 @@ module _ {A : Type 0} (f : ℕ → MachineThread → A) where
   number : (k i : ℕ) (t : MachineThread) → f (suc k + i) t ≡ f (k + suc i) t
   number k i t = ap (λ (n : ℕ). f n t) (omega arith)
 
-  pub live_at : (ts : List MachineThread) (k i : ℕ) (t : MachineThread) → LiveAt ts i t → get_elem? (of_live f k ts) (rank ts i) ≡ some (f (k + i) t)
+  pub live_at : (ts : List MachineThread) (k i : ℕ) (t : MachineThread) → LiveAt ts i t → slice_get (of_live f k ts) (rank ts i) ≡ Some (f (k + i) t)
   live_at [] k i t h = none_is_not_some h.there
   live_at (u ∷ ts) k zero t h =
-      ap (λ (l : List A). get_elem? l 0) (kept_in u.joined (of_live f (suc k) ts) (f k u) (first_live h))
-      ∙ ap some (ap (f k) (some_injective h.there) ∙ ap (λ (n : ℕ). f n t) (omega arith))
-  live_at (u ∷ ts) k (suc i) t h = past u.joined (live_at ts (suc k) i t (below h) ∙ ap some (number k i t))
+      ap (λ (l : List A). slice_get l 0) (kept_in u.joined (of_live f (suc k) ts) (f k u) (first_live h))
+      ∙ ap Some (ap (f k) (some_injective h.there) ∙ ap (λ (n : ℕ). f n t) (omega arith))
+  live_at (u ∷ ts) k (suc i) t h = past u.joined (live_at ts (suc k) i t (below h) ∙ ap Some (number k i t))
     where
-      past : {o : Option A} (b : Bool) → get_elem? (of_live f (suc k) ts) (rank ts i) ≡ o →
-          get_elem? (unless b (λ l. f k u ∷ l) (of_live f (suc k) ts)) (unless b suc (rank ts i)) ≡ o
+      past : {o : Option A} (b : Bool) → slice_get (of_live f (suc k) ts) (rank ts i) ≡ o →
+          slice_get (unless b (λ l. f k u ∷ l) (of_live f (suc k) ts)) (unless b suc (rank ts i)) ≡ o
       past true q = q
       past false q = q
 
@@ -107,7 +107,7 @@ pub record Back {A : Type 0} (f : ℕ → MachineThread → A) (k : ℕ) (ts : L
   pub told : f (k + index) thread ≡ a
   pub ranked : rank ts index ≡ p
 
-pub back : {A : Type 0} (f : ℕ → MachineThread → A) (k : ℕ) (ts : List MachineThread) (p : ℕ) (a : A) → get_elem? (of_live f k ts) p ≡ some a →
+pub back : {A : Type 0} (f : ℕ → MachineThread → A) (k : ℕ) (ts : List MachineThread) (p : ℕ) (a : A) → slice_get (of_live f k ts) p ≡ Some a →
     Back f k ts p a
 back f k [] p a h = none_is_not_some h
 back {A} f k (t ∷ ts) p a h = by_cases t.joined p refl (λ q. back f (suc k) ts q a) h
@@ -121,8 +121,8 @@ back {A} f k (t ∷ ts) p a h = by_cases t.joined p refl (λ q. back f (suc k) t
       ranked = ap (unless t.joined suc) r.ranked ∙ e;
     }
 
-    by_cases : (b : Bool) (p : ℕ) → t.joined ≡ b → ((q : ℕ) → get_elem? (of_live f (suc k) ts) q ≡ some a → Back f (suc k) ts q a) →
-        get_elem? (unless b (λ l. f k t ∷ l) (of_live f (suc k) ts)) p ≡ some a → Back f k (t ∷ ts) p a
+    by_cases : (b : Bool) (p : ℕ) → t.joined ≡ b → ((q : ℕ) → slice_get (of_live f (suc k) ts) q ≡ Some a → Back f (suc k) ts q a) →
+        slice_get (unless b (λ l. f k t ∷ l) (of_live f (suc k) ts)) p ≡ Some a → Back f k (t ∷ ts) p a
     by_cases true p e later q = behind p p (ap (λ (b : Bool). unless b suc p) e) (later p q)
     by_cases false zero e later q = record {
       index = zero;

@@ -1,9 +1,8 @@
 -- The replay on the machine is the replay of crates/replay_theory, for every space, program and trace.
-use Rattle.std.proofs.Common.{Result, Ok, Err}
+use Rattle.std.proofs.Common.{Option, None as none, Some as some, option_map as map, Result, Ok, Err}
 use Prim.Native.Nat.{ℕ, suc, ◌+◌}
 use mathlib.Core.Path.{◌≡◌, refl, sym, ◌∙◌, ap}
 use mathlib.Core.Bool.{Bool, true, false, ◌&&◌}
-use mathlib.Core.Option.{Option, none, some, map}
 use mathlib.Core.List.{List, [], ◌∷◌}
 use native.Mathlib.Omega.{arith}
 use lib.Dec.{leb}
@@ -11,7 +10,6 @@ use lib.ListN.{length}
 use Rattle.spec.specs.declared.Refusal.{Refusal}
 use Rattle.spec.specs.Choice.{when◌then◌else◌}
 use Rattle.spec.specs.Text.{Line, lines}
-
 use Rattle.spec.specs.Program.{Program}
 use Rattle.spec.specs.WellFormed.{UsedInside}
 use Rattle.soundness.specs.Erasure.{erase_program}

@@ -1,7 +1,6 @@
 -- The control of a thread: the word that comes next, with the values of its parts, and the frames around it. Between two steps a thread
 -- always stands at its next word, so that a step of the machine is a step of the language. Words and frames know where their step stands.
-use Rattle.std.specs.Prelude.{ℕ, suc, List, [], ◌∷◌}
-use Rattle.std.proofs.Math.Option.{Option, none, some}
+use Rattle.std.specs.Prelude.{ℕ, suc, List, [], ◌∷◌, Option, None, Some}
 use Rattle.spec.specs.Expression.{Position, Expr, leaf, unary, binary}
 use Rattle.spec.specs.declared.BinaryWord.TheVariants.{Let, If, Spawn, Write}
 use Rattle.calculus.specs.Expression.{Value, int, Unary, Nullary, Exp, value, let_in, if, while, spawn, write, unary as one_part, nullary, Redex, let_redex, if_redex, while_redex, spawn_redex, write_redex, unary_redex, nullary_redex}
@@ -97,8 +96,8 @@ decode (done v) = value v
 decode (at σ w K) = fill σ K (word_exp σ w)
 
 abbrev pub next_redex : Control → Option Redex
-next_redex (done v) = none
-next_redex (at σ w K) = some (redex σ w)
+next_redex (done v) = None
+next_redex (at σ w K) = Some (redex σ w)
 
 -- ---- Finding the next word
 

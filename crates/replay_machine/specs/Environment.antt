@@ -1,6 +1,5 @@
 -- Environments, in the place of substitution: the value of each variable, and the expression with those values put in it.
-use Rattle.std.specs.Prelude.{ℕ}
-use Rattle.std.proofs.Math.Option.{Option, none, some}
+use Rattle.std.specs.Prelude.{ℕ, Option, None, Some}
 use Rattle.spec.specs.Expression.{Expr}
 use Rattle.calculus.specs.Expression.{Value, int, Exp, value, var, let_in, if, while, spawn, write, unary, nullary}
 use Rattle.calculus.specs.State.{update}
@@ -19,14 +18,14 @@ abbrev pub PartialEnv : Type 0
 PartialEnv = ℕ → Option Value
 
 abbrev pub all : Env → PartialEnv
-all σ x = some (σ x)
+all σ x = Some (σ x)
 
 abbrev pub hide : PartialEnv → ℕ → PartialEnv
-hide ρ x = update ρ x none
+hide ρ x = update ρ x None
 
 abbrev pub value_or : Option Value → ℕ → Exp
-value_or (some v) x = value v
-value_or none x = var x
+value_or (Some v) x = value v
+value_or None x = var x
 
 -- The expression with those values put for its variables. A `let` hides its own variable.
 abbrev pub close : PartialEnv → Exp → Exp

@@ -1,11 +1,8 @@
 -- A replay on the machine, with its counts and what it has found so far: what the code runs. proofs/Replay shows that it is the replay of
 -- crates/replay_theory.
-use Rattle.std.specs.Prelude.{ℕ, ◌+◌, Bool, true, false, ◌&&◌, List, [], ◌∷◌, leb, length, Result, Ok, Err}
-use Rattle.std.proofs.Math.Option.{Option, none, some}
-use Rattle.std.proofs.Math.ListN.{get_elem?}
+use Rattle.std.specs.Prelude.{ℕ, ◌+◌, Bool, true, false, ◌&&◌, List, [], ◌∷◌, leb, length, Option, None as none, Some as some, Result, Ok, Err, slice_get}
 use Rattle.spec.specs.declared.Refusal.{Refusal}
 use Rattle.spec.specs.Text.{Line, lines}
-
 use Rattle.spec.specs.Program.{Program}
 use Rattle.calculus.specs.Expression.{Redex}
 use Rattle.calculus.specs.Reduction.{◌>>=◌}
@@ -47,7 +44,7 @@ word_of false t = next_redex t.control
 
 unfoldable pub stepped : Replay → TraceLine → Option Replay
 stepped R l = do
-  t ← get_elem? R.machine.threads l.thread
+  t ← slice_get R.machine.threads l.thread
   w ← word_of t.joined t
   c ← part_chosen w l.choice
   M ← step R.machine l.thread c

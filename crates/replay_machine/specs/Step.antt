@@ -1,7 +1,5 @@
 -- The machine's step.
-use Rattle.std.specs.Prelude.{ℕ, suc, Bool, true, false, not, ◌&&◌, List, [], ◌∷◌, ◌++◌, eqb, set}
-use Rattle.std.proofs.Math.Option.{Option, none, some, map}
-use Rattle.std.proofs.Math.ListN.{get_elem?}
+use Rattle.std.specs.Prelude.{ℕ, suc, Bool, true, false, not, ◌&&◌, List, [], ◌∷◌, ◌++◌, eqb, set, Option, None, Some, option_map, slice_get}
 use Rattle.spec.specs.Expression.{Position, Expr}
 use Rattle.calculus.specs.Expression.{Value, int, name, Unary, join, ref, read, lock, unlock, post, wait, hold, call}
 use Rattle.calculus.specs.State.{opened, closed, Slot, cell, a_lock, semaphore, rwlock, Part, first, second, update}
@@ -20,11 +18,11 @@ abbrev pub joinable : (tid : ℕ) → MachineThread → Bool
 joinable n t = not t.joined && (eqb t.tid n && is_done t.control)
 
 abbrev pub first_or : Bool → Option ℕ → Option ℕ
-first_or true o = some 0
-first_or false o = map suc o
+first_or true o = Some 0
+first_or false o = option_map suc o
 
 unfoldable pub lowest : (tid : ℕ) → List MachineThread → Option ℕ
-lowest n [] = none
+lowest n [] = None
 lowest n (t ∷ ts) = first_or (joinable n t) (lowest n ts)
 
 -- ---- Steps of one thread
@@ -79,69 +77,69 @@ module _ (M : Machine) (i tid : ℕ) (σ : Env) (K : List Frame) where
     n ← name_of v
     if_identifier (M.names n)
     j ← lowest n M.threads
-    u ← get_elem? M.threads j
-    some (mark_joined j u (gives M.names zero_value))
-  step_unary ref v = some (creates (cell v))
+    u ← slice_get M.threads j
+    Some (mark_joined j u (gives M.names zero_value))
+  step_unary ref v = Some (creates (cell v))
   step_unary read v = do
     n ← name_of v
     w ← cell_value (M.names n)
-    some (gives M.names w)
+    Some (gives M.names w)
   step_unary lock v = do
     n ← name_of v
     l ← lock_state (M.names n)
     if_opened l
-    some (leaves n (a_lock closed))
+    Some (leaves n (a_lock closed))
   step_unary unlock v = do
     n ← name_of v
     lock_state (M.names n)
-    some (leaves n (a_lock opened))
+    Some (leaves n (a_lock opened))
   step_unary post v = do
     n ← name_of v
     c ← count (M.names n)
-    some (leaves n (semaphore (suc c)))
+    Some (leaves n (semaphore (suc c)))
   step_unary wait v = do
     n ← name_of v
     c ← count (M.names n)
     left ← one_less c
-    some (leaves n (semaphore left))
+    Some (leaves n (semaphore left))
   step_unary (hold w) v = do
     n ← name_of v
     (N, inside) ← rw_state (M.names n)
     after ← inside_after N w inside
-    some (leaves n (rwlock N after))
+    Some (leaves n (rwlock N after))
   step_unary (call f) v = do
-    p ← get_elem? M.procedures f
-    some (goes_to M i tid M.names (enter (update zeros p.parameter v) p.body (mark_frame σ ∷ K)))
+    p ← slice_get M.procedures f
+    Some (goes_to M i tid M.names (enter (update zeros p.parameter v) p.body (mark_frame σ ∷ K)))
 
   abbrev pub step_word : Part → Word → Option Machine
-  step_word c (let_word k x v e) = some (goes_to M i tid M.names (enter (update σ x v) e K))
-  step_word c (if_word k e₁ e₂) = some (goes_to M i tid M.names (enter σ (part_of c e₁ e₂) K))
-  step_word c (while_word k e) = some (goes_to M i tid M.names (at σ (unrolled_word k e) K))
+  step_word c (let_word k x v e) = Some (goes_to M i tid M.names (enter (update σ x v) e K))
+  step_word c (if_word k e₁ e₂) = Some (goes_to M i tid M.names (enter σ (part_of c e₁ e₂) K))
+  step_word c (while_word k e) = Some (goes_to M i tid M.names (at σ (unrolled_word k e) K))
   step_word c (spawn_word k v e) = do
     n ← name_of v
     if_identifier (M.names n)
-    some (add_thread (running n (enter σ e [])) (gives M.names zero_value))
+    Some (add_thread (running n (enter σ e [])) (gives M.names zero_value))
   step_word c (write_word k v w) = do
     n ← name_of v
     cell_value (M.names n)
-    some (leaves n (cell w))
+    Some (leaves n (cell w))
   step_word c (unary_word k o v) = step_unary o v
-  step_word c (nullary_word k o) = some (creates (made o))
-  step_word c (unrolled_word k e) = some (goes_to M i tid M.names (unrolled_part c σ k e K))
-  step_word c (again_word k v e) = some (goes_to M i tid M.names (at σ (while_word k e) K))
+  step_word c (nullary_word k o) = Some (creates (made o))
+  step_word c (unrolled_word k e) = Some (goes_to M i tid M.names (unrolled_part c σ k e K))
+  step_word c (again_word k v e) = Some (goes_to M i tid M.names (at σ (while_word k e) K))
 
 -- ---- Steps
 
 abbrev pub step_control : Machine → (i : ℕ) → Part → (tid : ℕ) → Control → Option Machine
-step_control M i c tid (done v) = none
+step_control M i c tid (done v) = None
 step_control M i c tid (at σ w K) = step_word M i tid σ K c w
 
 abbrev pub step_thread : Machine → (i : ℕ) → Part → MachineThread → Bool → Option Machine
-step_thread M i c t true = none
+step_thread M i c t true = None
 step_thread M i c t false = step_control M i c t.tid t.control
 
 -- The machine after thread i moves, taking part c of an `if`, if it can.
 unfoldable pub step : Machine → (i : ℕ) → Part → Option Machine
 step M i c = do
-  t ← get_elem? M.threads i
+  t ← slice_get M.threads i
   step_thread M i c t t.joined

@@ -1,11 +1,11 @@
 -- Thread t stands at its next word, in a space that holds the machine; and how it goes on from there.
+use Rattle.std.proofs.Common.{Option, Some, slice_get}
 use Prim.Native.Nat.{ℕ, ◌<◌, ◌≤◌}
 use mathlib.Core.Path.{◌≡◌, sym, ◌∙◌, subst}
 use mathlib.Core.Logic.{◌≢◌}
 use mathlib.Core.List.{List}
-use mathlib.Core.Option.{Option, some}
 use native.Mathlib.Omega.{arith}
-use lib.ListN.{length, get_elem?}
+use lib.ListN.{length}
 use Rattle.calculus.specs.Expression.{Value}
 use Rattle.calculus.specs.State as state
 use Rattle.calculus.specs.State.{Part}
@@ -37,7 +37,7 @@ use Rattle.replay_simulation.proofs.Moving.{Answered, moves}
 -- in row `row`, with the identifier tid: at the word w, in the environment σ and the frames K
 pub record AtWord (p s : List ℕ) (T : Threads) (R : Replay) (t row tid : ℕ) (σ : Env) (w : Word) (K : List Frame) : Type 0 where
   pub holds : Holds p s T R
-  pub there : get_elem? R.machine.threads t ≡ some (running tid (at σ w K))
+  pub there : slice_get R.machine.threads t ≡ Some (running tid (at σ w K))
   pub low : t < 16
   pub inside : RowIn t row
   pub few : marks K ≤ 64
@@ -58,7 +58,7 @@ module _ {p s : List ℕ} {T : Threads} {R : Replay} {t row tid : ℕ} {σ : Env
     (A : AtWord p s T R t row tid σ w K) where
   -- what the code hands back answers the machine's step, in which nothing is made
   abbrev pub Answers : ControlPoint → Option Machine → Act × List ℕ → Type 0
-  Answers f o r = Answered p (check_limits within (o >>= λ N. some (record { machine = N; things = R.things }))) (after_act p T t f r)
+  Answers f o r = Answered p (check_limits within (o >>= λ N. Some (record { machine = N; things = R.things }))) (after_act p T t f r)
 
   -- the machine's step that takes that part of an `if`, and the code's act with that choice
   abbrev pub Goes : Part → ControlPoint → (choice : ℕ) → Type 0
@@ -93,7 +93,7 @@ module _ {p s : List ℕ} {T : Threads} {R : Replay} {t row tid : ℕ} {σ : Env
 
   -- to d, in the space as it is
   pub goes : (f g : ControlPoint) (d : Control) → Finds p t s d (found 2048 p s g) →
-      Answers f (some (goes_to R.machine t tid R.machine.names d)) (Go g, s)
+      Answers f (Some (goes_to R.machine t tid R.machine.names d)) (Go g, s)
   goes f g d F = moves (pausing A.holds.long (λ i l n. agree_all i s) A.holds.names) f g d F
 
   pub ready : (b : ℕ) → place_of p s w ≤ b → Ready p t s σ row s b (continuation p (place_of p s w)) K
@@ -122,7 +122,7 @@ module _ {p s : List ℕ} {T : Threads} {R : Replay} {t row tid : ℕ} {σ : Env
   -- the word becomes a value, in a space in which all threads stand as they stood
   pub becomes : (s₁ : List ℕ) → length s₁ ≡ space_size → ((i : ℕ) → i < 16 → Agree i s s₁) →
       {names : ℕ → state.Slot} {next : ℕ} {things : ObjectKind → ℕ} → NamesHeld s₁ names next things → place_of p s w < 256 → (f : ControlPoint) (v : Value) →
-      Answered p (check_limits within (some (gone_to (renamed R names next things) t tid (return σ v K))))
+      Answered p (check_limits within (Some (gone_to (renamed R names next things) t tid (return σ v K))))
       (after_act p T t f (Go (given p row (place_of p s w) (code_value v)), s₁))
   unfolding given
   becomes s₁ long agree N below f v =
@@ -131,7 +131,7 @@ module _ {p s : List ℕ} {T : Threads} {R : Replay} {t row tid : ℕ} {σ : Env
 
 -- so stands each thread of the machine that has a word
 pub at_word_lem : {p s : List ℕ} {T : Threads} {R : Replay} {t tid : ℕ} {σ : Env} {w : Word} {K : List Frame} →
-    Holds p s T R → get_elem? R.machine.threads t ≡ some (running tid (at σ w K)) → AtWord p s T R t (control_point_at s t).row tid σ w K
+    Holds p s T R → slice_get R.machine.threads t ≡ Some (running tid (at σ w K)) → AtWord p s T R t (control_point_at s t).row tid σ w K
 unfolding open_calls
 at_word_lem {p} {s} {R = R} {t} {tid} {σ} {w} {K} H there =
     let held = H.threads t (running tid (at σ w K)) there in

@@ -1,12 +1,12 @@
 -- The bodies of the procedures and the root, once the program is linked: each stands at its first step; behind a body its call ends,
 -- behind the root the thread finishes.
+use Rattle.std.proofs.Common.{Some, slice_get}
 use Prim.Native.Nat.{ℕ, zero, suc, ◌+◌, ◌<◌, ◌≤◌}
 use mathlib.Core.Path.{◌≡◌, sym, ◌∙◌, ap, subst}
 use mathlib.Core.Logic.{inl, inr}
 use mathlib.Core.List.{List, [], ◌∷◌}
-use mathlib.Core.Option.{some}
 use native.Mathlib.Omega.{arith}
-use lib.ListN.{length, get_or, set, get_elem?, length-set}
+use lib.ListN.{length, get_or, set, length-set}
 use lib.Seq.{get_or-set_same, get_or-set_other}
 use Rattle.spec.specs.Expression.{Expr, size, Procedure}
 use Rattle.calculus.proofs.Laws.Maps.{some_injective, none_is_not_some}
@@ -222,7 +222,7 @@ variables_kept : {p p' : List ℕ} (ps : List Procedure) (f : ℕ) → ChangedWi
 variables_kept [] f c h v = tt
 variables_kept (b ∷ ps) f c h (e, l, v) = (c.kept (proc_vars_at + f) (inl (omega (arith, h))) ∙ e, l, variables_kept ps (f + 1) c (omega (arith, h)) v)
 
-each_body : (p : List ℕ) (ps : List Procedure) (root : Expr) (f k i : ℕ) (b : Procedure) → AllStand p k ps root → FirstsAt p f k ps → VariablesAt p f ps → get_elem? ps i ≡ some b → BodyStands p (f + i) b
+each_body : (p : List ℕ) (ps : List Procedure) (root : Expr) (f k i : ℕ) (b : Procedure) → AllStand p k ps root → FirstsAt p f k ps → VariablesAt p f ps → slice_get ps i ≡ Some b → BodyStands p (f + i) b
 each_body p [] root f k i b A F Vs h = none_is_not_some h
 each_body p (c ∷ ps) root f k zero b (S, Ss) (e, es) (x, l, v) h =
     subst (BodyStands p (f + 0)) (some_injective h)

@@ -1,14 +1,14 @@
 -- A call on numbers is the machine's: the body of the procedure is entered in the next row, which holds its argument alone and the step
 -- of the call.
+use Rattle.std.proofs.Common.{Some, slice_get}
 use Prim.Native.Nat.{ℕ, zero, suc, ◌+◌, ◌*◌, ◌-◌, ◌<◌, ◌≤◌}
 use mathlib.Core.Path.{◌≡◌, refl, sym, ◌∙◌, ap, subst}
 use mathlib.Core.Logic.{◌≢◌, ◌⊎◌, inl, inr}
 use mathlib.Core.List.{List, [], ◌∷◌}
-use mathlib.Core.Option.{some}
 use native.Mathlib.Omega.{arith}
 use native.Mathlib.Decide.{ℕ_discrete}
 use borrow.Author.Tests.{lt-ltb}
-use lib.ListN.{length, get_or, set, get_elem?, length-set}
+use lib.ListN.{length, get_or, set, length-set}
 use lib.Seq.{get_or-set_same, get_or-set_other}
 use Rattle.spec.specs.Expression.{Position, Procedure}
 use Rattle.spec.specs.Words.{role, calls}
@@ -159,7 +159,7 @@ module _ {s : List ℕ} {b x v k : ℕ} (E : Entry s b x v k) where
 
 -- ------------------------------------------------------------------ the machine's word
 
-place_found : {A : Type 0} (xs : List A) (i : ℕ) → i < length xs → (a : A) × (get_elem? xs i ≡ some a)
+place_found : {A : Type 0} (xs : List A) (i : ℕ) → i < length xs → (a : A) × (slice_get xs i ≡ Some a)
 place_found [] i h = absurd (omega (arith, h))
 place_found (x ∷ xs) zero h = (x, refl)
 place_found (x ∷ xs) (suc i) h = place_found xs i (omega (arith, h))
@@ -182,7 +182,7 @@ module _ {p s : List ℕ} {T : Threads} {R : Replay} {t row tid : ℕ} {σ : Env
   unfolding role calls
   called = let c = A.holds.bodies.counted in let l : n < get_or p procedures_at 0 = r.small.1 in omega (arith, c, l, is)
 
-  module _ (body : Procedure) (listed : get_elem? M.procedures g ≡ some body) where
+  module _ (body : Procedure) (listed : slice_get M.procedures g ≡ Some body) where
     B : BodyStands p g body
     B = A.holds.bodies.each g body listed
 
@@ -219,9 +219,9 @@ module _ {p s : List ℕ} {T : Threads} {R : Replay} {t row tid : ℕ} {σ : Env
       frames = frames_after;
     }
 
-    body_goes : Answers A word (some (goes_to M t tid M.names entered)) (acted p s word 0)
+    body_goes : Answers A word (Some (goes_to M t tid M.names entered)) (acted p s word 0)
     body_goes =
-        subst (Answers A word (some (goes_to M t tid M.names entered))) (sym acts)
+        subst (Answers A word (Some (goes_to M t tid M.names entered))) (sym acts)
         (moves (pausing A (long₂ E) (λ i h m. agree_called E t i body_ready.inside h m) (names_same s after (shared_called E) A.holds.names))
         word (entering (row + 1) (first_of p g)) entered (enters_word body_ready body.body B.stands))
 

@@ -1,9 +1,9 @@
 -- What the program's columns p and the lent space s hold of a thread of the machine: of its variables and frames, row by row.
+use Rattle.std.proofs.Common.{Some, slice_get}
 use Prim.Native.Nat.{ℕ, suc, ◌+◌, ◌*◌, ◌-◌, ◌<◌, ◌≤◌}
 use mathlib.Core.Path.{◌≡◌}
 use mathlib.Core.List.{List, [], ◌∷◌}
-use mathlib.Core.Option.{some}
-use lib.ListN.{length, get_or, get_elem?}
+use lib.ListN.{length, get_or}
 use Rattle.spec.specs.Expression.{Position, Expr, leaf, unary, binary, size, Procedure}
 use Rattle.spec.specs.Words.{largest_value, role}
 use Rattle.spec.specs.declared.Role.{Role}
@@ -136,7 +136,7 @@ module _ (p : List ℕ) where
   -- so do those of all procedures
   pub record BodiesStand (procedures : List Procedure) : Type 0 where
     pub counted : get_or p procedures_at 0 ≡ length procedures
-    pub each : (f : ℕ) (procedure : Procedure) → get_elem? procedures f ≡ some procedure → BodyStands f procedure
+    pub each : (f : ℕ) (procedure : Procedure) → slice_get procedures f ≡ Some procedure → BodyStands f procedure
 
   -- ---------------------------------------------------------------- a thread
 

@@ -1,11 +1,11 @@
 -- What the lent space and the records hold of the machine, with the counts of what it has made.
+use Rattle.std.proofs.Common.{Some, slice_get}
 use Prim.Native.Nat.{ℕ, suc, ◌+◌, ◌*◌, ◌<◌, ◌≤◌}
 use mathlib.Core.Path.{◌≡◌}
 use mathlib.Core.Bool.{true}
 use mathlib.Core.List.{List}
-use mathlib.Core.Option.{some}
 use native.Mathlib.Omega.{arith}
-use lib.ListN.{length, get_or, get_elem?}
+use lib.ListN.{length, get_or}
 use Rattle.calculus.specs.State as calculus
 use Rattle.calculus.specs.State.{opened, closed, readers, writer, unused, identifier, cell, a_lock, semaphore, rwlock}
 use Rattle.threads.specs.declared.Record.{Record}
@@ -79,7 +79,7 @@ pub record Sized (T : Threads) (ts : List MachineThread) : Type 0 where
   pub behind : (i : ℕ) → length ts ≤ i → i < 16 → (get_or T.records i no_record).state ≡ Running
 
 abbrev pub ThreadsHeld : (p s : List ℕ) → Threads → List MachineThread → Type 0
-ThreadsHeld p s T ts = (i : ℕ) (th : MachineThread) → get_elem? ts i ≡ some th → ThreadHeld p s T i th
+ThreadsHeld p s T ts = (i : ℕ) (th : MachineThread) → slice_get ts i ≡ Some th → ThreadHeld p s T i th
 
 -- ------------------------------------------------------------------ all
 

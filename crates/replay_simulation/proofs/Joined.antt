@@ -1,15 +1,15 @@
 -- A join on numbers is the machine's: the records find the thread that the machine finds.
+use Rattle.std.proofs.Common.{Option, None, Some, option_map, slice_get}
 use Prim.Native.Nat.{ℕ, suc, ◌+◌, ◌<◌, ◌≤◌}
 use mathlib.Core.Path.{◌≡◌, refl, sym, ◌∙◌, ap, subst}
 use mathlib.Core.Logic.{◌≢◌}
 use mathlib.Core.Bool.{Bool, true, false, not, ◌&&◌}
 use mathlib.Core.List.{List, [], ◌∷◌}
-use mathlib.Core.Option.{Option, none, some, map}
 use native.Mathlib.Omega.{arith}
 use native.Mathlib.Decide.{ℕ_discrete}
 use borrow.Author.Tests.{lt-ltb, eq-eqb, ne_eqb}
 use lib.Dec.{eqb}
-use lib.ListN.{length, get_or, set, get_elem?, length-set}
+use lib.ListN.{length, get_or, set, length-set}
 use lib.Seq.{get_or-set_same, get_or-set_other}
 use Rattle.spec.specs.Choice.{when◌then◌else◌}
 use Rattle.replay_theory.specs.declared.Status.{Status}
@@ -71,17 +71,17 @@ record_joinable n th = go th.joined th.control
     go false (at σ w K) = and_false (eqb th.tid n)
 
 abbrev pub found_at : (i : ℕ) → Option ℕ → Found
-found_at i none = Nothing
-found_at i (some j) = At (i + j)
+found_at i None = Nothing
+found_at i (Some j) = At (i + j)
 
 pub record Alike (rs : List Record) (ts : List MachineThread) : Type 0 where
-  pub same : (m : ℕ) (th : MachineThread) → get_elem? ts m ≡ some th → get_or rs m no_record ≡ record_of th
+  pub same : (m : ℕ) (th : MachineThread) → slice_get ts m ≡ Some th → get_or rs m no_record ≡ record_of th
   pub behind : (m : ℕ) → length ts ≤ m → m < length rs → (get_or rs m no_record).state ≡ Running
   pub fits : length ts ≤ length rs
 
-shifted : (i : ℕ) (o : Option ℕ) → found_at (suc i) o ≡ found_at i (map suc o)
-shifted i none = refl
-shifted i (some j) = ap At (let e : suc i + j ≡ i + suc j = omega arith in e)
+shifted : (i : ℕ) (o : Option ℕ) → found_at (suc i) o ≡ found_at i (option_map suc o)
+shifted i None = refl
+shifted i (Some j) = ap At (let e : suc i + j ≡ i + suc j = omega arith in e)
 
 pub lowest_alike : (n : ℕ) (rs : List Record) (ts : List MachineThread) (i : ℕ) → Alike rs ts → lowest_from i rs (suc n) ≡ found_at i (lowest n ts)
 unfolding lowest_from lowest matching if_finished
@@ -104,7 +104,7 @@ lowest_alike n (r ∷ rs) (th ∷ ts) i A =
 
 -- ------------------------------------------------------------------ a thread is joined
 
-module _ {T : Threads} {ts : List MachineThread} (sized : Sized T ts) (j : ℕ) (u : MachineThread) (there : get_elem? ts j ≡ some u) (told : get_or T.records j no_record ≡ record_of u) where
+module _ {T : Threads} {ts : List MachineThread} (sized : Sized T ts) (j : ℕ) (u : MachineThread) (there : slice_get ts j ≡ Some u) (told : get_or T.records j no_record ≡ record_of u) where
   j_low : j < 16
   j_low = let l = place_below ts j u there in let f = sized.fits in omega arith
 
@@ -147,7 +147,7 @@ module _ {p s : List ℕ} {T : Threads} {R : Replay} {t row tid : ℕ} {σ : Env
   word = ready_at row q.index (suc n)
 
   abbrev Joins : Option ℕ → Option Machine
-  Joins o = o >>= λ j. get_elem? M.threads j >>= λ u. some (mark_joined j u (gives M t tid σ K M.names zero_value))
+  Joins o = o >>= λ j. slice_get M.threads j >>= λ u. Some (mark_joined j u (gives M t tid σ K M.names zero_value))
 
   module _ (j : ℕ) (L : JoinableAt n M.threads j) where
     abbrev u : MachineThread
@@ -163,9 +163,9 @@ module _ {p s : List ℕ} {T : Threads} {R : Replay} {t row tid : ℕ} {σ : Env
     Marked = record { machine = mark_joined j u M; things = R.things }
 
     -- what the numbers hold of a thread once thread j is joined
-    held_after : (i : ℕ) (th : MachineThread) → get_elem? (set M.threads j (as_joined u)) i ≡ some th → Dec (i ≡ j) → ThreadHeld p s (joined T j) i th
+    held_after : (i : ℕ) (th : MachineThread) → slice_get (set M.threads j (as_joined u)) i ≡ Some th → Dec (i ≡ j) → ThreadHeld p s (joined T j) i th
     held_after i th h (yes e) =
-        let is = set_here M.threads j (as_joined u) th (ap (get_elem? (set M.threads j (as_joined u))) (sym e) ∙ h) in
+        let is = set_here M.threads j (as_joined u) th (ap (slice_get (set M.threads j (as_joined u))) (sym e) ∙ h) in
         subst (λ (k : ℕ). ThreadHeld p s (joined T j) k th) (sym e)
         (subst (ThreadHeld p s (joined T j) j) is (record {
           recorded = joined_here A.holds.sized j u L.there held.recorded;
@@ -188,24 +188,24 @@ module _ {p s : List ℕ} {T : Threads} {R : Replay} {t row tid : ℕ} {σ : Env
       others = λ i th m h. held_after i th h (ℕ_discrete i j);
     }
 
-    joins_one : Answered p (check_limits within (some (record { machine = mark_joined j u (gives M t tid σ K M.names zero_value); things = R.things }))) (gives_zero p t word (joined T j, s))
+    joins_one : Answered p (check_limits within (Some (record { machine = mark_joined j u (gives M t tid σ K M.names zero_value); things = R.things }))) (gives_zero p t word (joined T j, s))
     unfolding gives_zero given after_act act_step
     joins_one =
-        subst (λ (ts : List MachineThread). Answered p (check_limits within (some (with_threads R ts))) (gives_zero p t word (joined T j, s)))
+        subst (λ (ts : List MachineThread). Answered p (check_limits within (Some (with_threads R ts))) (gives_zero p t word (joined T j, s)))
         (sym (sets_swap M.threads t j (running tid (return σ zero_value K)) (as_joined u) apart))
         (moves paused word (returning row (continuation p q.index) 0) (return σ zero_value K) (returns_word (ready A q.index (omega arith)) zero_value))
 
-  stuck : Answered p (check_limits within none) (ending Stuck T, s)
+  stuck : Answered p (check_limits within None) (ending Stuck T, s)
   unfolding check_limits
   stuck = refl
 
-  pub joining_goes : Answered p (check_limits within (Joins (lowest n M.threads) >>= λ N. some (record { machine = N; things = R.things }))) (joined_step p s T t word (suc n))
+  pub joining_goes : Answered p (check_limits within (Joins (lowest n M.threads) >>= λ N. Some (record { machine = N; things = R.things }))) (joined_step p s T t word (suc n))
   unfolding joined_step joined_by lowest_of
   joining_goes = by_found (lowest n M.threads) refl
     where
-      by_found : (o : Option ℕ) → lowest n M.threads ≡ o → Answered p (check_limits within (Joins o >>= λ N. some (record { machine = N; things = R.things }))) (joined_step p s T t word (suc n))
-      by_found none e = rw (lowest_alike n T.records M.threads 0 (records_alike A.holds), e) stuck
-      by_found (some j) e =
+      by_found : (o : Option ℕ) → lowest n M.threads ≡ o → Answered p (check_limits within (Joins o >>= λ N. Some (record { machine = N; things = R.things }))) (joined_step p s T t word (suc n))
+      by_found None e = rw (lowest_alike n T.records M.threads 0 (records_alike A.holds), e) stuck
+      by_found (Some j) e =
           let L = lowest_found n M.threads j e in
           let z : 0 + j ≡ j = omega arith in
           rw (lowest_alike n T.records M.threads 0 (records_alike A.holds), e, L.there, z) (joins_one j L)

@@ -1,10 +1,10 @@
 -- The words that make a new thing, on numbers, are the machine's; past 64 of a kind they answer that a limit is passed.
+use Rattle.std.proofs.Common.{Some}
 use Prim.Native.Nat.{ℕ, suc, ◌+◌, ◌<◌, ◌≤◌}
 use mathlib.Core.Path.{◌≡◌, refl, sym, ◌∙◌, ap, subst}
 use mathlib.Core.Logic.{◌≢◌}
 use mathlib.Core.Bool.{false}
 use mathlib.Core.List.{List}
-use mathlib.Core.Option.{some}
 use native.Mathlib.Omega.{arith}
 use native.Mathlib.Decide.{ℕ_discrete, dec_lt}
 use borrow.Author.Tests.{le-leb, lt-leb}
@@ -194,7 +194,7 @@ module _ {p s : List ℕ} {T : Threads} {R : Replay} {t row tid : ℕ} {σ : Env
   Created = record { machine = creates M t tid σ K new; things = things_after (makes k) R.things }
 
   abbrev Makes : Act × List ℕ → Type 0
-  Makes a = Answered p (check_limits within (some Created)) (after_act p T t f a)
+  Makes a = Answered p (check_limits within (Some Created)) (after_act p T t f a)
 
   counted_here : get_or s (thing_counts_at + x.kind) 0 ≡ R.things k
   counted_here = ap (λ (i : ℕ). get_or s (thing_counts_at + i) 0) O.is_kind ∙ A.holds.names.counted k

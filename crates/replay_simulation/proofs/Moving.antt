@@ -1,14 +1,14 @@
 -- What a step on numbers has to answer for a step of the machine; and that a thread which goes on to a word answers it.
+use Rattle.std.proofs.Common.{Some, slice_get}
 use Prim.Native.Nat.{ℕ, zero, suc, ◌+◌, ◌*◌, ◌<◌, ◌≤◌}
 use mathlib.Core.Path.{◌≡◌, refl, sym, ◌∙◌, ap, subst}
 use mathlib.Core.Bool.{Bool, true, false, ◌&&◌}
 use mathlib.Core.List.{List, [], ◌∷◌}
-use mathlib.Core.Option.{some}
 use native.Mathlib.Omega.{arith}
 use native.Mathlib.Decide.{dec_le}
 use borrow.Author.Tests.{le-leb, lt-leb, lt-ltb, le-ltb}
 use lib.Dec.{leb}
-use lib.ListN.{length, get_or, set, get_elem?}
+use lib.ListN.{length, get_or, set}
 use Rattle.calculus.proofs.Laws.Maps.{none_is_not_some, some_injective}
 use Rattle.threads.specs.declared.Threads.{Threads}
 use Rattle.replay_engine.specs.declared.Outcome.TheVariants.{Moved, Stuck, Past}
@@ -49,7 +49,7 @@ within_limits_lem n things h few =
 abbrev calls_from : (i : ℕ) → List MachineThread → List ℕ
 calls_from i ts = of_live (λ j th. open_calls th.control) i ts
 
-counts_hold : (ts : List MachineThread) (i : ℕ) → ((m : ℕ) (th : MachineThread) → get_elem? ts m ≡ some th → open_calls th.control ≤ 64) → counts_within (calls_from i ts) ≡ true
+counts_hold : (ts : List MachineThread) (i : ℕ) → ((m : ℕ) (th : MachineThread) → slice_get ts m ≡ Some th → open_calls th.control ≤ 64) → counts_within (calls_from i ts) ≡ true
 unfolding counts_within call_limit
 counts_hold [] i h = refl
 counts_hold (th ∷ ts) i h = by_record th.joined (counts_hold ts (suc i) (λ m u z. h (suc m) u z))
@@ -62,7 +62,7 @@ and_fails : (b : Bool) → (b && false) ≡ false
 and_fails true = refl
 and_fails false = refl
 
-counts_fail : (ts : List MachineThread) (i m : ℕ) (th : MachineThread) → get_elem? ts m ≡ some th → th.joined ≡ false → 64 < open_calls th.control → counts_within (calls_from i ts) ≡ false
+counts_fail : (ts : List MachineThread) (i m : ℕ) (th : MachineThread) → slice_get ts m ≡ Some th → th.joined ≡ false → 64 < open_calls th.control → counts_within (calls_from i ts) ≡ false
 unfolding counts_within call_limit
 counts_fail [] i m th h j over = none_is_not_some h
 counts_fail (u ∷ ts) i zero th h j over =
@@ -83,7 +83,7 @@ module _ (p : List ℕ) (R : Replay) where
       rw (within_limits_lem (length R.machine.threads) R.things H.sized.fits H.names.few, counts_hold R.machine.threads 0 (λ m th h. (H.threads m th h).calls)) refl
 
   -- a thread has more open calls than it may
-  pub within_fails : (t : ℕ) (th : MachineThread) → get_elem? R.machine.threads t ≡ some th → th.joined ≡ false → 64 < open_calls th.control → within R ≡ false
+  pub within_fails : (t : ℕ) (th : MachineThread) → slice_get R.machine.threads t ≡ Some th → th.joined ≡ false → 64 < open_calls th.control → within R ≡ false
   unfolding within calls_in
   within_fails t th h j over = rw (counts_fail R.machine.threads 0 t th h j over) (and_fails (within_limits (length R.machine.threads) R.things))
 
@@ -95,7 +95,7 @@ unfolding open_calls
 row_tells p s t f (done v) C = let e = ap (λ (g : ControlPoint). g.row) C in omega (arith, e)
 row_tells p s t f (at σ w K) (values, W, F) = frames_row p t s K f.row (place_of p s w) _ F
 
-set_there : {A : Type 0} (xs : List A) (i : ℕ) (a : A) → i < length xs → get_elem? (set xs i a) i ≡ some a
+set_there : {A : Type 0} (xs : List A) (i : ℕ) (a : A) → i < length xs → slice_get (set xs i a) i ≡ Some a
 set_there [] i a h = absurd (omega (arith, h))
 set_there (x ∷ xs) zero a h = refl
 set_there (x ∷ xs) (suc i) a h = set_there xs i a (omega (arith, h))
@@ -110,7 +110,7 @@ module _ {p s : List ℕ} {T : Threads} {R : Replay} {t tid : ℕ} (P : Paused p
       ap (λ (h : ControlPoint). h.row) (control_point_here after t found_at (F.1.long ∙ P.long) (low P)) ∙ row_tells p after t found_at d F.0
 
   abbrev Goes : Type 0
-  Goes = Answered p (check_limits within (some (gone_to R t tid d))) (after_act p T t f (act.Go g, s))
+  Goes = Answered p (check_limits within (Some (gone_to R t tid d))) (after_act p T t f (act.Go g, s))
 
   go_holds : open_calls d ≤ 64 → Goes
   unfolding check_limits after_act act_step moved_to outcome_of

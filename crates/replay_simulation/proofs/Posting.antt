@@ -1,13 +1,12 @@
 -- A semaphore's count is at most the number of steps done, since a step raises one count by one. So the counts of a trace fit where they
 -- are stored.
+use Rattle.std.proofs.Common.{Some, slice_get}
 use Prim.Native.Nat.{ℕ, zero, suc, ◌<◌, ◌≤◌}
 use mathlib.Core.Path.{◌≡◌, refl, subst}
 use mathlib.Core.Bool.{Bool, true, false}
 use mathlib.Core.List.{List}
-use mathlib.Core.Option.{some}
 use native.Mathlib.Omega.{arith}
 use native.Mathlib.Decide.{ℕ_discrete}
-use lib.ListN.{get_elem?}
 use Rattle.spec.specs.Program.{Program}
 use Rattle.calculus.specs.Expression.{Value, Unary, join, ref, read, lock, unlock, post, wait, hold, call, choose, Nullary, newtid, newlock, newsem, newrwlock}
 use Rattle.calculus.specs.State.{Slot, unused, identifier, cell, a_lock, semaphore, rwlock, Part, update}
@@ -23,7 +22,7 @@ use Rattle.replay_machine.specs.Replay.{Replay, word_of, stepped, start_replay}
 use Rattle.replay_simulation.proofs.Using.{Roomy}
 
 abbrev pub Within : (k : ℕ) → Slot → Type 0
-Within k a = (c : ℕ) → count a ≡ some c → c ≤ k
+Within k a = (c : ℕ) → count a ≡ Some c → c ≤ k
 
 -- every count is at most k
 abbrev pub CountsWithin : (k : ℕ) → (ℕ → Slot) → Type 0
@@ -35,7 +34,7 @@ more k names h n c e = let l = h n c e in omega arith
 updated : (k : ℕ) (names : ℕ → Slot) (m : ℕ) (a : Slot) → CountsWithin k names → Within (suc k) a → CountsWithin (suc k) (update names m a)
 updated k names m a h w n c e = by_name (ℕ_discrete n m) e
   where
-    by_name : (d : Dec (n ≡ m)) → count (choose d a (names n)) ≡ some c → c ≤ suc k
+    by_name : (d : Dec (n ≡ m)) → count (choose d a (names n)) ≡ Some c → c ≤ suc k
     by_name (yes z) e = w c e
     by_name (no z) e = more k names h n c e
 
@@ -45,23 +44,23 @@ made_within k newlock c e = none_is_not_some e
 made_within k newsem c e = let z : 0 ≡ c = some_injective e in omega (arith, z)
 made_within k (newrwlock N) c e = none_is_not_some e
 
-one_less_below : (c d : ℕ) → one_less c ≡ some d → d ≤ c
+one_less_below : (c d : ℕ) → one_less c ≡ Some d → d ≤ c
 one_less_below zero d e = none_is_not_some e
 one_less_below (suc c) d e = let z : c ≡ d = some_injective e in omega (arith, z)
 
 module _ (k : ℕ) (M : Machine) (i tid : ℕ) (σ : Env) (K : List Frame) (h : CountsWithin k M.names) where
-  told : (N N' : Machine) → CountsWithin (suc k) N.names → some N ≡ some N' → CountsWithin (suc k) N'.names
+  told : (N N' : Machine) → CountsWithin (suc k) N.names → Some N ≡ Some N' → CountsWithin (suc k) N'.names
   told N N' w e = subst (λ (x : Machine). CountsWithin (suc k) x.names) (some_injective e) w
 
   same : CountsWithin (suc k) M.names
   same = more k M.names h
 
-  unary_counts : (o : Unary) (v : Value) (N : Machine) → step_unary M i tid σ K o v ≡ some N → CountsWithin (suc k) N.names
+  unary_counts : (o : Unary) (v : Value) (N : Machine) → step_unary M i tid σ K o v ≡ Some N → CountsWithin (suc k) N.names
   unary_counts join v N q =
       let (m, _, q₁) = bind_is_some (name_of v) q in
       let (_, _, q₂) = bind_is_some (if_identifier (M.names m)) q₁ in
       let (j, _, q₃) = bind_is_some (lowest m M.threads) q₂ in
-      let (u, _, q₄) = bind_is_some (get_elem? M.threads j) q₃ in
+      let (u, _, q₄) = bind_is_some (slice_get M.threads j) q₃ in
       told _ N same q₄
   unary_counts ref v N q = told _ N (updated k M.names M.next (cell v) h (λ c e. none_is_not_some e)) q
   unary_counts read v N q =
@@ -94,9 +93,9 @@ module _ (k : ℕ) (M : Machine) (i tid : ℕ) (σ : Env) (K : List Frame) (h : 
       let (p, _, q₂) = bind_is_some (rw_state (M.names m)) q₁ in
       let (inside, _, q₃) = bind_is_some (inside_after p.0 w p.1) q₂ in
       told _ N (updated k M.names m (rwlock p.0 inside) h (λ c e. none_is_not_some e)) q₃
-  unary_counts (call f) v N q = let (b, _, q₁) = bind_is_some (get_elem? M.procedures f) q in told _ N same q₁
+  unary_counts (call f) v N q = let (b, _, q₁) = bind_is_some (slice_get M.procedures f) q in told _ N same q₁
 
-  word_counts : (c : Part) (w : Word) (N : Machine) → step_word M i tid σ K c w ≡ some N → CountsWithin (suc k) N.names
+  word_counts : (c : Part) (w : Word) (N : Machine) → step_word M i tid σ K c w ≡ Some N → CountsWithin (suc k) N.names
   word_counts c (let_word q x v e) N z = told _ N same z
   word_counts c (if_word q e₁ e₂) N z = told _ N same z
   word_counts c (while_word q e) N z = told _ N same z
@@ -113,22 +112,22 @@ module _ (k : ℕ) (M : Machine) (i tid : ℕ) (σ : Env) (K : List Frame) (h : 
   word_counts c (unrolled_word q e) N z = told _ N same z
   word_counts c (again_word q v e) N z = told _ N same z
 
-control_counts : (k : ℕ) (M : Machine) (i : ℕ) (c : Part) (tid : ℕ) (b : Control) (N : Machine) → CountsWithin k M.names → step_control M i c tid b ≡ some N → CountsWithin (suc k) N.names
+control_counts : (k : ℕ) (M : Machine) (i : ℕ) (c : Part) (tid : ℕ) (b : Control) (N : Machine) → CountsWithin k M.names → step_control M i c tid b ≡ Some N → CountsWithin (suc k) N.names
 control_counts k M i c tid (done v) N h q = none_is_not_some q
 control_counts k M i c tid (at σ w K) N h q = word_counts k M i tid σ K h c w N q
 
-thread_counts : (k : ℕ) (M : Machine) (i : ℕ) (c : Part) (t : MachineThread) (j : Bool) (N : Machine) → CountsWithin k M.names → step_thread M i c t j ≡ some N → CountsWithin (suc k) N.names
+thread_counts : (k : ℕ) (M : Machine) (i : ℕ) (c : Part) (t : MachineThread) (j : Bool) (N : Machine) → CountsWithin k M.names → step_thread M i c t j ≡ Some N → CountsWithin (suc k) N.names
 thread_counts k M i c t true N h q = none_is_not_some q
 thread_counts k M i c t false N h q = control_counts k M i c t.tid t.control N h q
 
-step_counts : (k : ℕ) (M : Machine) (i : ℕ) (c : Part) (N : Machine) → CountsWithin k M.names → step M i c ≡ some N → CountsWithin (suc k) N.names
+step_counts : (k : ℕ) (M : Machine) (i : ℕ) (c : Part) (N : Machine) → CountsWithin k M.names → step M i c ≡ Some N → CountsWithin (suc k) N.names
 unfolding step
-step_counts k M i c N h q = let (t, _, q₁) = bind_is_some (get_elem? M.threads i) q in thread_counts k M i c t t.joined N h q₁
+step_counts k M i c N h q = let (t, _, q₁) = bind_is_some (slice_get M.threads i) q in thread_counts k M i c t t.joined N h q₁
 
-pub stepped_counts : (k : ℕ) (R R' : Replay) (l : TraceLine) → CountsWithin k R.machine.names → stepped R l ≡ some R' → CountsWithin (suc k) R'.machine.names
+pub stepped_counts : (k : ℕ) (R R' : Replay) (l : TraceLine) → CountsWithin k R.machine.names → stepped R l ≡ Some R' → CountsWithin (suc k) R'.machine.names
 unfolding stepped
 stepped_counts k R R' l h q =
-    let (t, _, q₁) = bind_is_some (get_elem? R.machine.threads l.thread) q in
+    let (t, _, q₁) = bind_is_some (slice_get R.machine.threads l.thread) q in
     let (w, _, q₂) = bind_is_some (word_of t.joined t) q₁ in
     let (c, _, q₃) = bind_is_some (part_chosen w l.choice) q₂ in
     let (N, moves, q₄) = bind_is_some (step R.machine l.thread c) q₃ in
@@ -139,7 +138,7 @@ pub start_counts : (P : Program) → CountsWithin 0 (start_replay P).machine.nam
 unfolding start_replay start_machine
 start_counts P n c z = by_name (ℕ_discrete n 0) z
   where
-    by_name : (d : Dec (n ≡ 0)) → count (choose d identifier unused) ≡ some c → c ≤ 0
+    by_name : (d : Dec (n ≡ 0)) → count (choose d identifier unused) ≡ Some c → c ≤ 0
     by_name (yes y) z = none_is_not_some z
     by_name (no y) z = none_is_not_some z
 

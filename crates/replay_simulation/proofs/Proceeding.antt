@@ -1,15 +1,15 @@
 -- A thread goes on from a focus to its next word: the numbers then hold the machine in which it has gone there.
+use Rattle.std.proofs.Common.{Some, slice_get}
 use Prim.Native.Nat.{ℕ, zero, suc, ◌+◌, ◌<◌, ◌≤◌}
 use mathlib.Core.Path.{◌≡◌, refl, sym, ◌∙◌, ap, subst}
 use mathlib.Core.Logic.{◌≢◌}
 use mathlib.Core.Bool.{Bool, false}
 use mathlib.Core.List.{List, [], ◌∷◌}
-use mathlib.Core.Option.{some}
 use native.Mathlib.Omega.{arith}
 use native.Mathlib.Decide.{ℕ_discrete}
 use borrow.Author.Tests.{lt-ltb}
 use lib.Dec.{eqb, ltb}
-use lib.ListN.{length, get_or, set, get_elem?, length-set}
+use lib.ListN.{length, get_or, set, length-set}
 use lib.Seq.{get_or-set_same, get_or-set_other}
 use Rattle.spec.specs.Choice.{when◌then◌else◌}
 use Rattle.calculus.specs.State as calculus
@@ -104,12 +104,12 @@ module _ (T : Threads) (t tid : ℕ) (low : t < 16) (long : length T.records ≡
 
 -- ------------------------------------------------------------------ places
 
-pub place_below : {A : Type 0} (xs : List A) (i : ℕ) (a : A) → get_elem? xs i ≡ some a → i < length xs
+pub place_below : {A : Type 0} (xs : List A) (i : ℕ) (a : A) → slice_get xs i ≡ Some a → i < length xs
 place_below [] i a h = none_is_not_some h
 place_below (x ∷ xs) zero a h = omega arith
 place_below (x ∷ xs) (suc i) a h = let l = place_below xs i a h in omega arith
 
-pub set_here : {A : Type 0} (xs : List A) (i : ℕ) (a b : A) → get_elem? (set xs i a) i ≡ some b → a ≡ b
+pub set_here : {A : Type 0} (xs : List A) (i : ℕ) (a b : A) → slice_get (set xs i a) i ≡ Some b → a ≡ b
 set_here [] i a b h = none_is_not_some h
 set_here (x ∷ xs) zero a b h = some_injective h
 set_here (x ∷ xs) (suc i) a b h = set_here xs i a b h
@@ -124,7 +124,7 @@ pub record Paused (p s : List ℕ) (T : Threads) (R : Replay) (t tid : ℕ) : Ty
   pub sized : Sized T R.machine.threads
   pub there : t < length R.machine.threads
   pub was : get_or T.records t no_record ≡ running_record tid
-  pub others : (i : ℕ) (th : MachineThread) → i ≢ t → get_elem? R.machine.threads i ≡ some th → ThreadHeld p s T i th
+  pub others : (i : ℕ) (th : MachineThread) → i ≢ t → slice_get R.machine.threads i ≡ Some th → ThreadHeld p s T i th
 
 -- it has gone on to d
 abbrev pub gone_to : Replay → (t tid : ℕ) → Control → Replay
@@ -169,7 +169,7 @@ module _ {p s : List ℕ} {T : Threads} {R : Replay} {t tid : ℕ} (P : Paused p
       calls = few;
     }
 
-    thread_there : (i : ℕ) (th : MachineThread) → i ≢ t → get_elem? ts i ≡ some th → ThreadHeld p s' T' i th
+    thread_there : (i : ℕ) (th : MachineThread) → i ≢ t → slice_get ts i ≡ Some th → ThreadHeld p s' T' i th
     thread_there i th n h =
         let l = place_below ts i th h in
         let f = P.sized.fits in
@@ -187,7 +187,7 @@ module _ {p s : List ℕ} {T : Threads} {R : Replay} {t tid : ℕ} (P : Paused p
       where
         by_place : Dec (i ≡ t) → ThreadHeld p s' T' i th
         by_place (yes e) =
-            let here = set_here ts t (running tid d) th (ap (get_elem? (set ts t (running tid d))) (sym e) ∙ h) in
+            let here = set_here ts t (running tid d) th (ap (slice_get (set ts t (running tid d))) (sym e) ∙ h) in
             subst (λ (j : ℕ). ThreadHeld p s' T' j th) (sym e) (subst (ThreadHeld p s' T' t) here thread_here)
         by_place (no n) = thread_there i th n (sym (set_elsewhere ts t i (running tid d) (λ e. n (sym e))) ∙ h)
 

@@ -1,14 +1,14 @@
 -- The lowest pair that the numbers show is the machine's.
+use Rattle.std.proofs.Common.{Option, None as none, Some as some, slice_get}
 use Prim.Native.Nat.{ℕ, zero, suc, ◌+◌, ◌-◌}
 use mathlib.Core.Path.{◌≡◌, refl, sym, ◌∙◌, ap, subst}
 use mathlib.Core.Bool.{Bool, true, false, ◌||◌}
 use mathlib.Core.List.{List, [], ◌∷◌}
-use mathlib.Core.Option.{Option, none, some}
 use native.Mathlib.Omega.{arith}
 use native.Mathlib.Decide.{ℕ_discrete}
 use borrow.Author.Tests.{eq-eqb, ne_eqb}
 use lib.Dec.{eqb}
-use lib.ListN.{length, get_elem?}
+use lib.ListN.{length}
 use Rattle.spec.specs.Choice.{when◌then◌else◌}
 use Rattle.spec.specs.Expression.{Position}
 use Rattle.spec.specs.declared.Word.{Word}
@@ -123,7 +123,7 @@ module _ (p s : List ℕ) (uses_at : ℕ → MachineThread → ℕ × Uses) (num
   Shown i th = (th.joined ≡ true → access_of p s i ≡ None) × (th.joined ≡ false → AccessIs (access_of p s i) (uses_at i th).1)
 
   abbrev AllShown : (i : ℕ) → List MachineThread → Type 0
-  AllShown i ts = (m : ℕ) (th : MachineThread) → get_elem? ts m ≡ some th → Shown (i + m) th
+  AllShown i ts = (m : ℕ) (th : MachineThread) → slice_get ts m ≡ some th → Shown (i + m) th
 
   later_shown : (i : ℕ) (th : MachineThread) (ts : List MachineThread) → AllShown i (th ∷ ts) → AllShown (i + 1) ts
   later_shown i th ts all m u h = subst (λ (j : ℕ). Shown j u) (let e : i + suc m ≡ i + 1 + m = omega arith in e) (all (suc m) u h)
@@ -305,7 +305,7 @@ module _ (p s : List ℕ) (T : Threads) (R : Replay) (H : Holds p s T R) where
       ap (λ (n : ℕ). pair_decoded (pair_of p s n 0 n)) H.sized.count
       ∙ pairs_alike p s uses_at (λ i th. refl) R.machine.threads 0 shown (length R.machine.threads) (omega arith)
     where
-      shown : (m : ℕ) (th : MachineThread) → get_elem? R.machine.threads m ≡ some th → (th.joined ≡ true → access_of p s (0 + m) ≡ None) × (th.joined ≡ false → AccessIs (access_of p s (0 + m)) (uses_at (0 + m) th).1)
+      shown : (m : ℕ) (th : MachineThread) → slice_get R.machine.threads m ≡ some th → (th.joined ≡ true → access_of p s (0 + m) ≡ None) × (th.joined ≡ false → AccessIs (access_of p s (0 + m)) (uses_at (0 + m) th).1)
       shown m th h =
           let held = H.threads m th h in
           let z : 0 + m ≡ m = omega arith in (

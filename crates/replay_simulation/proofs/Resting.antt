@@ -1,8 +1,8 @@
 -- What is left behind a line of a text is the text from the byte `next` on.
+use Rattle.std.proofs.Common.{Some}
 use Prim.Native.Nat.{ℕ, ◌+◌, ◌-◌, ◌<◌, ◌≤◌}
 use mathlib.Core.Path.{◌≡◌, sym, ◌∙◌, ap, subst}
 use mathlib.Core.List.{List}
-use mathlib.Core.Option.{some}
 use native.Mathlib.Omega.{arith}
 use lib.ListN.{length, drop, length-drop}
 use lib.Seq.{drop-drop}
@@ -16,7 +16,7 @@ pub record RestAt (text : List ℕ) (from next : ℕ) (r : List ℕ) : Type 0 wh
   pub further : from < next
   pub in_text_lem : next ≤ length text
 
-pub rest_at : (text : List ℕ) (from : ℕ) (fs : List Field) (r : List ℕ) → from ≤ length text → line_at (drop from text) ≡ some (fs, r) →
+pub rest_at : (text : List ℕ) (from : ℕ) (fs : List Field) (r : List ℕ) → from ≤ length text → line_at (drop from text) ≡ Some (fs, r) →
     RestAt text from (length text - length r) r
 rest_at text from fs r low h = told (subst (BehindLine (drop from text)) h (behind_line_lem (drop from text)))
   where

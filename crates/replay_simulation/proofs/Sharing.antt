@@ -1,8 +1,8 @@
 -- The words that use what a value names, on numbers, are the machine's.
+use Rattle.std.proofs.Common.{Option, None, Some}
 use Prim.Native.Nat.{ℕ, suc, ◌<◌}
 use mathlib.Core.Path.{◌≡◌, refl, sym, ◌∙◌, ap, subst}
 use mathlib.Core.List.{List}
-use mathlib.Core.Option.{Option, none, some}
 use Rattle.spec.specs.Expression.{Position}
 use Rattle.spec.specs.declared.Word.TheVariants.{Unary, Binary}
 use Rattle.spec.specs.declared.BinaryWord.TheVariants.{Write}
@@ -63,7 +63,7 @@ module _ (p s : List ℕ) (row c : ℕ) {q : Position} where
   write_acts v w e r = rw r.code (rw r.code (ap (λ (u : ℕ). effected p s row q.index u (written_of (slot_at s u) w)) e))
 
 -- a value that names nothing is of no use
-unused_useless : (o : calculus.Unary) → Using o → use_of o unused ≡ none
+unused_useless : (o : calculus.Unary) → Using o → use_of o unused ≡ None
 unused_useless read using_read = refl
 unused_useless lock using_lock = refl
 unused_useless unlock using_unlock = refl
@@ -79,7 +79,7 @@ unused_useless (calculus.call f) u = elim u [ ]
 
 -- a `write` stores in a cell
 abbrev write_use : state.Slot → Value → Option Use
-write_use sl w = cell_value sl >>= λ v. some (left (cell w))
+write_use sl w = cell_value sl >>= λ v. Some (left (cell w))
 
 write_used : (x : Slot) (sl : state.Slot) (w : Value) → SlotIs x sl → UseIs (write_use sl w) (written_of x (code_value w))
 unfolding written_of
@@ -101,34 +101,34 @@ module _ {p s : List ℕ} {T : Threads} {R : Replay} {t row tid : ℕ} {σ : Env
 
   -- the word becomes a value
   gives_value : (f : ControlPoint) (x : Value) →
-      Answers A f (some (gives M t tid σ K M.names x)) (Go (given p row (place_of p s w) (code_value x)), s)
+      Answers A f (Some (gives M t tid σ K M.names x)) (Go (given p row (place_of p s w) (code_value x)), s)
   gives_value f x = becomes A s A.holds.long (λ i h. agree_all i s) A.holds.names below f x
 
   -- the word leaves something else where it was
   leaves_slot : (f : ControlPoint) (n : ℕ) (sl : state.Slot) (y : Slot) → n < M.next → SlotIs y sl →
-      Answers A f (some (leaves M t tid σ K n sl)) (Go (given p row (place_of p s w) 0), slot_put s (suc n) y)
+      Answers A f (Some (leaves M t tid σ K n sl)) (Go (given p row (place_of p s w) 0), slot_put s (suc n) y)
   leaves_slot f n sl y l is =
       becomes A (slot_put s (suc n) y) (slot_put_length s (suc n) y ∙ A.holds.long) (λ i h. slot_agree i s (suc n) y h)
       (names_put A.holds.names n sl y A.holds.long l is) below f zero_value
 
   -- the word asks for the use of what a value names
-  asks : (f : ControlPoint) (v : Value) (u : Option Use) (x : StepEffect) → (slot_of M.names v ≡ unused → u ≡ none) → UseIs u x →
-      Answers A f (u >>= λ y. some (used_to M t tid σ K (name_in v) y)) (effected p s row (place_of p s w) (code_value v) x)
+  asks : (f : ControlPoint) (v : Value) (u : Option Use) (x : StepEffect) → (slot_of M.names v ≡ unused → u ≡ None) → UseIs u x →
+      Answers A f (u >>= λ y. Some (used_to M t tid σ K (name_in v) y)) (effected p s row (place_of p s w) (code_value v) x)
   unfolding effected after_act act_step check_limits
-  asks f v none x useless is = subst (λ (z : StepEffect). Answers A f none (effected p s row (place_of p s w) (code_value v) z)) (sym is) refl
-  asks f v (some (gave y)) x useless is =
-      subst (λ (z : StepEffect). Answers A f (some (gives M t tid σ K M.names y)) (effected p s row (place_of p s w) (code_value v) z)) (sym is) (gives_value f y)
-  asks f (int n) (some (left sl)) x useless is = some_is_not_none (useless refl)
-  asks f (name n) (some (left sl)) x useless (y, e, held) =
-      subst (λ (z : StepEffect). Answers A f (some (leaves M t tid σ K n sl)) (effected p s row (place_of p s w) (suc n) z)) (sym e)
+  asks f v None x useless is = subst (λ (z : StepEffect). Answers A f None (effected p s row (place_of p s w) (code_value v) z)) (sym is) refl
+  asks f v (Some (gave y)) x useless is =
+      subst (λ (z : StepEffect). Answers A f (Some (gives M t tid σ K M.names y)) (effected p s row (place_of p s w) (code_value v) z)) (sym is) (gives_value f y)
+  asks f (int n) (Some (left sl)) x useless is = some_is_not_none (useless refl)
+  asks f (name n) (Some (left sl)) x useless (y, e, held) =
+      subst (λ (z : StepEffect). Answers A f (Some (leaves M t tid σ K n sl)) (effected p s row (place_of p s w) (suc n) z)) (sym e)
       (leaves_slot f n sl y (used_below A.holds.names n (λ z. some_is_not_none (useless z))) held)
 
 write_asks : (M : Machine) (t tid : ℕ) (σ : Env) (K : List Frame) (q : Position) (v w : Value) →
-    step_word M t tid σ K state.first (write_word q v w) ≡ (write_use (slot_of M.names v) w >>= λ y. some (used_to M t tid σ K (name_in v) y))
+    step_word M t tid σ K state.first (write_word q v w) ≡ (write_use (slot_of M.names v) w >>= λ y. Some (used_to M t tid σ K (name_in v) y))
 write_asks M t tid σ K q (int k) w = refl
 write_asks M t tid σ K q (name m) w = by_slot (M.names m)
   where
-    by_slot : (sl : state.Slot) → (cell_value sl >> some (leaves M t tid σ K m (cell w))) ≡ (write_use sl w >>= λ y. some (used_to M t tid σ K m y))
+    by_slot : (sl : state.Slot) → (cell_value sl >> Some (leaves M t tid σ K m (cell w))) ≡ (write_use sl w >>= λ y. Some (used_to M t tid σ K m y))
     by_slot unused = refl
     by_slot identifier = refl
     by_slot (cell x) = refl

@@ -1,14 +1,14 @@
 -- A spawn on numbers is the machine's: the new thread gets a copy of the variables and goes to its first word, then the word becomes 0.
+use Rattle.std.proofs.Common.{Some, slice_get}
 use Prim.Native.Nat.{ℕ, zero, suc, ◌+◌, ◌*◌, ◌<◌, ◌≤◌}
 use mathlib.Core.Path.{◌≡◌, refl, sym, ◌∙◌, ap, subst}
 use mathlib.Core.Logic.{◌≢◌, ◌⊎◌, inl, inr}
 use mathlib.Core.List.{List, [], ◌∷◌, ◌++◌}
-use mathlib.Core.Option.{some}
 use native.Mathlib.Omega.{arith}
 use native.Mathlib.Decide.{ℕ_discrete, dec_lt}
 use borrow.Author.Tests.{lt-ltb, le-leb, lt-leb}
 use lib.Dec.{leb}
-use lib.ListN.{length, get_or, set, get_elem?, length-set, length-append}
+use lib.ListN.{length, get_or, set, length-set, length-append}
 use lib.Seq.{get_or-set_same, get_or-set_other, set-append_seam, set-append_left}
 use Rattle.spec.specs.Choice.{when◌then◌else◌}
 use Rattle.spec.specs.Expression.{Position, Expr}
@@ -112,13 +112,13 @@ module _ (s : List ℕ) (a b : ℕ) (apart : a ≢ b) (u : ℕ) (is : b ≡ 66 *
 
 -- ------------------------------------------------------------------ one more thread
 
-last_other : {A : Type 0} (xs : List A) (a b : A) (i : ℕ) → i ≢ length xs → get_elem? (xs ++ (a ∷ [])) i ≡ some b → get_elem? xs i ≡ some b
+last_other : {A : Type 0} (xs : List A) (a b : A) (i : ℕ) → i ≢ length xs → slice_get (xs ++ (a ∷ [])) i ≡ Some b → slice_get xs i ≡ Some b
 last_other [] a b zero n h = absurd (n refl)
 last_other [] a b (suc i) n h = none_is_not_some h
 last_other (x ∷ xs) a b zero n h = h
 last_other (x ∷ xs) a b (suc i) n h = last_other xs a b i (λ e. n (ap suc e)) h
 
-first_kept : {A : Type 0} (xs : List A) (a b : A) (i : ℕ) → get_elem? xs i ≡ some b → get_elem? (xs ++ (a ∷ [])) i ≡ some b
+first_kept : {A : Type 0} (xs : List A) (a b : A) (i : ℕ) → slice_get xs i ≡ Some b → slice_get (xs ++ (a ∷ [])) i ≡ Some b
 first_kept [] a b i h = none_is_not_some h
 first_kept (x ∷ xs) a b zero h = h
 first_kept (x ∷ xs) a b (suc i) h = first_kept xs a b i h
@@ -230,7 +230,7 @@ module _ {p s : List ℕ} {T : Threads} {R : Replay} {t row tid : ℕ} {σ : Env
         (enters_word {c = finish} (record { low = room; same = same_all u s₁; long = long₁; inside = (omega arith, omega arith); values = values₁; frames = (refl, refl) }) e S)
 
     -- thread t still stands at its spawn
-    there₁ : get_elem? ts₁ t ≡ some (running tid (at σ (spawn_word q (name n) e) K))
+    there₁ : slice_get ts₁ t ≡ Some (running tid (at σ (spawn_word q (name n) e) K))
     there₁ = set_elsewhere (M.threads ++ (ph ∷ [])) u t (running n (enter σ e [])) (λ z. other (sym z)) ∙ first_kept M.threads ph (running tid (at σ (spawn_word q (name n) e) K)) t A.there
 
     threads_after : set ts₁ t (running tid (return σ zero_value K)) ≡ set M.threads t (running tid (return σ zero_value K)) ++ (running n (enter σ e []) ∷ [])
@@ -244,28 +244,28 @@ module _ {p s : List ℕ} {T : Threads} {R : Replay} {t row tid : ℕ} {σ : Env
         let same_row = frames_row p t after.1 K (control_point_at after.1 t).row q.index (continuation p q.index) B.frames ∙ sym (frames_row p t s K row q.index (continuation p q.index) A.frames) in
         subst (λ (i : ℕ). AtWord p after.1 after.0 R₁ t i tid σ (spawn_word q (name n) e) K) same_row B
 
-    spawns_one : Answered p (check_limits within (some Spawns)) (gives_zero p t word after)
+    spawns_one : Answered p (check_limits within (Some Spawns)) (gives_zero p t word after)
     unfolding gives_zero given after_act act_step
     spawns_one =
-        subst (λ (ts : List MachineThread). Answered p (check_limits within (some (with_threads R ts))) (gives_zero p t word after)) threads_after
+        subst (λ (ts : List MachineThread). Answered p (check_limits within (Some (with_threads R ts))) (gives_zero p t word after)) threads_after
         (goes still_at word (returning row (continuation p q.index) 0) (return σ zero_value K) (returns_word (ready still_at q.index (omega arith)) zero_value))
 
-    with_room : Answered p (check_limits within (some Spawns)) (spawned_step p s T t word (suc n))
+    with_room : Answered p (check_limits within (Some Spawns)) (spawned_step p s T t word (suc n))
     unfolding spawned_step
     with_room =
-        subst (λ (c : ℕ). Answered p (check_limits within (some Spawns)) (when leb 16 c then (ending Past T, s) else gives_zero p t word (proceeded p (copied s row (66 * c)) (spawned T (suc n)) c (entering (66 * c) (second p q.index)))))
+        subst (λ (c : ℕ). Answered p (check_limits within (Some Spawns)) (when leb 16 c then (ending Past T, s) else gives_zero p t word (proceeded p (copied s row (66 * c)) (spawned T (suc n)) c (entering (66 * c) (second p q.index)))))
         (sym A.holds.sized.count) (rw (lt-leb 16 u room) spawns_one)
 
-  no_room : 16 ≤ u → Answered p (check_limits within (some Spawns)) (spawned_step p s T t word (suc n))
+  no_room : 16 ≤ u → Answered p (check_limits within (Some Spawns)) (spawned_step p s T t word (suc n))
   unfolding spawned_step check_limits within within_limits thread_limit
   no_room full =
       let a = length-append (set M.threads t (running tid (return σ zero_value K))) (running n (enter σ e []) ∷ []) in
       let b = length-set M.threads t (running tid (return σ zero_value K)) in
       rw (A.holds.sized.count, le-leb 16 u full, lt-leb (length (set M.threads t (running tid (return σ zero_value K)) ++ (running n (enter σ e []) ∷ []))) 16 (omega (arith, a, b, full))) refl
 
-  pub spawning_goes : Answered p (check_limits within (some Spawns)) (spawned_step p s T t word (suc n))
+  pub spawning_goes : Answered p (check_limits within (Some Spawns)) (spawned_step p s T t word (suc n))
   spawning_goes = go (dec_lt u 16)
     where
-      go : Dec (u < 16) → Answered p (check_limits within (some Spawns)) (spawned_step p s T t word (suc n))
+      go : Dec (u < 16) → Answered p (check_limits within (Some Spawns)) (spawned_step p s T t word (suc n))
       go (yes l) = with_room l
       go (no f) = no_room (omega (arith, f))

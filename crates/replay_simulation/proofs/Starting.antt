@@ -1,13 +1,13 @@
 -- The start on numbers is the machine's.
+use Rattle.std.proofs.Common.{Some, slice_get}
 use Prim.Native.Nat.{ℕ, zero, suc, ◌+◌, ◌*◌, ◌<◌, ◌≤◌}
 use mathlib.Core.Path.{◌≡◌, refl, sym, ◌∙◌, ap}
 use mathlib.Core.Logic.{◌≢◌}
 use mathlib.Core.List.{List, [], ◌∷◌}
-use mathlib.Core.Option.{some}
 use native.Mathlib.Omega.{arith}
 use native.Mathlib.Decide.{ℕ_discrete}
 use borrow.Author.Tests.{lt-ltb}
-use lib.ListN.{length, get_or, set, replicate, get_elem?, length-set}
+use lib.ListN.{length, get_or, set, replicate, length-set}
 use lib.Seq.{get_or-set_same, get_or-set_other}
 use Rattle.spec.specs.Program.{Program}
 use Rattle.calculus.specs.Expression.{int, choose}
@@ -110,7 +110,7 @@ module _ (p s : List ℕ) (long : length s ≡ space_size) where
       others = λ i th n h. none_there i th n h;
     }
       where
-        none_there : (i : ℕ) (th : MachineThread) → i ≢ 0 → get_elem? (ph ∷ []) i ≡ some th → ThreadHeld p s₁ (started 1) i th
+        none_there : (i : ℕ) (th : MachineThread) → i ≢ 0 → slice_get (ph ∷ []) i ≡ Some th → ThreadHeld p s₁ (started 1) i th
         none_there zero th n h = absurd (n refl)
         none_there (suc i) th n h = none_is_not_some h
 

@@ -1,13 +1,13 @@
 -- A step on numbers is the machine's step: thread by thread, word by word, choice by choice.
+use Rattle.std.proofs.Common.{Option, None, Some, slice_get}
 use Prim.Native.Nat.{ℕ, zero, suc, ◌≤◌}
 use mathlib.Core.Path.{◌≡◌, refl, sym, ap, subst}
 use mathlib.Core.Bool.{Bool, true, false}
 use mathlib.Core.List.{List, [], ◌∷◌}
-use mathlib.Core.Option.{Option, none, some}
 use native.Mathlib.Omega.{arith}
 use borrow.Author.Tests.{le-leb, lt-leb, ne_eqb}
 use lib.Dec.{eqb}
-use lib.ListN.{length, get_elem?}
+use lib.ListN.{length}
 use Rattle.spec.specs.Choice.{when◌then◌else◌}
 use Rattle.spec.specs.Expression.{Position, Expr}
 use Rattle.spec.specs.declared.Word.{Word}
@@ -64,8 +64,8 @@ use Rattle.replay_simulation.proofs.Called.{call_goes}
 
 -- what is asked of a slot before a thread is spawned or joined
 pub data Identified (x : Slot) (sl : state.Slot) : Type 0 where
-  is_one : if_identifier sl ≡ some tt → joined_of x ≡ used.Joins → spawned_of x ≡ used.Spawns → Identified x sl
-  is_none : if_identifier sl ≡ none → joined_of x ≡ used.Stuck → spawned_of x ≡ used.Stuck → Identified x sl
+  is_one : if_identifier sl ≡ Some tt → joined_of x ≡ used.Joins → spawned_of x ≡ used.Spawns → Identified x sl
+  is_none : if_identifier sl ≡ None → joined_of x ≡ used.Stuck → spawned_of x ≡ used.Stuck → Identified x sl
 
 identified : (x : Slot) (sl : state.Slot) → SlotIs x sl → Identified x sl
 unfolding joined_of spawned_of
@@ -101,7 +101,7 @@ too_large : (p : List ℕ) (f : ControlPoint) (c : ℕ) → may_choose p f (suc 
 unfolding may_choose
 too_large p f c = rw (ne_eqb (suc (suc c)) 0 (λ e. omega (arith, e)), ne_eqb (suc (suc c)) 1 (λ e. omega (arith, e)))
 
-stuck : (p s : List ℕ) (T : Threads) → Answered p (check_limits within none) (ending Stuck T, s)
+stuck : (p s : List ℕ) (T : Threads) → Answered p (check_limits within None) (ending Stuck T, s)
 unfolding check_limits
 stuck p s T = refl
 
@@ -110,24 +110,24 @@ module _ {p s : List ℕ} {T : Threads} {R : Replay} {t row tid : ℕ} {σ : Env
   -- what is left of a line once the word is known
   abbrev Line : Option Part → Outcome Replay
   Line o =
-      check_limits within (o >>= λ part. step_word R.machine t tid σ K part w >>= λ N. some (record { machine = N; things = things_after (effect (redex σ w)) R.things }))
+      check_limits within (o >>= λ part. step_word R.machine t tid σ K part w >>= λ N. Some (record { machine = N; things = things_after (effect (redex σ w)) R.things }))
 
   abbrev WordLine : ControlPoint → ℕ → Type 0
   WordLine f c = Answered p (Line (part_chosen (redex σ w) c)) (stepped_from p s T t f c)
 
   -- the step that takes that part
   abbrev Takes : Part → ControlPoint → ℕ → Type 0
-  Takes part f c = Answered p (Line (some part)) (after_act p T t f (acted p s f c))
+  Takes part f c = Answered p (Line (Some part)) (after_act p T t f (acted p s f c))
 
-  choice_0 : (f : ControlPoint) → part_chosen (redex σ w) 0 ≡ some first → Takes first f 0 → WordLine f 0
+  choice_0 : (f : ControlPoint) → part_chosen (redex σ w) 0 ≡ Some first → Takes first f 0 → WordLine f 0
   unfolding stepped_from may_choose
   choice_0 f e G = subst (λ (o : Option Part). Answered p (Line o) (stepped_from p s T t f 0)) (sym e) G
 
-  choice_1 : (f : ControlPoint) → part_chosen (redex σ w) 1 ≡ some second → may_choose p f 1 ≡ true → Takes second f 1 → WordLine f 1
+  choice_1 : (f : ControlPoint) → part_chosen (redex σ w) 1 ≡ Some second → may_choose p f 1 ≡ true → Takes second f 1 → WordLine f 1
   unfolding stepped_from
   choice_1 f e h G = subst (λ (o : Option Part). Answered p (Line o) (stepped_from p s T t f 1)) (sym e) (rw h G)
 
-  choice_none : (f : ControlPoint) (c : ℕ) → part_chosen (redex σ w) c ≡ none → may_choose p f c ≡ false → WordLine f c
+  choice_none : (f : ControlPoint) (c : ℕ) → part_chosen (redex σ w) c ≡ None → may_choose p f c ≡ false → WordLine f c
   unfolding stepped_from
   choice_none f c e h = rw (h, e) (stuck p s T)
 
@@ -153,7 +153,7 @@ module _ {p s : List ℕ} {T : Threads} {R : Replay} {t row tid : ℕ} {σ : Env
       by_choice (suc (suc c)) = choice_none g (suc (suc c)) (is (suc (suc c))) (too_large p g c)
 
   -- a join, or a spawn, of what is no identifier
-  no_identifier : (f : ControlPoint) (k v : ℕ) → Answers A f none (effected p s row k v used.Stuck)
+  no_identifier : (f : ControlPoint) (k v : ℕ) → Answers A f None (effected p s row k v used.Stuck)
   unfolding check_limits after_act effected act_step
   no_identifier f k v = refl
 
@@ -190,7 +190,7 @@ module _ {p s : List ℕ} {T : Threads} {R : Replay} {t row tid : ℕ} {σ : Env
   join_goes {q} (int k) A r =
       rw (join_acts p s row 0 0 r) (constant (identified (slot_at s 0) unused (slot_decodes A.holds.names (int k))))
     where
-      constant : Identified (slot_at s 0) unused → Answers A (ready_at row q.index 0) none (effected p s row q.index 0 (joined_of (slot_at s 0)))
+      constant : Identified (slot_at s 0) unused → Answers A (ready_at row q.index 0) None (effected p s row q.index 0 (joined_of (slot_at s 0)))
       constant (is_one a b c) = none_is_not_some a
       constant (is_none a b c) = rw b (no_identifier A (ready_at row q.index 0) q.index 0)
   join_goes {q} (name n) A r =
@@ -207,7 +207,7 @@ module _ {p s : List ℕ} {T : Threads} {R : Replay} {t row tid : ℕ} {σ : Env
   spawn_goes {q} (int k) A r S =
       rw (spawn_acts p s row 0 0 r) (constant (identified (slot_at s 0) unused (slot_decodes A.holds.names (int k))))
     where
-      constant : Identified (slot_at s 0) unused → Answers A (ready_at row q.index 0) none (effected p s row q.index 0 (spawned_of (slot_at s 0)))
+      constant : Identified (slot_at s 0) unused → Answers A (ready_at row q.index 0) None (effected p s row q.index 0 (spawned_of (slot_at s 0)))
       constant (is_one a b c) = none_is_not_some a
       constant (is_none a b c) = rw c (no_identifier A (ready_at row q.index 0) q.index 0)
   spawn_goes {q} (name n) {e} A r S =
@@ -256,7 +256,7 @@ module _ {p s : List ℕ} {T : Threads} {R : Replay} {t row tid : ℕ} {σ : Env
 
 -- ------------------------------------------------------------------ a step
 
-place_missing : {A : Type 0} (xs : List A) (i : ℕ) → get_elem? xs i ≡ none → length xs ≤ i
+place_missing : {A : Type 0} (xs : List A) (i : ℕ) → slice_get xs i ≡ None → length xs ≤ i
 place_missing [] i h = omega arith
 place_missing (x ∷ xs) zero h = some_is_not_none h
 place_missing (x ∷ xs) (suc i) h = let l = place_missing xs i h in omega arith
@@ -269,7 +269,7 @@ module _ (p s : List ℕ) (T : Threads) (R : Replay) (H : Holds p s T R) (roomy 
   line = record { thread = t; choice = c }
 
   -- a thread runs if its record says so
-  runs_decodes : (th : MachineThread) → get_elem? ts t ≡ some th → runs T t ≡ is_running (status_of th.joined th.control)
+  runs_decodes : (th : MachineThread) → slice_get ts t ≡ Some th → runs T t ≡ is_running (status_of th.joined th.control)
   unfolding runs
   runs_decodes th there =
       let l = place_below ts t th there in
@@ -277,42 +277,42 @@ module _ (p s : List ℕ) (T : Threads) (R : Replay) (H : Holds p s T R) (roomy 
       let k = H.sized.count in
       rw (lt-leb T.count t (omega (arith, l, k)), lt-leb 16 t (omega arith)) (ap (λ (r : Record). is_running r.state) (H.threads t th there).recorded)
 
-  runs_not : get_elem? ts t ≡ none → runs T t ≡ false
+  runs_not : slice_get ts t ≡ None → runs T t ≡ false
   unfolding runs
   runs_not missing = let l = place_missing ts t missing in let k = H.sized.count in rw (le-leb T.count t (omega (arith, l, k)))
 
   -- a line of a thread that has no word
-  no_word : runs T t ≡ false → stepped_on R line ≡ none → Answered p (check_limits within (stepped_on R line)) (stepped p s T t c)
+  no_word : runs T t ≡ false → stepped_on R line ≡ None → Answered p (check_limits within (stepped_on R line)) (stepped p s T t c)
   unfolding stepped
   no_word h e = rw (h, e) (stuck p s T)
 
-  has_word : (tid : ℕ) (σ : Env) (w : machine.Word) (K : List Frame) → get_elem? ts t ≡ some (running tid (at σ w K)) → Answered p (check_limits within (stepped_on R line)) (stepped p s T t c)
+  has_word : (tid : ℕ) (σ : Env) (w : machine.Word) (K : List Frame) → slice_get ts t ≡ Some (running tid (at σ w K)) → Answered p (check_limits within (stepped_on R line)) (stepped p s T t c)
   unfolding stepped stepped_on word_of step is_running
   has_word tid σ w K there =
       rw (runs_decodes (running tid (at σ w K)) there, there) (word_goes roomy w (control_point_at s t) (H.threads t (running tid (at σ w K)) there).control.1 (at_word_lem H there) c)
 
-  joined_wordless : (tid : ℕ) (d : Control) → get_elem? ts t ≡ some (record { tid = tid; joined = true; control = d }) → stepped_on R line ≡ none
+  joined_wordless : (tid : ℕ) (d : Control) → slice_get ts t ≡ Some (record { tid = tid; joined = true; control = d }) → stepped_on R line ≡ None
   unfolding stepped_on word_of
   joined_wordless tid d there = rw there
 
-  done_wordless : (tid : ℕ) (v : Value) → get_elem? ts t ≡ some (running tid (done v)) → stepped_on R line ≡ none
+  done_wordless : (tid : ℕ) (v : Value) → slice_get ts t ≡ Some (running tid (done v)) → stepped_on R line ≡ None
   unfolding stepped_on word_of
   done_wordless tid v there = rw there
 
-  none_wordless : get_elem? ts t ≡ none → stepped_on R line ≡ none
+  none_wordless : slice_get ts t ≡ None → stepped_on R line ≡ None
   unfolding stepped_on
   none_wordless missing = rw missing
 
   -- the numbers answer the line as the machine does, and hold it afterwards
   pub step_simulated : Answered p (check_limits within (stepped_on R line)) (stepped p s T t c)
   unfolding is_running
-  step_simulated = by_place (get_elem? ts t) refl
+  step_simulated = by_place (slice_get ts t) refl
     where
-      by_record : (tid : ℕ) (joined : Bool) (d : Control) → get_elem? ts t ≡ some (record { tid = tid; joined = joined; control = d }) → Answered p (check_limits within (stepped_on R line)) (stepped p s T t c)
+      by_record : (tid : ℕ) (joined : Bool) (d : Control) → slice_get ts t ≡ Some (record { tid = tid; joined = joined; control = d }) → Answered p (check_limits within (stepped_on R line)) (stepped p s T t c)
       by_record tid true d there = no_word (runs_decodes (record { tid = tid; joined = true; control = d }) there) (joined_wordless tid d there)
       by_record tid false (done v) there = no_word (runs_decodes (running tid (done v)) there) (done_wordless tid v there)
       by_record tid false (at σ w K) there = has_word tid σ w K there
 
-      by_place : (o : Option MachineThread) → get_elem? ts t ≡ o → Answered p (check_limits within (stepped_on R line)) (stepped p s T t c)
-      by_place none missing = no_word (runs_not missing) (none_wordless missing)
-      by_place (some th) there = by_record th.tid th.joined th.control there
+      by_place : (o : Option MachineThread) → slice_get ts t ≡ o → Answered p (check_limits within (stepped_on R line)) (stepped p s T t c)
+      by_place None missing = no_word (runs_not missing) (none_wordless missing)
+      by_place (Some th) there = by_record th.tid th.joined th.control there

@@ -1,13 +1,13 @@
 -- A line's numbers are stored in 32 bits: one that does not fit names no thread, and no part of an `if`, as stored or not.
+use Rattle.std.proofs.Common.{Option, None, Some, slice_get}
 use Prim.Native.Nat.{ℕ, zero, suc, ◌<◌, ◌≤◌}
 use mathlib.Core.Path.{◌≡◌, refl, sym, ◌∙◌, ap, subst}
 use mathlib.Core.Bool.{Bool, true, false}
 use mathlib.Core.List.{List, [], ◌∷◌}
-use mathlib.Core.Option.{Option, none, some}
 use native.Mathlib.Omega.{arith}
 use borrow.Author.Tests.{leb-false}
 use lib.Dec.{leb}
-use lib.ListN.{length, get_elem?}
+use lib.ListN.{length}
 use Rattle.spec.specs.Choice.{when◌then◌else◌}
 use Rattle.calculus.specs.Expression.{Redex, let_redex, if_redex, while_redex, spawn_redex, write_redex, unary_redex, nullary_redex}
 use Rattle.calculus.specs.State.{Part}
@@ -38,7 +38,7 @@ stored_cases {A} f n past = by_size (leb n 4294967295) refl
     by_size true e = refl
     by_size false e = past (let l = leb-false n 4294967295 e in omega arith)
 
-part_past : (w : Redex) (c : ℕ) → 1 < c → part_chosen w c ≡ none
+part_past : (w : Redex) (c : ℕ) → 1 < c → part_chosen w c ≡ None
 unfolding part_of_if no_choice traits
 part_past w zero l = absurd (omega arith)
 part_past w (suc zero) l = absurd (omega arith)
@@ -53,7 +53,7 @@ part_past (nullary_redex o) (suc (suc c)) l = refl
 part_stored : (w : Redex) (c : ℕ) → part_chosen w (stored c) ≡ part_chosen w c
 part_stored w c = stored_cases (part_chosen w) c (λ l. part_past w 4294967295 (omega arith) ∙ sym (part_past w c (omega arith)))
 
-place_past : {A : Type 0} (xs : List A) (i : ℕ) → length xs ≤ i → get_elem? xs i ≡ none
+place_past : {A : Type 0} (xs : List A) (i : ℕ) → length xs ≤ i → slice_get xs i ≡ None
 place_past [] i l = refl
 place_past (x ∷ xs) zero l = absurd (omega arith)
 place_past (x ∷ xs) (suc i) l = place_past xs i (omega arith)
@@ -62,17 +62,17 @@ module _ (R : Replay) where
   -- a step by the part that each word takes
   abbrev stepped_by : (t : ℕ) → (Redex → Option Part) → Option Replay
   stepped_by t f =
-      get_elem? R.machine.threads t >>= λ th.
+      slice_get R.machine.threads t >>= λ th.
       word_of th.joined th >>= λ w.
       f w >>= λ c.
       step R.machine t c >>= λ M.
-      some (record { machine = M; things = things_after (effect w) R.things })
+      Some (record { machine = M; things = things_after (effect w) R.things })
 
   choice_stored : (t c : ℕ) → stepped R (recorded_line t (stored c)) ≡ stepped R (recorded_line t c)
   unfolding stepped
   choice_stored t c = ap (stepped_by t) (λ i w. part_stored w c i)
 
-  no_thread : (t c : ℕ) → length R.machine.threads ≤ t → stepped R (recorded_line t c) ≡ none
+  no_thread : (t c : ℕ) → length R.machine.threads ≤ t → stepped R (recorded_line t c) ≡ None
   unfolding stepped
   no_thread t c l = rw (place_past R.machine.threads t l)
 

@@ -1,8 +1,8 @@
 -- A word that uses what its part names: in the machine a question about the slot, on numbers a function of the slot's three numbers. Word by
 -- word and slot by slot they give the same.
+use Rattle.std.proofs.Common.{Option, None, Some}
 use Prim.Native.Nat.{ℕ, zero, suc, ◌+◌, ◌-◌, ◌<◌}
 use mathlib.Core.Path.{◌≡◌, refl, ap}
-use mathlib.Core.Option.{Option, none, some}
 use mathlib.Core.List.{List}
 use native.Mathlib.Omega.{arith}
 use native.Mathlib.Decide.{dec_lt}
@@ -46,15 +46,15 @@ pub data Using : calculus.Unary → Type 0 where
   using_wrunlock : Using (hold wrunlock)
 
 abbrev pub use_of : calculus.Unary → state.Slot → Option Use
-use_of calculus.join sl = none
-use_of calculus.ref sl = none
-use_of read sl = cell_value sl >>= λ v. some (gave v)
-use_of lock sl = lock_state sl >>= λ l. if_opened l >>= λ u. some (left (a_lock closed))
-use_of unlock sl = lock_state sl >>= λ l. some (left (a_lock opened))
-use_of post sl = count sl >>= λ c. some (left (semaphore (suc c)))
-use_of wait sl = count sl >>= λ c. one_less c >>= λ d. some (left (semaphore d))
-use_of (calculus.call f) sl = none
-use_of (hold w) sl = rw_state sl >>= λ (N, i). inside_after N w i >>= λ after. some (left (rwlock N after))
+use_of calculus.join sl = None
+use_of calculus.ref sl = None
+use_of read sl = cell_value sl >>= λ v. Some (gave v)
+use_of lock sl = lock_state sl >>= λ l. if_opened l >>= λ u. Some (left (a_lock closed))
+use_of unlock sl = lock_state sl >>= λ l. Some (left (a_lock opened))
+use_of post sl = count sl >>= λ c. Some (left (semaphore (suc c)))
+use_of wait sl = count sl >>= λ c. one_less c >>= λ d. Some (left (semaphore d))
+use_of (calculus.call f) sl = None
+use_of (hold w) sl = rw_state sl >>= λ (N, i). inside_after N w i >>= λ after. Some (left (rwlock N after))
 
 abbrev pub name_in : Value → ℕ
 name_in (int k) = 0
@@ -66,9 +66,9 @@ module _ (M : Machine) (i tid : ℕ) (σ : Env) (K : List Frame) where
   used_to n (left sl) = leaves M i tid σ K n sl
 
   abbrev Asked : calculus.Unary → (n : ℕ) → state.Slot → Option Machine
-  Asked o n sl = use_of o sl >>= λ u. some (used_to n u)
+  Asked o n sl = use_of o sl >>= λ u. Some (used_to n u)
 
-  read_asks : (n : ℕ) (sl : state.Slot) → (cell_value sl >>= λ w. some (gives M i tid σ K M.names w)) ≡ Asked read n sl
+  read_asks : (n : ℕ) (sl : state.Slot) → (cell_value sl >>= λ w. Some (gives M i tid σ K M.names w)) ≡ Asked read n sl
   read_asks n unused = refl
   read_asks n identifier = refl
   read_asks n (cell v) = refl
@@ -76,7 +76,7 @@ module _ (M : Machine) (i tid : ℕ) (σ : Env) (K : List Frame) where
   read_asks n (semaphore c) = refl
   read_asks n (rwlock N x) = refl
 
-  lock_asks : (n : ℕ) (sl : state.Slot) → (lock_state sl >>= λ l. if_opened l >> some (leaves M i tid σ K n (a_lock closed))) ≡ Asked lock n sl
+  lock_asks : (n : ℕ) (sl : state.Slot) → (lock_state sl >>= λ l. if_opened l >> Some (leaves M i tid σ K n (a_lock closed))) ≡ Asked lock n sl
   lock_asks n unused = refl
   lock_asks n identifier = refl
   lock_asks n (cell v) = refl
@@ -85,7 +85,7 @@ module _ (M : Machine) (i tid : ℕ) (σ : Env) (K : List Frame) where
   lock_asks n (semaphore c) = refl
   lock_asks n (rwlock N x) = refl
 
-  unlock_asks : (n : ℕ) (sl : state.Slot) → (lock_state sl >> some (leaves M i tid σ K n (a_lock opened))) ≡ Asked unlock n sl
+  unlock_asks : (n : ℕ) (sl : state.Slot) → (lock_state sl >> Some (leaves M i tid σ K n (a_lock opened))) ≡ Asked unlock n sl
   unlock_asks n unused = refl
   unlock_asks n identifier = refl
   unlock_asks n (cell v) = refl
@@ -93,7 +93,7 @@ module _ (M : Machine) (i tid : ℕ) (σ : Env) (K : List Frame) where
   unlock_asks n (semaphore c) = refl
   unlock_asks n (rwlock N x) = refl
 
-  post_asks : (n : ℕ) (sl : state.Slot) → (count sl >>= λ c. some (leaves M i tid σ K n (semaphore (suc c)))) ≡ Asked post n sl
+  post_asks : (n : ℕ) (sl : state.Slot) → (count sl >>= λ c. Some (leaves M i tid σ K n (semaphore (suc c)))) ≡ Asked post n sl
   post_asks n unused = refl
   post_asks n identifier = refl
   post_asks n (cell v) = refl
@@ -101,7 +101,7 @@ module _ (M : Machine) (i tid : ℕ) (σ : Env) (K : List Frame) where
   post_asks n (semaphore c) = refl
   post_asks n (rwlock N x) = refl
 
-  wait_asks : (n : ℕ) (sl : state.Slot) → (count sl >>= λ c. one_less c >>= λ d. some (leaves M i tid σ K n (semaphore d))) ≡ Asked wait n sl
+  wait_asks : (n : ℕ) (sl : state.Slot) → (count sl >>= λ c. one_less c >>= λ d. Some (leaves M i tid σ K n (semaphore d))) ≡ Asked wait n sl
   wait_asks n unused = refl
   wait_asks n identifier = refl
   wait_asks n (cell v) = refl
@@ -110,11 +110,11 @@ module _ (M : Machine) (i tid : ℕ) (σ : Env) (K : List Frame) where
   wait_asks n (semaphore (suc c)) = refl
   wait_asks n (rwlock N x) = refl
 
-  inside_asks : (w : calculus.HoldWord) (n N : ℕ) (o : Option state.Inside) → (o >>= λ after. some (leaves M i tid σ K n (rwlock N after))) ≡ ((o >>= λ after. some (left (rwlock N after))) >>= λ u. some (used_to n u))
-  inside_asks w n N none = refl
-  inside_asks w n N (some x) = refl
+  inside_asks : (w : calculus.HoldWord) (n N : ℕ) (o : Option state.Inside) → (o >>= λ after. Some (leaves M i tid σ K n (rwlock N after))) ≡ ((o >>= λ after. Some (left (rwlock N after))) >>= λ u. Some (used_to n u))
+  inside_asks w n N None = refl
+  inside_asks w n N (Some x) = refl
 
-  hold_asks : (w : calculus.HoldWord) (n : ℕ) (sl : state.Slot) → (rw_state sl >>= λ (N, x). inside_after N w x >>= λ after. some (leaves M i tid σ K n (rwlock N after))) ≡ Asked (hold w) n sl
+  hold_asks : (w : calculus.HoldWord) (n : ℕ) (sl : state.Slot) → (rw_state sl >>= λ (N, x). inside_after N w x >>= λ after. Some (leaves M i tid σ K n (rwlock N after))) ≡ Asked (hold w) n sl
   hold_asks w n unused = refl
   hold_asks w n identifier = refl
   hold_asks w n (cell v) = refl
@@ -149,9 +149,9 @@ module _ (M : Machine) (i tid : ℕ) (σ : Env) (K : List Frame) where
 
 -- what the code makes of it
 abbrev pub UseIs : Option Use → StepEffect → Type 0
-UseIs none u = u ≡ Stuck
-UseIs (some (gave v)) u = u ≡ Returns (code_value v)
-UseIs (some (left sl)) u = (y : Slot) × (u ≡ Updates y) × SlotIs y sl
+UseIs None u = u ≡ Stuck
+UseIs (Some (gave v)) u = u ≡ Returns (code_value v)
+UseIs (Some (left sl)) u = (y : Slot) × (u ≡ Updates y) × SlotIs y sl
 
 -- a count that can still be raised
 abbrev pub Roomy : state.Slot → Type 0
@@ -197,7 +197,7 @@ module _ (x : Slot) where
   unlock_used (rwlock N writer) h = rw h.0
 
   -- one more: the first number goes up, or, where it is full, the second
-  posts : (c : ℕ) → SlotIs x (semaphore c) → suc c < 18446744073709551616 → Dec (x.first < 4294967295) → UseIs (some (left (semaphore (suc c)))) (posted_of x)
+  posts : (c : ℕ) → SlotIs x (semaphore c) → suc c < 18446744073709551616 → Dec (x.first < 4294967295) → UseIs (Some (left (semaphore (suc c)))) (posted_of x)
   unfolding posted_of
   posts c h r (yes l) = (slot 4 (x.first + 1) x.second, rw (h.0, lt-ltb x.first 4294967295 l), (refl, omega (arith, h.1), omega (arith, l)))
   posts c h r (no f) =
@@ -206,7 +206,7 @@ module _ (x : Slot) where
       (slot 4 0 (x.second + 1), rw (h.0, le-ltb x.first 4294967295 (omega (arith, e)), lt-ltb x.second 4294967295 m), (refl, omega (arith, h.1, e), omega arith))
 
   -- one less
-  waits : (c : ℕ) → SlotIs x (semaphore c) → Dec (0 < x.first) → Dec (0 < x.second) → UseIs (one_less c >>= λ d. some (left (semaphore d))) (waited_of x)
+  waits : (c : ℕ) → SlotIs x (semaphore c) → Dec (0 < x.first) → Dec (0 < x.second) → UseIs (one_less c >>= λ d. Some (left (semaphore d))) (waited_of x)
   unfolding waited_of
   waits zero h (yes l) d = absurd (omega (arith, l, h.1))
   waits (suc c) h (yes l) d = (slot 4 (x.first - 1) x.second, rw (h.0, lt-ltb 0 x.first l), (refl, omega (arith, l, h.1), omega (arith, h.2)))
@@ -216,7 +216,7 @@ module _ (x : Slot) where
   waits zero h (no f) (no g) = rw (h.0, le-ltb 0 x.first (omega (arith, f)), le-ltb 0 x.second (omega (arith, g)))
   waits (suc c) h (no f) (no g) = absurd (omega (arith, f, g, h.1))
 
-  reads_in : (N k : ℕ) → SlotIs x (rwlock N (readers k)) → (d : Dec (k < N)) → UseIs (choose d (some (readers (suc k))) none >>= λ after. some (left (rwlock N after))) (rdlocked_of x)
+  reads_in : (N k : ℕ) → SlotIs x (rwlock N (readers k)) → (d : Dec (k < N)) → UseIs (choose d (Some (readers (suc k))) None >>= λ after. Some (left (rwlock N after))) (rdlocked_of x)
   unfolding rdlocked_of
   reads_in N k h (yes l) = (slot 5 x.first (x.second + 1), rw (h.0, lt-ltb x.second x.first (omega (arith, l, h.1, h.2))), (refl, h.1, omega (arith, h.2)))
   reads_in N k h (no f) = rw (h.0, le-ltb x.second x.first (omega (arith, f, h.1, h.2)))

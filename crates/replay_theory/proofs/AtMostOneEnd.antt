@@ -1,10 +1,9 @@
 -- Follows fixes the count of steps and the answer: each line has one reason to stop at it, or none.
+use Rattle.std.proofs.Common.{Option, None, Some, slice_get}
 use Prim.Native.Nat.{ℕ, suc}
 use mathlib.Core.Path.{◌≡◌, refl, sym, ◌∙◌, ap, subst}
-use mathlib.Core.Option.{Option, none, some}
 use mathlib.Core.List.{List}
 use native.Mathlib.Omega.{arith}
-use lib.ListN.{get_elem?}
 use Rattle.spec.specs.Text.{Line}
 use Rattle.calculus.specs.State.{State, Move}
 use Rattle.calculus.specs.Reduction.{reduce}
@@ -22,7 +21,7 @@ use Rattle.replay_theory.proofs.AtMostOneStep.{alike_back}
 move_too : {r s : Run} {l : TraceLine} {m : Move} → Alike r s → MoveOf s l m → MoveOf r l m
 move_too {l = l} {m} E of = record {
   place = ap (place_of l.thread) E.numbers ∙ of.place;
-  chosen = λ t w there next. of.chosen t w (sym (ap (λ (s : State). get_elem? s.threads m.thread) E.state) ∙ there) next;
+  chosen = λ t w there next. of.chosen t w (sym (ap (λ (s : State). slice_get s.threads m.thread) E.state) ∙ there) next;
 }
 
 -- Where no move of the line is a reduction, there is no step.
@@ -30,10 +29,10 @@ pub no_step_beside : {r s s' : Run} {l : TraceLine} {d : Reduced} → Alike r s 
 no_step_beside E none_goes B =
     none_is_not_some (sym (none_goes B.move (move_too E B.listed)) ∙ (λ z. reduce (E.procedures z) (E.state z) B.move) ∙ B.reduces)
 
-pub same_line : {t t' : TraceLine} (l : Line) → trace_line l ≡ some t → trace_line l ≡ some t' → t ≡ t'
+pub same_line : {t t' : TraceLine} (l : Line) → trace_line l ≡ Some t → trace_line l ≡ Some t' → t ≡ t'
 same_line l q q' = some_injective (sym q ∙ q')
 
-pub not_a_line : {A : Type 0} {t : TraceLine} (l : Line) → trace_line l ≡ none → trace_line l ≡ some t → A
+pub not_a_line : {A : Type 0} {t : TraceLine} (l : Line) → trace_line l ≡ None → trace_line l ≡ Some t → A
 not_a_line l q q' = none_is_not_some (sym q ∙ q')
 
 pub stepping : {s s' : Run} {t t' : TraceLine} {d : Reduced} → t ≡ t' → LanguageStep s t d s' → LanguageStep s t' d s'
@@ -67,12 +66,12 @@ itself r = record { procedures = refl; state = refl; numbers = refl; threads = r
 pub same_end : {rs ss : List Run} {ls : List Line} {m n : ℕ} {a b : Numbers} (F : Follows rs ls m a) (G : Follows ss ls n b) → m ≡ n →
     Alike F.last G.last → a ≡ b
 same_end {ss = ss} {ls} {n = n} {b = b} F G e E =
-    one_answer E (ap (get_elem? ls) e) F.stops (subst (λ (k : ℕ). Stops ss G.reduced G.last (get_elem? ls n) (suc k) b) (sym e) G.stops)
+    one_answer E (ap (slice_get ls) e) F.stops (subst (λ (k : ℕ). Stops ss G.reduced G.last (slice_get ls n) (suc k) b) (sym e) G.stops)
 
 pub one_end : OneEnd
 one_end rs ls m n a b F G =
     let counted = F.runs_counted in
     let counted' = G.runs_counted in
     let steps : m ≡ n = omega (arith, counted, counted') in
-    let last : F.last ≡ G.last = some_injective (sym F.last_there ∙ ap (get_elem? rs) steps ∙ G.last_there) in
+    let last : F.last ≡ G.last = some_injective (sym F.last_there ∙ ap (slice_get rs) steps ∙ G.last_there) in
     (steps, same_end F G steps (subst (Alike F.last) last (itself F.last)))

@@ -1,13 +1,13 @@
 -- From the start of a program one list of runs follows a trace, once the names of new things are given.
+use Rattle.std.proofs.Common.{Option, Some, slice_get}
 use Prim.Native.Nat.{ℕ, zero, suc, ◌≤◌, ◌<◌}
 use mathlib.Core.Path.{◌≡◌, refl, sym, ◌∙◌, ap, subst}
 use mathlib.Core.Bool.{false}
-use mathlib.Core.Option.{Option, some}
 use mathlib.Core.List.{List, [], ◌∷◌, ◌++◌}
 use native.Mathlib.Decide.{dec_lt}
 use native.Mathlib.Omega.{arith}
 use lib.Dec.{eqb}
-use lib.ListN.{get_elem?, take}
+use lib.ListN.{take}
 use Rattle.spec.specs.Text.{Line}
 use Rattle.calculus.specs.Expression.{Program}
 use Rattle.calculus.proofs.Laws.Maps.{some_injective, none_is_not_some}
@@ -27,8 +27,8 @@ use Rattle.replay_theory.proofs.SameCalls.{AllAlike, alike_first, alike_more, wi
 abbrev Other : Effect → Type 0
 Other e = (k : ObjectKind) → eqb (effect_number e) (effect_number (makes k)) ≡ false
 
-module _ (p : Program) {rs ss : List Run} {ls : List Line} {m n : ℕ} {a b : Numbers} (begins : get_elem? rs 0 ≡ some (start_run p))
-    (begins' : get_elem? ss 0 ≡ some (start_run p)) (F : Follows rs ls m a) (G : Follows ss ls n b) (named : SameNames F G) where
+module _ (p : Program) {rs ss : List Run} {ls : List Line} {m n : ℕ} {a b : Numbers} (begins : slice_get rs 0 ≡ Some (start_run p))
+    (begins' : slice_get ss 0 ≡ Some (start_run p)) (F : Follows rs ls m a) (G : Follows ss ls n b) (named : SameNames F G) where
   -- ---- As far as both go
 
   one_read : (k : ℕ) (i : k < m) (j : k < n) → (F.each k i).read ≡ (G.each k j).read
@@ -38,7 +38,7 @@ module _ (p : Program) {rs ss : List Run} {ls : List Line} {m n : ℕ} {a b : Nu
       let line = some_injective (sym D.line_there ∙ E.line_there) in
       same_line D.line D.shown (ap trace_line line ∙ E.shown)
 
-  so_far : (k : ℕ) → k ≤ m → k ≤ n → (r s : Run) → get_elem? rs k ≡ some r → get_elem? ss k ≡ some s → Alike r s × Rising 0 r.numbers r.threads
+  so_far : (k : ℕ) → k ≤ m → k ≤ n → (r s : Run) → slice_get rs k ≡ Some r → slice_get ss k ≡ Some s → Alike r s × Rising 0 r.numbers r.threads
   so_far zero i j r s h h' =
       let first : start_run p ≡ r = some_injective (sym begins ∙ h) in
       let second : start_run p ≡ s = some_injective (sym begins' ∙ h') in
@@ -68,8 +68,8 @@ module _ (p : Program) {rs ss : List Run} {ls : List Line} {m n : ℕ} {a b : Nu
       let E = G.each k j in
       one_reduced (so_far k (omega arith) (omega arith) D.before E.before D.before_there E.before_there).0 (one_read k i j) D.step E.step
 
-  steps_there : (k : ℕ) → k < m → k < n → get_elem? F.reduced k ≡ get_elem? G.reduced k
-  steps_there k i j = (F.each k i).reduced_there ∙ ap some (one_step k i j) ∙ sym (G.each k j).reduced_there
+  steps_there : (k : ℕ) → k < m → k < n → slice_get F.reduced k ≡ slice_get G.reduced k
+  steps_there k i j = (F.each k i).reduced_there ∙ ap Some (one_step k i j) ∙ sym (G.each k j).reduced_there
 
   -- ---- Where the one stops, the other does
 
@@ -127,7 +127,7 @@ module _ (p : Program) {rs ss : List Run} {ls : List Line} {m n : ℕ} {a b : Nu
           made_within rs r F.reduced (take (suc m) G.reduced) d k (take (suc (suc m)) ss) is (omega (arith, counted, counted')) reduced_alike within_before
           passed
 
-    stops_not : {o : Option Line} {k : ℕ} {c : Numbers} → Stops rs F.reduced F.last o k c → o ≡ some goes.line → ⊥
+    stops_not : {o : Option Line} {k : ℕ} {c : Numbers} → Stops rs F.reduced F.last o k c → o ≡ Some goes.line → ⊥
     stops_not all_done there = none_is_not_some there
     stops_not (not_aline l q) there = not_a_line l q (ap trace_line (some_injective there) ∙ goes.shown)
     stops_not (cannot_step l t q none_goes) there =
@@ -140,7 +140,7 @@ module _ (p : Program) {rs ss : List Run} {ls : List Line} {m n : ℕ} {a b : Nu
 
 -- ---- The whole way
 
-names_back : (p : Program) {rs ss : List Run} {ls : List Line} {m n : ℕ} {a b : Numbers} → get_elem? rs 0 ≡ some (start_run p) → get_elem? ss 0 ≡ some (start_run p) →
+names_back : (p : Program) {rs ss : List Run} {ls : List Line} {m n : ℕ} {a b : Numbers} → slice_get rs 0 ≡ Some (start_run p) → slice_get ss 0 ≡ Some (start_run p) →
     (F : Follows rs ls m a) (G : Follows ss ls n b) → SameNames F G → SameNames G F
 names_back p begins begins' F G named k i j thing is =
     sym (named k j i thing (ap (λ (d : Reduced). effect d.word) (one_step p begins begins' F G named k j i) ∙ is))
@@ -149,7 +149,7 @@ pub one_execution : OneExecution
 one_execution p rs ss ls m n a b begins begins' F G named = record {
   steps = steps;
   answer = same_end F G steps (so_far p begins begins' F G named m (omega arith) (omega (arith, steps)) F.last G.last F.last_there
-      (ap (get_elem? ss) steps ∙ G.last_there)).0;
+      (ap (slice_get ss) steps ∙ G.last_there)).0;
   reduced =
       let counted = F.reduced_counted in
       let counted' = G.reduced_counted in

@@ -1,11 +1,11 @@
 -- At most one report fits the runs of a replay.
+use Rattle.std.proofs.Common.{slice_get}
 use Prim.Native.Nat.{ℕ, ◌≤◌, ◌<◌}
 use mathlib.Core.Path.{◌≡◌, refl, sym, ◌∙◌, ap, subst}
 use mathlib.Core.Logic.{◌⊎◌, inl, inr}
 use mathlib.Core.List.{List}
 use native.Mathlib.Decide.{dec_lt}
 use native.Mathlib.Omega.{arith}
-use lib.ListN.{get_elem?}
 use Rattle.calculus.specs.Claim.{Race, RaceFree}
 use Rattle.calculus.proofs.Laws.Maps.{some_injective}
 use Rattle.replay_theory.specs.Run.{Run}
@@ -29,7 +29,7 @@ module _ {rs : List Run} {n i j m k l : ℕ} (A : FirstRaceIs rs n i j) (B : Fir
       by_order (no b) (no c) = omega (arith, b, c)
 
   one_run : A.run ≡ B.run
-  one_run = some_injective (sym A.there ∙ ap (get_elem? rs) one_state ∙ B.there)
+  one_run = some_injective (sym A.there ∙ ap (slice_get rs) one_state ∙ B.there)
 
   -- Neither pair is lower than the other.
   one_pair : (i ≡ k) × (j ≡ l)

@@ -1,12 +1,11 @@
 -- The lowest finished thread is one; and so is a step, of the thread and with the choice that a line lists, once the name of a new thing is
 -- given.
+use Rattle.std.proofs.Common.{Some, slice_get}
 use Prim.Native.Nat.{ℕ, ◌<◌}
 use mathlib.Core.Path.{◌≡◌, refl, sym, ◌∙◌, ap, subst}
 use mathlib.Core.List.{List, [], ◌∷◌, ◌++◌}
-use mathlib.Core.Option.{some}
 use native.Mathlib.Decide.{dec_lt}
 use native.Mathlib.Omega.{arith}
-use lib.ListN.{get_elem?}
 use Rattle.calculus.specs.Expression.{Value, int, name, Unary, join, ref, read, lock, unlock, post, wait, hold, call, Redex, let_redex, if_redex, while_redex, spawn_redex, write_redex, unary_redex, nullary_redex, at_word, next_word, Procedure}
 use Rattle.calculus.specs.State.{Thread, State, Move, remove}
 use Rattle.calculus.specs.Reduction.{word_of, reduct, reduce}
@@ -27,8 +26,8 @@ alike_back E = record { procedures = sym E.procedures; state = sym E.state; numb
 
 numbered_too : {r s : Run} {i p : ℕ} {t : Thread} → Alike r s → Numbered s i p t → Numbered r i p t
 numbered_too {p = p} E N = record {
-  number = ap (λ (ns : List ℕ). get_elem? ns p) E.numbers ∙ N.number;
-  thread = ap (λ (s : State). get_elem? s.threads p) E.state ∙ N.thread;
+  number = ap (λ (ns : List ℕ). slice_get ns p) E.numbers ∙ N.number;
+  thread = ap (λ (s : State). slice_get s.threads p) E.state ∙ N.thread;
 }
 
 -- ---- The lowest finished thread
@@ -39,7 +38,7 @@ one_of_alike n p q E apart A B =
     let below = A.least B.lowest q B.thread there B.same B.finished in
     let above = B.least A.lowest p A.thread (numbered_too (alike_back E) A.there) A.same A.finished in
     let one : A.lowest ≡ B.lowest = omega (arith, below, above) in
-    apart p q B.lowest (A.there.number ∙ ap some one) there.number
+    apart p q B.lowest (A.there.number ∙ ap Some one) there.number
 
 pub one_lowest : OneLowest
 one_lowest r n p q apart A B = one_of_alike n p q (record { procedures = refl; state = refl; numbers = refl; threads = refl }) apart A B
@@ -100,7 +99,7 @@ module _ (P : List Procedure) (s : State) (m : Move) (t : Thread) (f n : ℕ) wh
   looks (nullary_redex o) same named = ap (λ (x : ℕ). reduct P s (listing m f x) t (nullary_redex o)) (named (kind_made o) refl)
 
   -- A join that reduces is of a name.
-  unary_name : {s' : State} (o : Unary) (v : Value) → (unary_traits o v).effect ≡ joins → reduct P s m t (unary_redex o v) ≡ some s' →
+  unary_name : {s' : State} (o : Unary) (v : Value) → (unary_traits o v).effect ≡ joins → reduct P s m t (unary_redex o v) ≡ Some s' →
       (i : ℕ) × (unary_redex o v ≡ unary_redex join (name i))
   unfolding unary_traits
   unary_name join (int k) is q = none_is_not_some q
@@ -114,7 +113,7 @@ module _ (P : List Procedure) (s : State) (m : Move) (t : Thread) (f n : ℕ) wh
   unary_name (hold w) v is q = another plain joins refl is
   unary_name (call g) v is q = another opens joins refl is
 
-  joins_name : {s' : State} (w : Redex) → effect w ≡ joins → reduct P s m t w ≡ some s' → (i : ℕ) × (w ≡ unary_redex join (name i))
+  joins_name : {s' : State} (w : Redex) → effect w ≡ joins → reduct P s m t w ≡ Some s' → (i : ℕ) × (w ≡ unary_redex join (name i))
   unfolding traits
   joins_name (let_redex x v e) is q = another plain joins refl is
   joins_name (if_redex e₁ e₂) is q = another plain joins refl is
@@ -137,17 +136,17 @@ numbers_alike m k (makes thing) E same = E.numbers
 word_injective : {w u : Redex} → at_word w ≡ at_word u → w ≡ u
 word_injective h = cc
 
-pub word_reduces : {r r' : Run} {l : TraceLine} {d : Reduced} (A : LanguageStep r l d r') → reduct r.procedures r.state A.move A.thread d.word ≡ some r'.state
+pub word_reduces : {r r' : Run} {l : TraceLine} {d : Reduced} (A : LanguageStep r l d r') → reduct r.procedures r.state A.move A.thread d.word ≡ Some r'.state
 unfolding reduce
 word_reduces {r} A = bind_goes_on (word_of (next_word A.thread.body)) _ (ap word_of A.next)
-    (bind_goes_on (get_elem? r.state.threads A.move.thread) _ A.there A.reduces)
+    (bind_goes_on (slice_get r.state.threads A.move.thread) _ A.there A.reduces)
 
 module _ {r s r' s' : Run} {l l' : TraceLine} {d e : Reduced} (E : Alike r s) (line : l ≡ l') (A : LanguageStep r l d r') (B : LanguageStep s l' e s') where
   one_place : A.move.thread ≡ B.move.thread
   one_place = some_injective {a = A.move.thread} (sym A.listed.place ∙ (λ z. place_of (line z).thread (E.numbers z)) ∙ B.listed.place)
 
   one_thread : A.thread ≡ B.thread
-  one_thread = some_injective (sym A.there ∙ (λ z. get_elem? (E.state z).threads (one_place z)) ∙ B.there)
+  one_thread = some_injective (sym A.there ∙ (λ z. slice_get (E.state z).threads (one_place z)) ∙ B.there)
 
   one_word : d.word ≡ e.word
   one_word = word_injective (sym A.next ∙ ap (λ (t : Thread). next_word t.body) one_thread ∙ B.next)

@@ -1,9 +1,9 @@
 -- The path of a call is where its body stands: right after the call the body is there, and as long as it is no value, what comes next is
 -- inside it and stays there.
+use Rattle.std.proofs.Common.{None, Some}
 use Prim.Native.Nat.{ℕ}
 use mathlib.Core.Path.{◌≡◌, refl, sym, ◌∙◌, ap, subst}
 use mathlib.Core.Bool.{false}
-use mathlib.Core.Option.{none, some}
 use mathlib.Core.List.{[], ◌∷◌, ◌++◌, append-nil}
 use native.Mathlib.Omega.{arith}
 use Rattle.spec.proofs.Clashes.{true_is_not_false}
@@ -16,7 +16,7 @@ use Rattle.replay_theory.specs.Paths.{Path, next_path, only_part, part_of, part_
 use Rattle.replay_theory.specs.Run.{has_finished}
 use Rattle.replay_theory.specs.Claim.{Runs, BodyGoesOn}
 
-no_word : {A : Type 0} {n : Next} {r : Redex} → word_of n ≡ none → n ≡ at_word r → A
+no_word : {A : Type 0} {n : Next} {r : Redex} → word_of n ≡ None → n ≡ at_word r → A
 no_word silent h = none_is_not_some (sym silent ∙ ap word_of h)
 
 -- ---- A word that waits for a part
@@ -57,21 +57,21 @@ second_wants e₁ v is = record {
 
 module _ (b : Exp) where
   abbrev BodyThere : Exp → Type 0
-  BodyThere e = (r : Redex) → next_word e ≡ at_word r → part_at (next_path e) (plug e b) ≡ some b
+  BodyThere e = (r : Redex) → next_word e ≡ at_word r → part_at (next_path e) (plug e b) ≡ Some b
 
   in_part : {around : Exp → Exp} {c : Part} {next : Value → Next} {here : Path} (W : Wants around c next here) (e : Exp) → BodyThere e → (r : Redex) →
-      once (next_word e) next ≡ at_word r → (done : Exp) → ((v : Value) → next_word e ≡ is_value v → next v ≡ at_word r → part_at here done ≡ some b) →
-      part_at (path.path_once (next_word e) here (c ∷ next_path e)) (if_value (next_word e) done (around (plug e b))) ≡ some b
+      once (next_word e) next ≡ at_word r → (done : Exp) → ((v : Value) → next_word e ≡ is_value v → next v ≡ at_word r → part_at here done ≡ Some b) →
+      part_at (path.path_once (next_word e) here (c ∷ next_path e)) (if_value (next_word e) done (around (plug e b))) ≡ Some b
   unfolding path.path_once
   in_part {around} {c} {next} {here} W e later r h done values = by_next (next_word e) refl h
     where
       by_next : (n : Next) → next_word e ≡ n → once n next ≡ at_word r →
-          part_at (path.path_once n here (c ∷ next_path e)) (if_value n done (around (plug e b))) ≡ some b
+          part_at (path.path_once n here (c ∷ next_path e)) (if_value n done (around (plug e b))) ≡ Some b
       by_next (is_value v) is h = values v is h
       by_next (at_variable x) is h = no_word refl h
       by_next (at_word w) is h = W.part (plug e b) (next_path e) ∙ later w is
 
-  pub body_is_there : (e : Exp) (r : Redex) → next_word e ≡ at_word r → part_at (next_path e) (plug e b) ≡ some b
+  pub body_is_there : (e : Exp) (r : Redex) → next_word e ≡ at_word r → part_at (next_path e) (plug e b) ≡ Some b
   unfolding next_path part_at
   body_is_there (value v) r h = no_word refl h
   body_is_there (var x) r h = no_word refl h
@@ -90,7 +90,7 @@ module _ (b : Exp) where
 -- with the reduct in it stands at p; and if that is no value, p leads to what is next again.
 record GoesOn (b e : Exp) (p : Path) (d : Exp) (r : Redex) : Type 0 where
   inside : next_word d ≡ at_word r
-  there : part_at p (plug e b) ≡ some (plug d b)
+  there : part_at p (plug e b) ≡ Some (plug d b)
   leads : (n : Next) → has_finished n ≡ false → next_word (plug d b) ≡ n → (next_word (plug e b) ≡ n) × (next_path (plug e b) ≡ p ++ next_path (plug d b))
 
 empty_clash : {A : Type 0} {c : Part} {p : Path} → [] ≡ c ∷ p → A
@@ -121,9 +121,9 @@ path_waits (at_word w) here inside h = refl
 
 module _ (b : Exp) where
   abbrev Claim : Exp → Type 0
-  Claim e = (p rest : Path) (d : Exp) (r : Redex) → next_word e ≡ at_word r → next_path e ≡ p ++ rest → part_at p e ≡ some d → GoesOn b e p d r
+  Claim e = (p rest : Path) (d : Exp) (r : Redex) → next_word e ≡ at_word r → next_path e ≡ p ++ rest → part_at p e ≡ Some d → GoesOn b e p d r
 
-  here_goes_on : (e d : Exp) (r : Redex) → next_word e ≡ at_word r → part_at [] e ≡ some d → GoesOn b e [] d r
+  here_goes_on : (e d : Exp) (r : Redex) → next_word e ≡ at_word r → part_at [] e ≡ Some d → GoesOn b e [] d r
   unfolding part_at
   here_goes_on e d r h is = subst (λ (x : Exp). GoesOn b e [] x r) (some_injective is) (record { inside = h; there = refl; leads = λ n busy k. (k, refl) })
 
@@ -131,11 +131,11 @@ module _ (b : Exp) where
   record OnPath (whole : Exp) (next : Next) (to : Path) (c : Part) (p rest : Path) (d : Exp) (r : Redex) : Type 0 where
     word : next ≡ at_word r
     leads : to ≡ c ∷ (p ++ rest)
-    there : part_at (c ∷ p) whole ≡ some d
+    there : part_at (c ∷ p) whole ≡ Some d
 
   -- E is the whole with the reduct in it.
   abbrev Whole : (E : Exp) (c : Part) (p : Path) (d : Exp) (r : Redex) → Type 0
-  Whole E c p d r = (next_word d ≡ at_word r) × (part_at (c ∷ p) E ≡ some (plug d b))
+  Whole E c p d r = (next_word d ≡ at_word r) × (part_at (c ∷ p) E ≡ Some (plug d b))
       × ((n : Next) → has_finished n ≡ false → next_word (plug d b) ≡ n → (next_word E ≡ n) × (next_path E ≡ (c ∷ p) ++ next_path (plug d b)))
 
   module _ {around : Exp → Exp} {c₀ : Part} {next : Value → Next} {here : Path} (W : Wants around c₀ next here) (e₁ : Exp) (later : Claim e₁)
@@ -209,21 +209,21 @@ body_goes_on b e p d w next R =
 -- ---- It begins there
 
 abbrev WordThere : Exp → Type 0
-WordThere e = (r : Redex) → next_word e ≡ at_word r → (d : Exp) × (part_at (next_path e) e ≡ some d)
+WordThere e = (r : Redex) → next_word e ≡ at_word r → (d : Exp) × (part_at (next_path e) e ≡ Some d)
 
 word_in_part : {around : Exp → Exp} {c : Part} {next : Value → Next} {here : Path} (W : Wants around c next here) (e : Exp) → WordThere e → (r : Redex) →
-    once (next_word e) next ≡ at_word r → ((v : Value) → next_word e ≡ is_value v → next v ≡ at_word r → (d : Exp) × (part_at here (around e) ≡ some d)) →
-    (d : Exp) × (part_at (path.path_once (next_word e) here (c ∷ next_path e)) (around e) ≡ some d)
+    once (next_word e) next ≡ at_word r → ((v : Value) → next_word e ≡ is_value v → next v ≡ at_word r → (d : Exp) × (part_at here (around e) ≡ Some d)) →
+    (d : Exp) × (part_at (path.path_once (next_word e) here (c ∷ next_path e)) (around e) ≡ Some d)
 unfolding path.path_once
 word_in_part {around} {c} {next} {here} W e later r h values = by_next (next_word e) refl h
   where
-    by_next : (n : Next) → next_word e ≡ n → once n next ≡ at_word r → (d : Exp) × (part_at (path.path_once n here (c ∷ next_path e)) (around e) ≡ some d)
+    by_next : (n : Next) → next_word e ≡ n → once n next ≡ at_word r → (d : Exp) × (part_at (path.path_once n here (c ∷ next_path e)) (around e) ≡ Some d)
     by_next (is_value v) is h = values v is h
     by_next (at_variable x) is h = no_word refl h
     by_next (at_word w) is h = let (d, there) = later w is in (d, W.part e (next_path e) ∙ there)
 
 -- The next word stands at its path.
-word_is_there : (e : Exp) (r : Redex) → next_word e ≡ at_word r → (d : Exp) × (part_at (next_path e) e ≡ some d)
+word_is_there : (e : Exp) (r : Redex) → next_word e ≡ at_word r → (d : Exp) × (part_at (next_path e) e ≡ Some d)
 unfolding next_path part_at
 word_is_there (value v) r h = no_word refl h
 word_is_there (var x) r h = no_word refl h

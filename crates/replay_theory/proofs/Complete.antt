@@ -1,11 +1,10 @@
 -- A step that is done is the language's; and there is none exactly where no move of that thread with that choice is a reduction, whatever
 -- finished thread and whatever name the move lists.
+use Rattle.std.proofs.Common.{Option, None, Some, slice_get}
 use Prim.Native.Nat.{ℕ}
 use mathlib.Core.Path.{◌≡◌, refl, sym, ◌∙◌, ap, subst}
 use mathlib.Core.Logic.{◌↔◌}
-use mathlib.Core.Option.{Option, none, some}
 use native.Mathlib.Omega.{arith}
-use lib.ListN.{get_elem?}
 use Rattle.calculus.specs.Expression.{Value, int, name, Unary, join, ref, read, lock, unlock, post, wait, hold, call, Redex, let_redex, if_redex, while_redex, spawn_redex, write_redex, unary_redex, nullary_redex, next_word}
 use Rattle.calculus.specs.State.{Slot, unused, Thread, State, Move}
 use Rattle.calculus.specs.Reduction.{◌>>=◌, if_unused, if_identifier, if_equal, value_of, word_of, named, unary_reduct, reduct, reduce}
@@ -24,10 +23,10 @@ use Rattle.replay_theory.proofs.Joining.{FirstFinished, first_is_there, finished
 
 -- ---- The move that a line lists goes wherever a move of that thread with that part goes
 
-answered : {A B : Type 0} {a : A} {x : Option B} (o : Option A) (f : A → Option B) → o ≡ some a → f a ≡ x → (o >>= f) ≡ x
+answered : {A B : Type 0} {a : A} {x : Option B} (o : Option A) (f : A → Option B) → o ≡ Some a → f a ≡ x → (o >>= f) ≡ x
 answered o f e h = ap (λ z. z >>= f) e ∙ h
 
-unused_is_free : (sl : Slot) → sl ≡ unused → if_unused sl ≡ some tt
+unused_is_free : (sl : Slot) → sl ≡ unused → if_unused sl ≡ Some tt
 unused_is_free sl e = ap if_unused e
 
 module _ (r : Run) (proper : Proper r) (m : Move) (t : Thread) where
@@ -35,34 +34,34 @@ module _ (r : Run) (proper : Proper r) (m : Move) (t : Thread) where
   listed w = move_of r m.thread w m.part
 
   abbrev Goes : Redex → Type 0
-  Goes w = (s : State) × (reduct r.procedures r.state (listed w) t w ≡ some s)
+  Goes w = (s : State) × (reduct r.procedures r.state (listed w) t w ≡ Some s)
 
-  names_next : (w : Redex) (new : Slot) → (s : State) × (named r.state (listed w) t new ≡ some s)
+  names_next : (w : Redex) (new : Slot) → (s : State) × (named r.state (listed w) t new ≡ Some s)
   unfolding move_of
   names_next w new = (_, answered (if_unused (r.state.names (next_name r.things))) _ (unused_is_free _ (proper.unused_from_lem (next_name r.things) (omega arith))) refl)
 
-  joins_lowest_lem : (n : ℕ) {one : Unit {0}} → if_identifier (r.state.names n) ≡ some one → FirstFinished n r.state.threads → Goes (unary_redex join (name n))
+  joins_lowest_lem : (n : ℕ) {one : Unit {0}} → if_identifier (r.state.names n) ≡ Some one → FirstFinished n r.state.threads → Goes (unary_redex join (name n))
   unfolding move_of finished_for traits unary_traits
   joins_lowest_lem n e L =
       let (v, value) = finished_has_value (next_word L.thread.body) L.has_finished_lem in (
         _,
         answered (if_identifier (r.state.names n)) _ e
-            (answered (get_elem? r.state.threads (lowest_finished n r.state.threads)) _ L.there
+            (answered (slice_get r.state.threads (lowest_finished n r.state.threads)) _ L.there
             (answered (if_equal L.thread.tid n) _ (equal_complete L.thread.tid n L.same)
             (answered (value_of (next_word L.thread.body)) _ value refl))),
       )
 
-  joins_too : (v : Value) (s : State) → unary_reduct r.procedures r.state m t join v ≡ some s → Goes (unary_redex join v)
+  joins_too : (v : Value) (s : State) → unary_reduct r.procedures r.state m t join v ≡ Some s → Goes (unary_redex join v)
   joins_too (int k) s q = none_is_not_some q
   joins_too (name n) s q =
       let (_, e, q₁) = bind_is_some (if_identifier (r.state.names n)) q in
-      let (u, there, q₂) = bind_is_some (get_elem? r.state.threads m.finished) q₁ in
+      let (u, there, q₂) = bind_is_some (slice_get r.state.threads m.finished) q₁ in
       let (_, same, q₃) = bind_is_some (if_equal u.tid n) q₂ in
       let (v, finished, _) = bind_is_some (value_of (next_word u.body)) q₃ in
       joins_lowest_lem n e
       (first_is_there n r.state.threads m.finished u there (equal_sound u.tid n same) (value_has_finished (next_word u.body) finished))
 
-  unary_goes_too : (o : Unary) (v : Value) (s : State) → unary_reduct r.procedures r.state m t o v ≡ some s → Goes (unary_redex o v)
+  unary_goes_too : (o : Unary) (v : Value) (s : State) → unary_reduct r.procedures r.state m t o v ≡ Some s → Goes (unary_redex o v)
   unfolding move_of
   unary_goes_too join v s q = joins_too v s q
   unary_goes_too ref v s q = names_next (unary_redex ref v) _
@@ -74,7 +73,7 @@ module _ (r : Run) (proper : Proper r) (m : Move) (t : Thread) where
   unary_goes_too (hold w) v s q = (s, q)
   unary_goes_too (call f) v s q = (s, q)
 
-  goes_too : (w : Redex) (s : State) → reduct r.procedures r.state m t w ≡ some s → Goes w
+  goes_too : (w : Redex) (s : State) → reduct r.procedures r.state m t w ≡ Some s → Goes w
   unfolding move_of
   goes_too (let_redex x v e) s q = (s, q)
   goes_too (if_redex e₁ e₂) s q = (s, q)
@@ -84,18 +83,18 @@ module _ (r : Run) (proper : Proper r) (m : Move) (t : Thread) where
   goes_too (unary_redex o v) s q = unary_goes_too o v s q
   goes_too (nullary_redex o) s q = names_next (nullary_redex o) _
 
-pub step_when_reduction : (r : Run) (l : TraceLine) (m : Move) (s : State) → Proper r → MoveOf r l m → reduce r.procedures r.state m ≡ some s →
-    (r' : Run) × (stepped r l ≡ some r')
+pub step_when_reduction : (r : Run) (l : TraceLine) (m : Move) (s : State) → Proper r → MoveOf r l m → reduce r.procedures r.state m ≡ Some s →
+    (r' : Run) × (stepped r l ≡ Some r')
 unfolding reduce stepped move_of
 step_when_reduction r l m s proper of q =
-    let (t, there, q₁) = bind_is_some (get_elem? r.state.threads m.thread) q in
+    let (t, there, q₁) = bind_is_some (slice_get r.state.threads m.thread) q in
     let (w, next, q₂) = bind_is_some (word_of (next_word t.body)) q₁ in
     let (s', reduces) = goes_too r proper m t w s q₂ in
-    let goes : reduce r.procedures r.state (move_of r m.thread w m.part) ≡ some s' =
-    answered (get_elem? r.state.threads m.thread) _ there (answered (word_of (next_word t.body)) _ next reduces) in (
+    let goes : reduce r.procedures r.state (move_of r m.thread w m.part) ≡ Some s' =
+    answered (slice_get r.state.threads m.thread) _ there (answered (word_of (next_word t.body)) _ next reduces) in (
       _,
       answered (place_of l.thread r.numbers) _ of.place
-          (answered (get_elem? r.state.threads m.thread) _ there
+          (answered (slice_get r.state.threads m.thread) _ there
           (answered (word_of (next_word t.body)) _ next
           (answered (part_chosen w l.choice) _ (of.chosen t w there next)
           (answered (reduce r.procedures r.state (move_of r m.thread w m.part)) _ goes refl)))),
@@ -108,9 +107,9 @@ module _ {r r' : Run} {l : TraceLine} (S : Stepped r l r') where
   join_finds : (n : ℕ) → S.word ≡ unary_redex join (name n) → FirstFinished n r.state.threads
   join_finds n is =
       let m = move_of r S.place S.word S.part in
-      let q = subst (λ (w : Redex). reduct r.procedures r.state m S.thread w ≡ some S.state) is (step_reduces S) in
+      let q = subst (λ (w : Redex). reduct r.procedures r.state m S.thread w ≡ Some S.state) is (step_reduces S) in
       let (_, _, q₁) = bind_is_some (if_identifier (r.state.names n)) q in
-      let (u, there, q₂) = bind_is_some (get_elem? r.state.threads m.finished) q₁ in
+      let (u, there, q₂) = bind_is_some (slice_get r.state.threads m.finished) q₁ in
       let (_, same, q₃) = bind_is_some (if_equal u.tid n) q₂ in
       let (v, finished, _) = bind_is_some (value_of (next_word u.body)) q₃ in
       first_is_there n r.state.threads m.finished u there (equal_sound u.tid n same) (value_has_finished (next_word u.body) finished)
@@ -133,8 +132,8 @@ module _ {r r' : Run} {l : TraceLine} (S : Stepped r l r') where
             (L.first p t there.thread same (finished_complete t f)) number there.number;
       })
 
-  chosen_part : (t : Thread) (w : Redex) → ThreadAt r.state S.place t → word_of (next_word t.body) ≡ some w →
-      part_chosen w l.choice ≡ some S.part
+  chosen_part : (t : Thread) (w : Redex) → ThreadAt r.state S.place t → word_of (next_word t.body) ≡ Some w →
+      part_chosen w l.choice ≡ Some S.part
   chosen_part t w there next =
       let same_thread : t ≡ S.thread = some_injective (sym there ∙ S.thread_there) in
       let same_word : w ≡ S.word = some_injective (sym next ∙ ap (λ (u : Thread). word_of (next_word u.body)) same_thread ∙ S.is_next) in
@@ -149,7 +148,7 @@ module _ {r r' : Run} {l : TraceLine} (S : Stepped r l r') where
   step_is_the_languages proper =
       let move = move_of r S.place S.word S.part in
       let next = word_tells (next_word S.thread.body) S.is_next in
-      let reduces = S.reduces ∙ ap some (state_after S) in
+      let reduces = S.reduces ∙ ap Some (state_after S) in
       let numbered = sym (ap (λ (z : Run). z.numbers) S.is_after) in
       record {
         move = move;
@@ -172,21 +171,21 @@ module _ {r r' : Run} {l : TraceLine} (S : Stepped r l r') where
 -- ---- No step
 
 -- No step exactly where no such move is a reduction.
-pub no_step_exactly : (r : Run) (l : TraceLine) → Proper r → (stepped r l ≡ none) ↔ NoStepOf r l
+pub no_step_exactly : (r : Run) (l : TraceLine) → Proper r → (stepped r l ≡ None) ↔ NoStepOf r l
 no_step_exactly r l proper = (there, back)
   where
-    there : stepped r l ≡ none → NoStepOf r l
+    there : stepped r l ≡ None → NoStepOf r l
     there q m of = by_cases (reduce r.procedures r.state m) refl
       where
-        by_cases : (o : Option State) → reduce r.procedures r.state m ≡ o → o ≡ none
-        by_cases none e = refl
-        by_cases (some s) e = let (r', steps) = step_when_reduction r l m s proper of e in none_is_not_some (sym q ∙ steps)
+        by_cases : (o : Option State) → reduce r.procedures r.state m ≡ o → o ≡ None
+        by_cases None e = refl
+        by_cases (Some s) e = let (r', steps) = step_when_reduction r l m s proper of e in none_is_not_some (sym q ∙ steps)
 
-    back : NoStepOf r l → stepped r l ≡ none
+    back : NoStepOf r l → stepped r l ≡ None
     back h = by_cases (stepped r l) refl
       where
-        by_cases : (o : Option Run) → stepped r l ≡ o → o ≡ none
-        by_cases none e = refl
-        by_cases (some r') e =
+        by_cases : (o : Option Run) → stepped r l ≡ o → o ≡ None
+        by_cases None e = refl
+        by_cases (Some r') e =
             let step = step_is_the_languages (step_taken r r' l e) proper in
             none_is_not_some (sym (h step.move step.listed) ∙ step.reduces)

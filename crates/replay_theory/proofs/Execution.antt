@@ -1,11 +1,10 @@
 -- The runs on the way of a trace: each is proper, each is a state of a run of the calculus, and the report's race is the first of theirs.
+use Rattle.std.proofs.Common.{Option, None as none, Some as some, slice_get}
 use Prim.Native.Nat.{ℕ, zero, suc, ◌+◌, ◌<◌}
 use mathlib.Core.Path.{◌≡◌, refl, sym, ◌∙◌, ap, subst}
 use mathlib.Core.Bool.{Bool, true, false}
-use mathlib.Core.Option.{Option, none, some}
 use mathlib.Core.List.{List, [], ◌∷◌}
 use native.Mathlib.Omega.{arith}
-use lib.ListN.{get_elem?}
 use Rattle.spec.specs.Choice.{when◌then◌else◌}
 use Rattle.spec.specs.Text.{Line}
 use Rattle.calculus.specs.Expression.{Procedure}
@@ -98,9 +97,9 @@ pub record FirstPair (k : ℕ) (rs : List Run) (n i j : ℕ) : Type 0 where
   pub index : ℕ
   pub run : Run
   pub counted : n ≡ k + index
-  pub there : get_elem? rs index ≡ some run
+  pub there : slice_get rs index ≡ some run
   pub pair : lowest_pair run ≡ some (i, j)
-  pub before : (m : ℕ) (r : Run) → m < index → get_elem? rs m ≡ some r → lowest_pair r ≡ none
+  pub before : (m : ℕ) (r : Run) → m < index → slice_get rs m ≡ some r → lowest_pair r ≡ none
 
 found_injective : {k i j n l m : ℕ} → Found k i j ≡ Found n l m → (k ≡ n) × (i ≡ l) × (j ≡ m)
 found_injective h = (cc, cc, cc)
@@ -130,7 +129,7 @@ race_is_first (r ∷ rs) k n i j h = by_cases (lowest_pair r) refl h (race_is_fi
         let at_n = F.counted in
         record { index = suc F.index; run = F.run; counted = omega (arith, at_n); there = F.there; pair = F.pair; before = before F }
       where
-        before : (F : FirstPair (k + 1) rs n i j) (m : ℕ) (x : Run) → m < suc F.index → get_elem? (r ∷ rs) m ≡ some x → lowest_pair x ≡ none
+        before : (F : FirstPair (k + 1) rs n i j) (m : ℕ) (x : Run) → m < suc F.index → slice_get (r ∷ rs) m ≡ some x → lowest_pair x ≡ none
         before F zero x l there = ap lowest_pair (sym (some_injective there)) ∙ e
         before F (suc m) x l there = F.before m x (omega (arith, l)) there
 

@@ -1,11 +1,11 @@
 -- A replay does the language's step on each line, passes no limit with them, and stops for what the line behind them is.
+use Rattle.std.proofs.Common.{Some, slice_get}
 use Prim.Native.Nat.{ℕ, zero, suc, ◌+◌, ◌≤◌, ◌<◌}
 use mathlib.Core.Path.{◌≡◌, refl, sym, ap, subst}
 use mathlib.Core.Bool.{true}
-use mathlib.Core.Option.{some}
 use mathlib.Core.List.{List, [], ◌∷◌, ◌++◌, append_assoc, append-nil}
 use native.Mathlib.Omega.{arith}
-use lib.ListN.{get_elem?, length, take}
+use lib.ListN.{length, take}
 use Rattle.spec.specs.Text.{Line}
 use Rattle.calculus.specs.Expression.{Program}
 use Rattle.replay_theory.specs.Trace.{TraceLine, trace_line}
@@ -25,23 +25,23 @@ record Onward (rs : List Run) (ds : List Reduced) (k : ℕ) (r : Run) (ls : List
   each : (n : ℕ) → n < length steps → StepDone (r ∷ w.0) ls steps n
   within_each : (n : ℕ) → n ≤ length steps → Within (rs ++ take n w.0) (ds ++ take n steps)
   last : Run
-  last_there_lem : get_elem? (r ∷ w.0) (length steps) ≡ some last
-  stops : Stops (rs ++ w.0) (ds ++ steps) last (get_elem? ls (length steps)) (k + length steps) (returned_for w.1)
+  last_there_lem : slice_get (r ∷ w.0) (length steps) ≡ Some last
+  stops : Stops (rs ++ w.0) (ds ++ steps) last (slice_get ls (length steps)) (k + length steps) (returned_for w.1)
 
 -- The same of equal runs and steps.
 same_within : {rs rs' : List Run} {ds ds' : List Reduced} → rs ≡ rs' → ds ≡ ds' → Within rs ds → Within rs' ds'
 same_within {rs} {rs'} {ds} a b W = subst (Within rs') b (subst (λ (xs : List Run). Within xs ds) a W)
 
 same_stops : {rs rs' : List Run} {ds ds' : List Reduced} {k k' : ℕ} (r : Run) (ls : List Line) (i : ℕ) (e : Ending) → rs ≡ rs' → ds ≡ ds' → k ≡ k' →
-    Stops rs ds r (get_elem? ls i) k (returned_for e) → Stops rs' ds' r (get_elem? ls i) k' (returned_for e)
+    Stops rs ds r (slice_get ls i) k (returned_for e) → Stops rs' ds' r (slice_get ls i) k' (returned_for e)
 same_stops {rs} {rs'} {ds} {ds'} {k} {k'} r ls i e a b c s =
-    subst (λ (n : ℕ). Stops rs' ds' r (get_elem? ls i) n (returned_for e)) c
-    (subst (λ (xs : List Reduced). Stops rs' xs r (get_elem? ls i) k (returned_for e)) b
-    (subst (λ (xs : List Run). Stops xs ds r (get_elem? ls i) k (returned_for e)) a s))
+    subst (λ (n : ℕ). Stops rs' ds' r (slice_get ls i) n (returned_for e)) c
+    (subst (λ (xs : List Reduced). Stops rs' xs r (slice_get ls i) k (returned_for e)) b
+    (subst (λ (xs : List Run). Stops xs ds r (slice_get ls i) k (returned_for e)) a s))
 
 -- They stop at once.
 here : {rs : List Run} {ds : List Reduced} {k : ℕ} {r : Run} {ls : List Line} {e : Ending} → Within rs ds →
-    Stops rs ds r (get_elem? ls 0) k (returned_for e) → Onward rs ds k r ls ([], e)
+    Stops rs ds r (slice_get ls 0) k (returned_for e) → Onward rs ds k r ls ([], e)
 here {rs} {ds} {k} {r} {ls} {e} W s = record {
   steps = [];
   counted = refl;
@@ -56,7 +56,7 @@ here {rs} {ds} {k} {r} {ls} {e} W s = record {
     at_once = same_within (sym (append-nil rs)) (sym (append-nil ds)) W
 
 -- One step, and then they go on.
-module _ (rs : List Run) (ds : List Reduced) (k : ℕ) (r r' : Run) (l : Line) (ls : List Line) (t : TraceLine) (shown : trace_line l ≡ some t)
+module _ (rs : List Run) (ds : List Reduced) (k : ℕ) (r r' : Run) (l : Line) (ls : List Line) (t : TraceLine) (shown : trace_line l ≡ Some t)
     (proper : Proper r) (S : Stepped r t r') (W : Within rs ds) (w : List Run × Ending)
     (O : Onward (rs ++ (r' ∷ [])) (ds ++ (reduced S ∷ [])) (k + 1) r' ls w) where
   each_done : (n : ℕ) → n < suc (length O.steps) → StepDone (r ∷ r' ∷ w.0) (l ∷ ls) (reduced S ∷ O.steps) n
@@ -146,7 +146,7 @@ replay_follows p ls =
       each = λ n b. O.each n (omega (arith, b, same));
       within = λ n b. O.within_each n (omega (arith, b, same));
       last = O.last;
-      last_there = subst (λ (n : ℕ). get_elem? (runs_along start ls) n ≡ some O.last) same O.last_there_lem;
-      stops = subst (λ (n : ℕ). Stops (runs_along start ls) O.steps O.last (get_elem? ls n) (suc n) (returned_for (execution 1 start ls).1)) same
+      last_there = subst (λ (n : ℕ). slice_get (runs_along start ls) n ≡ Some O.last) same O.last_there_lem;
+      stops = subst (λ (n : ℕ). Stops (runs_along start ls) O.steps O.last (slice_get ls n) (suc n) (returned_for (execution 1 start ls).1)) same
           (same_stops O.last ls (length O.steps) (execution 1 start ls).1 refl refl (omega arith) O.stops);
     }

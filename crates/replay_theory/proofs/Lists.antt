@@ -1,10 +1,10 @@
 -- Laws of lists: their lengths, their places, and what holds of every element.
+use Rattle.std.proofs.Common.{Some, slice_get}
 use Prim.Native.Nat.{ℕ, zero, suc, ◌<◌}
 use mathlib.Core.Path.{◌≡◌, refl, sym, ap, subst}
-use mathlib.Core.Option.{some}
 use mathlib.Core.List.{List, [], ◌∷◌, ◌++◌}
 use native.Mathlib.Omega.{arith}
-use lib.ListN.{get_elem?, set, length, take}
+use lib.ListN.{set, length, take}
 use Rattle.calculus.specs.State.{remove}
 use Rattle.calculus.specs.Claim.{Every}
 use Rattle.calculus.proofs.Laws.Maps.{some_injective, none_is_not_some}
@@ -31,22 +31,22 @@ length_remove (x ∷ xs) (y ∷ ys) (suc i) h = ap suc (length_remove xs ys i (o
 -- ---- Places
 
 -- Of two lists of one length, one has an element wherever the other has.
-pub there_in_both : {A B : Type 0} {y : B} (xs : List A) (ys : List B) (p : ℕ) → length xs ≡ length ys → get_elem? ys p ≡ some y →
-    (x : A) × (get_elem? xs p ≡ some x)
+pub there_in_both : {A B : Type 0} {y : B} (xs : List A) (ys : List B) (p : ℕ) → length xs ≡ length ys → slice_get ys p ≡ Some y →
+    (x : A) × (slice_get xs p ≡ Some x)
 there_in_both xs [] p e h = none_is_not_some h
 there_in_both [] (y ∷ ys) p e h = absurd (omega (arith, e))
 there_in_both (x ∷ xs) (y ∷ ys) zero e h = (x, refl)
 there_in_both (x ∷ xs) (y ∷ ys) (suc p) e h = there_in_both xs ys p (omega (arith, e)) h
 
 -- The element at the place that was set.
-pub set_here : {A : Type 0} {b : A} (xs : List A) (i : ℕ) (a : A) → get_elem? xs i ≡ some b → get_elem? (set xs i a) i ≡ some a
+pub set_here : {A : Type 0} {b : A} (xs : List A) (i : ℕ) (a : A) → slice_get xs i ≡ Some b → slice_get (set xs i a) i ≡ Some a
 set_here [] i a h = none_is_not_some h
 set_here (x ∷ xs) zero a h = refl
 set_here (x ∷ xs) (suc i) a h = set_here xs i a h
 
 -- ---- Lists whose every element has a property
 
-pub every_at : {A : Type 0} (P : A → Type 0) (xs : List A) (i : ℕ) (x : A) → Every P xs → get_elem? xs i ≡ some x → P x
+pub every_at : {A : Type 0} (P : A → Type 0) (xs : List A) (i : ℕ) (x : A) → Every P xs → slice_get xs i ≡ Some x → P x
 every_at P [] i x ps h = none_is_not_some h
 every_at P (y ∷ xs) zero x ps h = subst P (some_injective h) ps.0
 every_at P (y ∷ xs) (suc i) x ps h = every_at P xs i x ps.1 h
@@ -70,13 +70,13 @@ every_both (x ∷ xs) f ps qs = (f x ps.0 qs.0, every_both xs f ps.1 qs.1)
 
 -- ---- The first elements
 
-pub there_below : {A : Type 0} {x : A} (xs : List A) (k : ℕ) → get_elem? xs k ≡ some x → k < length xs
+pub there_below : {A : Type 0} {x : A} (xs : List A) (k : ℕ) → slice_get xs k ≡ Some x → k < length xs
 there_below [] k h = none_is_not_some h
 there_below (y ∷ xs) zero h = omega arith
 there_below (y ∷ xs) (suc k) h = let later = there_below xs k h in omega (arith, later)
 
 -- A list of m elements that are the first of another.
-pub first_of : {A : Type 0} (xs ys : List A) (m : ℕ) → length xs ≡ m → ((k : ℕ) → k < m → get_elem? xs k ≡ get_elem? ys k) → xs ≡ take m ys
+pub first_of : {A : Type 0} (xs ys : List A) (m : ℕ) → length xs ≡ m → ((k : ℕ) → k < m → slice_get xs k ≡ slice_get ys k) → xs ≡ take m ys
 first_of [] ys zero h same = refl
 first_of [] ys (suc m) h same = absurd (omega (arith, h))
 first_of (x ∷ xs) ys zero h same = absurd (omega (arith, h))
@@ -86,7 +86,7 @@ first_of (x ∷ xs) (y ∷ ys) (suc m) h same =
     let later = first_of xs ys m (omega (arith, h)) (λ k b. same (suc k) (omega (arith, b))) in
     λ z. here z ∷ later z
 
-pub one_more_of : {A : Type 0} {y : A} (ys : List A) (m : ℕ) → get_elem? ys m ≡ some y → take (suc m) ys ≡ take m ys ++ (y ∷ [])
+pub one_more_of : {A : Type 0} {y : A} (ys : List A) (m : ℕ) → slice_get ys m ≡ Some y → take (suc m) ys ≡ take m ys ++ (y ∷ [])
 one_more_of [] m h = none_is_not_some h
 one_more_of (x ∷ ys) zero h = ap (λ x'. x' ∷ []) (some_injective h)
 one_more_of (x ∷ ys) (suc m) h = ap (λ xs. x ∷ xs) (one_more_of ys m h)

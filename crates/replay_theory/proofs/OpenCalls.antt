@@ -1,12 +1,12 @@
 -- The calls that a run keeps for a thread are those that the claim finds open along its steps.
+use Rattle.std.proofs.Common.{Option, None, Some, slice_get}
 use Prim.Native.Nat.{ℕ, suc}
 use mathlib.Core.Path.{◌≡◌, refl, sym, ◌∙◌, ap}
 use mathlib.Core.Bool.{Bool, true, false, ◌&&◌}
-use mathlib.Core.Option.{Option, none, some}
 use mathlib.Core.List.{List, [], ◌∷◌, ◌++◌, append_assoc, append-nil}
 use native.Mathlib.Omega.{arith}
 use lib.Dec.{eqb}
-use lib.ListN.{get_elem?, length}
+use lib.ListN.{length}
 use Rattle.spec.specs.Choice.{when◌then◌else◌}
 use Rattle.spec.proofs.Tests.{and_true}
 use Rattle.calculus.specs.State.{Thread}
@@ -23,22 +23,22 @@ use Rattle.replay_theory.proofs.ThreadCalls.{one_if, look_up, calls_for, open_fo
 
 open_append : (o : Option Thread) (ps qs : List Path) → open_for o (ps ++ qs) ≡ open_for o ps ++ open_for o qs
 unfolding open_for still_open
-open_append none ps qs = refl
-open_append (some t) [] qs = refl
-open_append (some t) (p ∷ ps) qs = by_cases (is_open (part_at p t.body)) (open_append (some t) ps qs)
+open_append None ps qs = refl
+open_append (Some t) [] qs = refl
+open_append (Some t) (p ∷ ps) qs = by_cases (is_open (part_at p t.body)) (open_append (Some t) ps qs)
   where
-    by_cases : (b : Bool) → open_for (some t) (ps ++ qs) ≡ open_for (some t) ps ++ open_for (some t) qs →
-        (when b then (p ∷ open_for (some t) (ps ++ qs)) else open_for (some t) (ps ++ qs))
-        ≡ (when b then (p ∷ open_for (some t) ps) else open_for (some t) ps) ++ open_for (some t) qs
+    by_cases : (b : Bool) → open_for (Some t) (ps ++ qs) ≡ open_for (Some t) ps ++ open_for (Some t) qs →
+        (when b then (p ∷ open_for (Some t) (ps ++ qs)) else open_for (Some t) (ps ++ qs))
+        ≡ (when b then (p ∷ open_for (Some t) ps) else open_for (Some t) ps) ++ open_for (Some t) qs
     by_cases true later = ap (λ (x : List Path). p ∷ x) later
     by_cases false later = later
 
 open_one : (o : Option Thread) (b : Bool) (q : Path) → open_for o (one_if b q) ≡ one_if (b && is_open (o >>= λ t. part_at q t.body)) q
 unfolding open_for still_open is_open
-open_one none true q = refl
-open_one none false q = refl
-open_one (some t) true q = refl
-open_one (some t) false q = refl
+open_one None true q = refl
+open_one None false q = refl
+open_one (Some t) true q = refl
+open_one (Some t) false q = refl
 
 both_assoc : (a b c : Bool) → (a && (b && c)) ≡ ((a && b) && c)
 both_assoc true b c = refl
@@ -46,7 +46,7 @@ both_assoc false b c = refl
 
 module _ (r : Run) (d : Reduced) (i : ℕ) where
   abbrev now : Option Thread
-  now = place_of i r.numbers >>= get_elem? r.state.threads
+  now = place_of i r.numbers >>= slice_get r.state.threads
 
   abbrev is_open_now : Path → Bool
   is_open_now q = is_open (part_in r i q)
@@ -96,5 +96,5 @@ step_keeps_open {r} {r'} {l} S proper ds rs counted i before =
     ∙ after_looked r proper m l.thread S.there q i ts e
     ∙ ap (open_for (look_up i (numbers_after r m e) ts)) (ap (λ (ps : List Path). one_if (is_call e (eqb i l.thread)) q ++ ps) before)
     ∙ ap (λ (o : Option Thread). open_for o (one_if (is_call e (eqb i l.thread)) q ++ open_calls_of i ds rs))
-    (sym (placed i (numbers_after r m e) ts) ∙ ap (λ (z : Run). place_of i z.numbers >>= get_elem? z.state.threads) S.is_after)
+    (sym (placed i (numbers_after r m e) ts) ∙ ap (λ (z : Run). place_of i z.numbers >>= slice_get z.state.threads) S.is_after)
     ∙ sym (open_more r' (reduced S) i ds rs counted)

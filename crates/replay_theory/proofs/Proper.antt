@@ -1,11 +1,11 @@
 -- What every run on the way keeps: a number and a list of calls for each thread, the numbers rising; and no name used from the next on. So a
 -- run's books are right.
+use Rattle.std.proofs.Common.{Some, slice_get}
 use Prim.Native.Nat.{ℕ, zero, suc, ◌≤◌}
 use mathlib.Core.Path.{◌≡◌, refl, sym, ◌∙◌, ap, subst}
-use mathlib.Core.Option.{some}
 use mathlib.Core.List.{List, [], ◌∷◌, ◌++◌}
 use native.Mathlib.Omega.{arith}
-use lib.ListN.{get_elem?, set, length}
+use lib.ListN.{set, length}
 use Rattle.calculus.specs.Expression.{Redex, next_word, Program}
 use Rattle.calculus.specs.State.{unused, identifier, Thread, State, Part, Move, remove}
 use Rattle.calculus.specs.Reduction.{word_of, reduct, reduce, start_state}
@@ -20,22 +20,22 @@ use Rattle.replay_theory.proofs.Changes.{moved_to, Changed, goes, called, made, 
 
 pub record Stepped (r : Run) (l : TraceLine) (r' : Run) : Type 0 where
   pub place : ℕ
-  pub there : place_of l.thread r.numbers ≡ some place
+  pub there : place_of l.thread r.numbers ≡ Some place
   pub thread : Thread
-  pub thread_there : get_elem? r.state.threads place ≡ some thread
+  pub thread_there : slice_get r.state.threads place ≡ Some thread
   pub word : Redex
-  pub is_next : word_of (next_word thread.body) ≡ some word
+  pub is_next : word_of (next_word thread.body) ≡ Some word
   pub part : Part
-  pub chosen : part_chosen word l.choice ≡ some part
+  pub chosen : part_chosen word l.choice ≡ Some part
   pub state : State
-  pub reduces : reduce r.procedures r.state (move_of r place word part) ≡ some state
+  pub reduces : reduce r.procedures r.state (move_of r place word part) ≡ Some state
   pub is_after : after r (move_of r place word part) (next_path thread.body) (effect word) state ≡ r'
 
-pub step_taken : (r r' : Run) (l : TraceLine) → stepped r l ≡ some r' → Stepped r l r'
+pub step_taken : (r r' : Run) (l : TraceLine) → stepped r l ≡ Some r' → Stepped r l r'
 unfolding stepped
 step_taken r r' l q =
     let (p, there, q₁) = bind_is_some (place_of l.thread r.numbers) q in
-    let (t, thread_there, q₂) = bind_is_some (get_elem? r.state.threads p) q₁ in
+    let (t, thread_there, q₂) = bind_is_some (slice_get r.state.threads p) q₁ in
     let (w, next, q₃) = bind_is_some (word_of (next_word t.body)) q₂ in
     let (c, chosen, q₄) = bind_is_some (part_chosen w l.choice) q₃ in
     let (s, reduces, q₅) = bind_is_some (reduce r.procedures r.state (move_of r p w c)) q₄ in
@@ -64,10 +64,10 @@ procedures_after S = sym (ap (λ (z : Run). z.procedures) S.is_after)
 
 -- The word that is next reduces.
 pub step_reduces : {r r' : Run} {l : TraceLine} (S : Stepped r l r') →
-    reduct r.procedures r.state (move_of r S.place S.word S.part) S.thread S.word ≡ some S.state
+    reduct r.procedures r.state (move_of r S.place S.word S.part) S.thread S.word ≡ Some S.state
 unfolding reduce move_of
 step_reduces {r} S = bind_goes_on (word_of (next_word S.thread.body)) _ S.is_next
-    (bind_goes_on (get_elem? r.state.threads S.place) _ S.thread_there S.reduces)
+    (bind_goes_on (slice_get r.state.threads S.place) _ S.thread_there S.reduces)
 
 pub step_changes : {r r' : Run} {l : TraceLine} (S : Stepped r l r') →
     Changed r.state (move_of r S.place S.word S.part) S.thread (effect S.word) S.state
@@ -178,7 +178,7 @@ module _ (r : Run) (proper : Proper r) (m : Move) (q : Path) (fresh : m.fresh �
     rising = rising_remove 0 r.threads r.numbers m.finished proper.rising;
   }
 
-pub step_keeps_proper : (r r' : Run) (l : TraceLine) → Proper r → stepped r l ≡ some r' → Proper r'
+pub step_keeps_proper : (r r' : Run) (l : TraceLine) → Proper r → stepped r l ≡ Some r' → Proper r'
 unfolding move_of
 step_keeps_proper r r' l proper q =
     let S = step_taken r r' l q in

@@ -1,9 +1,9 @@
 -- Two threads clash exactly when one is about to write a cell that the other is about to read or write, as the calculus says it.
+use Rattle.std.proofs.Common.{Option, None, Some}
 use Prim.Native.Nat.{ℕ}
 use mathlib.Core.Path.{◌≡◌, refl, sym, ◌∙◌, ap}
 use mathlib.Core.Logic.{◌≢◌, inl, inr}
 use mathlib.Core.Bool.{Bool, true, false, ◌||◌}
-use mathlib.Core.Option.{Option, none, some}
 use borrow.Author.Tests.{eqb-true, eq-eqb}
 use Rattle.spec.proofs.Clashes.{true_is_not_false}
 use Rattle.calculus.specs.Expression.{Value, int, name, Unary, join, ref, read, lock, unlock, post, wait, hold, call, Redex, let_redex, if_redex, while_redex, spawn_redex, write_redex, unary_redex, nullary_redex, at_word, next_word}
@@ -19,11 +19,11 @@ use Rattle.replay_theory.proofs.Traits.{unary_plain}
 
 -- ---- What a thread is about to use
 
-name_tells : (v : Value) (n : ℕ) → name_of v ≡ some n → v ≡ name n
+name_tells : (v : Value) (n : ℕ) → name_of v ≡ Some n → v ≡ name n
 name_tells (int k) n h = none_is_not_some h
 name_tells (name m) n h = ap name (some_injective h)
 
-unary_reads_tells : (o : Unary) (v : Value) (n : ℕ) → (unary_traits o v).reading ≡ some n → unary_redex o v ≡ unary_redex read (name n)
+unary_reads_tells : (o : Unary) (v : Value) (n : ℕ) → (unary_traits o v).reading ≡ Some n → unary_redex o v ≡ unary_redex read (name n)
 unfolding unary_traits
 unary_reads_tells join v n h = none_is_not_some h
 unary_reads_tells ref v n h = none_is_not_some h
@@ -35,7 +35,7 @@ unary_reads_tells wait v n h = none_is_not_some h
 unary_reads_tells (hold w) v n h = none_is_not_some h
 unary_reads_tells (call f) v n h = none_is_not_some h
 
-reads_tells : (w : Redex) (n : ℕ) → (traits w).reading ≡ some n → w ≡ unary_redex read (name n)
+reads_tells : (w : Redex) (n : ℕ) → (traits w).reading ≡ Some n → w ≡ unary_redex read (name n)
 unfolding traits
 reads_tells (let_redex x v e) n h = none_is_not_some h
 reads_tells (if_redex e₁ e₂) n h = none_is_not_some h
@@ -45,7 +45,7 @@ reads_tells (write_redex v u) n h = none_is_not_some h
 reads_tells (unary_redex o v) n h = unary_reads_tells o v n h
 reads_tells (nullary_redex o) n h = none_is_not_some h
 
-writes_tells : (w : Redex) (n : ℕ) → (traits w).writing ≡ some n → (v : Value) × (w ≡ write_redex (name n) v)
+writes_tells : (w : Redex) (n : ℕ) → (traits w).writing ≡ Some n → (v : Value) × (w ≡ write_redex (name n) v)
 unfolding traits
 writes_tells (let_redex x v e) n h = none_is_not_some h
 writes_tells (if_redex e₁ e₂) n h = none_is_not_some h
@@ -55,7 +55,7 @@ writes_tells (write_redex v u) n h = (u, ap (λ x. write_redex x u) (name_tells 
 writes_tells (unary_redex o v) n h = none_is_not_some (sym (unary_plain o v).1 ∙ h)
 writes_tells (nullary_redex o) n h = none_is_not_some h
 
-content_tells : {v : Value} (sl : Slot) → cell_value sl ≡ some v → sl ≡ cell v
+content_tells : {v : Value} (sl : Slot) → cell_value sl ≡ Some v → sl ≡ cell v
 content_tells unused h = none_is_not_some h
 content_tells identifier h = none_is_not_some h
 content_tells (cell w) h = ap cell (some_injective h)
@@ -68,44 +68,44 @@ module _ (s : State) (t : Thread) where
   uses = uses_of s.names (word_of (next_word t.body))
 
   -- The name that a test of the next word finds, if a cell has it.
-  cell_found : (ask : Redex → Option ℕ) (n : ℕ) → if_cell s.names (word_of (next_word t.body) >>= ask) ≡ some n →
-      (w : Redex) × (v : Value) × (next_word t.body ≡ at_word w) × (ask w ≡ some n) × (s.names n ≡ cell v)
+  cell_found : (ask : Redex → Option ℕ) (n : ℕ) → if_cell s.names (word_of (next_word t.body) >>= ask) ≡ Some n →
+      (w : Redex) × (v : Value) × (next_word t.body ≡ at_word w) × (ask w ≡ Some n) × (s.names n ≡ cell v)
   unfolding if_cell
   cell_found ask n h =
       let (m, asked, h₁) = bind_is_some (word_of (next_word t.body) >>= ask) h in
       let (v, held, h₂) = bind_is_some (cell_value (s.names m)) h₁ in
       let (w, next, h₃) = bind_is_some (word_of (next_word t.body)) asked in
       let same : m ≡ n = some_injective h₂ in
-      (w, v, word_tells (next_word t.body) next, h₃ ∙ ap some same, ap s.names (sym same) ∙ content_tells (s.names m) held)
+      (w, v, word_tells (next_word t.body) next, h₃ ∙ ap Some same, ap s.names (sym same) ∙ content_tells (s.names m) held)
 
-  reading_sound : (n : ℕ) → uses.reading ≡ some n → AboutToRead s t n
+  reading_sound : (n : ℕ) → uses.reading ≡ Some n → AboutToRead s t n
   unfolding uses_of
   reading_sound n h = let (w, v, next, asked, held) = cell_found (λ x. (traits x).reading) n h in about_to_read v held (next ∙ ap at_word (reads_tells w n asked))
 
-  writing_sound : (n : ℕ) → uses.writing ≡ some n → AboutToWrite s t n
+  writing_sound : (n : ℕ) → uses.writing ≡ Some n → AboutToWrite s t n
   unfolding uses_of
   writing_sound n h =
       let (w, v, next, asked, held) = cell_found (λ x. (traits x).writing) n h in
       let (u, is) = writes_tells w n asked in
       about_to_write v u held (next ∙ ap at_word is)
 
-  reading_complete : (n : ℕ) → AboutToRead s t n → uses.reading ≡ some n
+  reading_complete : (n : ℕ) → AboutToRead s t n → uses.reading ≡ Some n
   unfolding uses_of if_cell traits unary_traits
   reading_complete n (about_to_read v held next) = rw (next, held) refl
 
-  writing_complete : (n : ℕ) → AboutToWrite s t n → uses.writing ≡ some n
+  writing_complete : (n : ℕ) → AboutToWrite s t n → uses.writing ≡ Some n
   unfolding uses_of if_cell traits
   writing_complete n (about_to_write v u held next) = rw (next, held) refl
 
 -- ---- Two threads that meet
 
-same_cell_sound : (a b : Option ℕ) → same_cell a b ≡ true → (n : ℕ) × (a ≡ some n) × (b ≡ some n)
+same_cell_sound : (a b : Option ℕ) → same_cell a b ≡ true → (n : ℕ) × (a ≡ Some n) × (b ≡ Some n)
 unfolding same_cell
-same_cell_sound none b h = true_is_not_false (sym h)
-same_cell_sound (some n) none h = true_is_not_false (sym h)
-same_cell_sound (some n) (some m) h = (n, refl, ap some (sym (eqb-true n m h)))
+same_cell_sound None b h = true_is_not_false (sym h)
+same_cell_sound (Some n) None h = true_is_not_false (sym h)
+same_cell_sound (Some n) (Some m) h = (n, refl, ap Some (sym (eqb-true n m h)))
 
-same_cell_complete : (a b : Option ℕ) (n : ℕ) → a ≡ some n → b ≡ some n → same_cell a b ≡ true
+same_cell_complete : (a b : Option ℕ) (n : ℕ) → a ≡ Some n → b ≡ Some n → same_cell a b ≡ true
 unfolding same_cell
 same_cell_complete a b n p q = rw (p, q) (eq-eqb n n refl)
 

@@ -1,11 +1,9 @@
 -- What a report says: the first state with a race of the calculus, with its lowest pair; and none for a job that is accepted.
-use Rattle.std.proofs.Common.{Result, Ok, Err}
+use Rattle.std.proofs.Common.{None as none, Result, Ok, Err, slice_get}
 use Prim.Native.Nat.{ℕ}
 use mathlib.Core.Path.{◌≡◌, refl, sym, ◌∙◌, ap, subst}
-use mathlib.Core.Option.{none}
 use mathlib.Core.List.{List, [], ◌∷◌}
 use native.Mathlib.Omega.{arith}
-use lib.ListN.{get_elem?}
 use Rattle.spec.specs.declared.Refusal.{Refusal}
 use Rattle.spec.specs.Text.{Line, lines}
 use Rattle.spec.specs.Program.{Program}
@@ -48,7 +46,7 @@ module _ (r : Run) (proper : Proper r) (ls : List Line) where
       let (in_order, racing, lowest) = pair_is_lowest F.run proper_there i j F.pair in
       record {
         run = F.run;
-        there = ap (get_elem? (runs_along r ls)) (sym index_is) ∙ F.there;
+        there = ap (slice_get (runs_along r ls)) (sym index_is) ∙ F.there;
         races = racing_is_race (λ e. omega (arith, in_order, e)) racing;
         in_order = in_order;
         racing = racing;

@@ -1,14 +1,14 @@
 -- What a thread does next, the body of each of its open calls does, in all runs that follow a trace from the start of a program.
 -- Run by run: a step moves one thread. Its open calls go on in what it becomes, a call that it takes begins where it stood, the other threads
 -- keep theirs, and a new one has none.
+use Rattle.std.proofs.Common.{Option, None, Some, option_map, slice_get}
 use Prim.Native.Nat.{ℕ, zero, suc, ◌≤◌}
 use mathlib.Core.Path.{◌≡◌, refl, sym, ◌∙◌, ap, subst}
 use mathlib.Core.Bool.{Bool, true, false, not}
-use mathlib.Core.Option.{Option, none, some, map}
 use mathlib.Core.List.{List, [], ◌∷◌, ◌++◌}
 use native.Mathlib.Omega.{arith}
 use lib.Dec.{eqb}
-use lib.ListN.{get_elem?, set, take}
+use lib.ListN.{set, take}
 use lib.Seq.{length-take-le}
 use borrow.Author.Tests.{eqb-true, eq-eqb}
 use Rattle.spec.specs.Choice.{when◌then◌else◌}
@@ -40,7 +40,7 @@ MayRun e q = is_open (part_at q e) ≡ true → RunsAt e q
 
 -- ---- One expression
 
-is_going : (o : Option Exp) (d : Exp) → o ≡ some d → is_open o ≡ true → has_finished (next_word d) ≡ false
+is_going : (o : Option Exp) (d : Exp) → o ≡ Some d → is_open o ≡ true → has_finished (next_word d) ≡ false
 unfolding is_open
 is_going o d is opened = by_cases (has_finished (next_word d)) (sym (ap is_open is) ∙ opened)
   where
@@ -69,52 +69,52 @@ open_run e (q ∷ ps) may = by_cases (is_open (part_at q e)) refl (open_run e ps
 
 -- The open calls of a thread run; one that is not there has none.
 abbrev RunIn : Option Thread → List Path → Type 0
-RunIn none ps = ps ≡ []
-RunIn (some t) ps = Every (RunsAt t.body) ps
+RunIn None ps = ps ≡ []
+RunIn (Some t) ps = Every (RunsAt t.body) ps
 
 abbrev MayRunIn : Option Thread → List Path → Type 0
-MayRunIn none ps = ps ≡ []
-MayRunIn (some t) ps = Every (MayRun t.body) ps
+MayRunIn None ps = ps ≡ []
+MayRunIn (Some t) ps = Every (MayRun t.body) ps
 
 none_run : (o : Option Thread) (ps : List Path) → ps ≡ [] → MayRunIn o ps
-none_run none ps empty = empty
-none_run (some t) ps empty = subst (Every (MayRun t.body)) (sym empty) tt
+none_run None ps empty = empty
+none_run (Some t) ps empty = subst (Every (MayRun t.body)) (sym empty) tt
 
 still_may : (o : Option Thread) (ps : List Path) → RunIn o ps → MayRunIn o ps
-still_may none ps run = run
-still_may (some t) ps run = every_to ps (λ q R opened. R) run
+still_may None ps run = run
+still_may (Some t) ps run = every_to ps (λ q R opened. R) run
 
 open_runs : (o : Option Thread) (ps : List Path) → MayRunIn o ps → RunIn o (open_for o ps)
 unfolding open_for
-open_runs none ps may = refl
-open_runs (some t) ps may = open_run t.body ps may
+open_runs None ps may = refl
+open_runs (Some t) ps may = open_run t.body ps may
 
 -- ---- One thread among all
 
-number_there : (i p : ℕ) (ns : List ℕ) → place_of i ns ≡ some p → get_elem? ns p ≡ some i
+number_there : (i p : ℕ) (ns : List ℕ) → place_of i ns ≡ Some p → slice_get ns p ≡ Some i
 unfolding place_of
 number_there i p [] h = none_is_not_some h
 number_there i p (n ∷ ns) h = by_cases (eqb i n) refl h (λ k. number_there i k ns)
   where
-    later_place : (o : Option ℕ) → place_of i ns ≡ o → map suc o ≡ some p → ((k : ℕ) → place_of i ns ≡ some k → get_elem? ns k ≡ some i) →
-        get_elem? (n ∷ ns) p ≡ some i
-    later_place none is z later = none_is_not_some z
-    later_place (some k) is z later = ap (get_elem? (n ∷ ns)) (sym (some_injective z)) ∙ later k is
+    later_place : (o : Option ℕ) → place_of i ns ≡ o → option_map suc o ≡ Some p → ((k : ℕ) → place_of i ns ≡ Some k → slice_get ns k ≡ Some i) →
+        slice_get (n ∷ ns) p ≡ Some i
+    later_place None is z later = none_is_not_some z
+    later_place (Some k) is z later = ap (slice_get (n ∷ ns)) (sym (some_injective z)) ∙ later k is
 
-    by_cases : (b : Bool) → eqb i n ≡ b → (when b then some 0 else map suc (place_of i ns)) ≡ some p →
-        ((k : ℕ) → place_of i ns ≡ some k → get_elem? ns k ≡ some i) → get_elem? (n ∷ ns) p ≡ some i
-    by_cases true is z later = ap (get_elem? (n ∷ ns)) (sym (some_injective z)) ∙ ap some (sym (eqb-true i n is))
+    by_cases : (b : Bool) → eqb i n ≡ b → (when b then Some 0 else option_map suc (place_of i ns)) ≡ Some p →
+        ((k : ℕ) → place_of i ns ≡ Some k → slice_get ns k ≡ Some i) → slice_get (n ∷ ns) p ≡ Some i
+    by_cases true is z later = ap (slice_get (n ∷ ns)) (sym (some_injective z)) ∙ ap Some (sym (eqb-true i n is))
     by_cases false is z later = later_place (place_of i ns) refl z later
 
 -- Another thread stands elsewhere.
-others_stay : {A : Type 0} (i j p : ℕ) (ns : List ℕ) (xs : List A) (x : A) → place_of j ns ≡ some p → eqb i j ≡ false →
+others_stay : {A : Type 0} (i j p : ℕ) (ns : List ℕ) (xs : List A) (x : A) → place_of j ns ≡ Some p → eqb i j ≡ false →
     look_up i ns (set xs p x) ≡ look_up i ns xs
 others_stay i j p ns xs x there differ = sym (placed i ns (set xs p x)) ∙ by_cases (place_of i ns) refl ∙ placed i ns xs
   where
-    by_cases : (o : Option ℕ) → place_of i ns ≡ o → (o >>= get_elem? (set xs p x)) ≡ (o >>= get_elem? xs)
-    by_cases none is = refl
-    by_cases (some k) is = set_elsewhere xs p k x (λ e. true_is_not_false
-        (sym (eq-eqb i j (some_injective (sym (number_there i k ns is) ∙ ap (get_elem? ns) (sym e) ∙ number_there j p ns there))) ∙ differ))
+    by_cases : (o : Option ℕ) → place_of i ns ≡ o → (o >>= slice_get (set xs p x)) ≡ (o >>= slice_get xs)
+    by_cases None is = refl
+    by_cases (Some k) is = set_elsewhere xs p k x (λ e. true_is_not_false
+        (sym (eq-eqb i j (some_injective (sym (number_there i k ns is) ∙ ap (slice_get ns) (sym e) ∙ number_there j p ns there))) ∙ differ))
 
 append_may : (i k : ℕ) (u : Thread) (ps : List Path) (ns : List ℕ) (ts : List Thread) → MayRunIn (look_up i ns ts) ps →
     MayRunIn (look_up i (ns ++ (k ∷ [])) (ts ++ (u ∷ []))) ps
@@ -123,9 +123,9 @@ append_may i k u ps [] ts may = none_run (look_up i (k ∷ []) (ts ++ (u ∷ [])
 append_may i k u ps (n ∷ ns) [] may = none_run (look_up i (n ∷ (ns ++ (k ∷ []))) (u ∷ [])) ps may
 append_may i k u ps (n ∷ ns) (t ∷ ts) may = by_cases (eqb i n) may (append_may i k u ps ns ts)
   where
-    by_cases : (b : Bool) → MayRunIn (when b then some t else look_up i ns ts) ps →
+    by_cases : (b : Bool) → MayRunIn (when b then Some t else look_up i ns ts) ps →
         (MayRunIn (look_up i ns ts) ps → MayRunIn (look_up i (ns ++ (k ∷ [])) (ts ++ (u ∷ []))) ps) →
-        MayRunIn (when b then some t else look_up i (ns ++ (k ∷ [])) (ts ++ (u ∷ []))) ps
+        MayRunIn (when b then Some t else look_up i (ns ++ (k ∷ [])) (ts ++ (u ∷ []))) ps
     by_cases true here later = here
     by_cases false here later = later here
 
@@ -135,15 +135,15 @@ unfolding open_for
 left_runs high i f ns ts ps rising may = by_cases (look_up i (remove ns f) (remove ts f)) refl
   where
     by_cases : (o : Option Thread) → look_up i (remove ns f) (remove ts f) ≡ o → RunIn o (open_for o ps)
-    by_cases none is = refl
-    by_cases (some t) is =
+    by_cases None is = refl
+    by_cases (Some t) is =
         open_run t.body ps (subst (λ (o : Option Thread). MayRunIn o ps) (sym (left_looked 0 high i f ns (remove ts f) ts rising is) ∙ is) may)
 
 -- ---- A step
 
 -- Thread j, which is u, makes the move m, and its next word w stood at the path q; ps are the open calls of thread i before.
-module _ (r : Run) (rising : Rising 0 r.numbers r.threads) (m : Move) (j : ℕ) (there : place_of j r.numbers ≡ some m.thread) (u : Thread)
-    (u_there : get_elem? r.state.threads m.thread ≡ some u) (w : Redex) (next : next_word u.body ≡ at_word w) (q : Path)
+module _ (r : Run) (rising : Rising 0 r.numbers r.threads) (m : Move) (j : ℕ) (there : place_of j r.numbers ≡ Some m.thread) (u : Thread)
+    (u_there : slice_get r.state.threads m.thread ≡ Some u) (w : Redex) (next : next_word u.body ≡ at_word w) (q : Path)
     (path : next_path u.body ≡ q) (i : ℕ) (ps : List Path) (run : RunIn (look_up i r.numbers r.state.threads) ps) where
   abbrev moved : Exp → List Thread
   moved b = set r.state.threads m.thread (moved_to u b)
@@ -175,11 +175,11 @@ module _ (r : Run) (rising : Rising 0 r.numbers r.threads) (m : Move) (j : ℕ) 
     where
       by_cases : (mine : Bool) → eqb i j ≡ mine → MayRunIn (look_up i r.numbers (moved b)) (looked e mine)
       by_cases true is =
-          let here : place_of i r.numbers ≡ some m.thread = ap (λ (k : ℕ). place_of k r.numbers) (eqb-true i j is) ∙ there in
-          let before : look_up i r.numbers r.state.threads ≡ some u =
-          sym (placed i r.numbers r.state.threads) ∙ ap (λ (o : Option ℕ). o >>= get_elem? r.state.threads) here ∙ u_there in
-          let now : look_up i r.numbers (moved b) ≡ some (moved_to u b) =
-          sym (placed i r.numbers (moved b)) ∙ ap (λ (o : Option ℕ). o >>= get_elem? (moved b)) here
+          let here : place_of i r.numbers ≡ Some m.thread = ap (λ (k : ℕ). place_of k r.numbers) (eqb-true i j is) ∙ there in
+          let before : look_up i r.numbers r.state.threads ≡ Some u =
+          sym (placed i r.numbers r.state.threads) ∙ ap (λ (o : Option ℕ). o >>= slice_get r.state.threads) here ∙ u_there in
+          let now : look_up i r.numbers (moved b) ≡ Some (moved_to u b) =
+          sym (placed i r.numbers (moved b)) ∙ ap (λ (o : Option ℕ). o >>= slice_get (moved b)) here
           ∙ set_here r.state.threads m.thread (moved_to u b) u_there in
           subst (λ (o : Option Thread). MayRunIn o (looked e true)) (sym now) (own_may e b (subst (λ (o : Option Thread). RunIn o ps) before run))
       by_cases false is =
@@ -212,7 +212,7 @@ step_runs {r} {r'} {d = d} A rising i ps run =
 
 -- ---- All runs
 
-module _ (p : Program) {rs : List Run} {ls : List Line} {m : ℕ} {a : Numbers} (begins : get_elem? rs 0 ≡ some (start_run p)) (F : Follows rs ls m a) where
+module _ (p : Program) {rs : List Run} {ls : List Line} {m : ℕ} {a : Numbers} (begins : slice_get rs 0 ≡ Some (start_run p)) (F : Follows rs ls m a) where
   -- The calls of thread i that are open in run n.
   abbrev open_at : ℕ → (i : ℕ) → List Path
   open_at n i = open_calls_of i (take n F.reduced) (take (suc n) rs)
@@ -230,7 +230,7 @@ module _ (p : Program) {rs : List Run} {ls : List Line} {m : ℕ} {a : Numbers} 
       ∙ ap (λ (o : Option Thread). open_for o (one_if (takes_call i D.reduced) D.reduced.path ++ open_at n i))
       (placed i D.after.numbers D.after.state.threads)
 
-  all_run : (n : ℕ) → n ≤ m → (r : Run) → get_elem? rs n ≡ some r → Rising 0 r.numbers r.threads × ((i : ℕ) → RunIn (thread_in r i) (open_at n i))
+  all_run : (n : ℕ) → n ≤ m → (r : Run) → slice_get rs n ≡ Some r → Rising 0 r.numbers r.threads × ((i : ℕ) → RunIn (thread_in r i) (open_at n i))
   unfolding open_calls_of
   all_run zero b r h = (
     subst (λ (x : Run). Rising 0 x.numbers x.threads) (some_injective (sym begins ∙ h)) (start_is_proper p).rising,
@@ -238,8 +238,8 @@ module _ (p : Program) {rs : List Run} {ls : List Line} {m : ℕ} {a : Numbers} 
   )
     where
       nothing_open : (o : Option Thread) → RunIn o []
-      nothing_open none = refl
-      nothing_open (some t) = tt
+      nothing_open None = refl
+      nothing_open (Some t) = tt
   all_run (suc n) b r h =
       let D = F.each n b in
       let (rising, run) = all_run n (omega (arith, b)) D.before D.before_there in

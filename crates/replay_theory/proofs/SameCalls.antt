@@ -1,12 +1,12 @@
 -- Runs that are alike have the same calls open, and a step that makes something opens none; so their limits are one.
+use Rattle.std.proofs.Common.{Option, None, Some, slice_get}
 use Prim.Native.Nat.{ℕ, zero, suc, ◌≤◌, ◌<◌}
 use mathlib.Core.Path.{◌≡◌, refl, sym, ◌∙◌, ap, subst}
 use mathlib.Core.Bool.{Bool, true, false, ◌&&◌}
-use mathlib.Core.Option.{Option, none, some}
 use mathlib.Core.List.{List, [], ◌∷◌, ◌++◌}
 use native.Mathlib.Omega.{arith}
 use lib.Dec.{eqb}
-use lib.ListN.{get_elem?, length, take}
+use lib.ListN.{length, take}
 use Rattle.spec.specs.Choice.{when◌then◌else◌}
 use Rattle.calculus.specs.Expression.{choose}
 use Rattle.calculus.specs.State.{Thread}
@@ -29,7 +29,7 @@ AllAlike (r ∷ rs) (s ∷ ss) = Alike r s × AllAlike rs ss
 
 -- A list of m runs that are like the first of another.
 pub alike_first : (rs ss : List Run) (m : ℕ) → length rs ≡ m → m ≤ length ss →
-    ((k : ℕ) (r s : Run) → k < m → get_elem? rs k ≡ some r → get_elem? ss k ≡ some s → Alike r s) → AllAlike rs (take m ss)
+    ((k : ℕ) (r s : Run) → k < m → slice_get rs k ≡ Some r → slice_get ss k ≡ Some s → Alike r s) → AllAlike rs (take m ss)
 alike_first [] ss zero h b same = tt
 alike_first [] ss (suc m) h b same = absurd (omega (arith, h))
 alike_first (r ∷ rs) ss zero h b same = absurd (omega (arith, h))
@@ -50,7 +50,7 @@ module _ (i : ℕ) where
   through_alike [] (s ∷ ss) q all = absurd all
   through_alike (r ∷ rs) [] q all = absurd all
   through_alike (r ∷ rs) (s ∷ ss) q (E, all) =
-      λ z. is_open ((place_of i (E.numbers z) >>= get_elem? (E.state z).threads) >>= λ t. part_at q t.body) && through_alike rs ss q all z
+      λ z. is_open ((place_of i (E.numbers z) >>= slice_get (E.state z).threads) >>= λ t. part_at q t.body) && through_alike rs ss q all z
 
   open_alike : (ds : List Reduced) (rs ss : List Run) → AllAlike rs ss → open_calls_of i ds rs ≡ open_calls_of i ds ss
   unfolding open_calls_of
@@ -74,12 +74,12 @@ within_alike rs ss ds es all same W =
 
 fewer : (o : Option Thread) (ps : List Path) → length (open_for o ps) ≤ length ps
 unfolding open_for still_open
-fewer none ps = omega arith
-fewer (some t) [] = omega arith
-fewer (some t) (q ∷ ps) = by_cases (is_open (part_at q t.body)) (fewer (some t) ps)
+fewer None ps = omega arith
+fewer (Some t) [] = omega arith
+fewer (Some t) (q ∷ ps) = by_cases (is_open (part_at q t.body)) (fewer (Some t) ps)
   where
-    by_cases : (b : Bool) → length (open_for (some t) ps) ≤ length ps →
-        length (when b then (q ∷ open_for (some t) ps) else open_for (some t) ps) ≤ suc (length ps)
+    by_cases : (b : Bool) → length (open_for (Some t) ps) ≤ length ps →
+        length (when b then (q ∷ open_for (Some t) ps) else open_for (Some t) ps) ≤ suc (length ps)
     by_cases true later = omega (arith, later)
     by_cases false later = omega (arith, later)
 
@@ -99,7 +99,7 @@ made_within rs r ds es d k ss is counted same before W =
   where
     calls : (i : ℕ) → length (open_calls_of i (ds ++ (d ∷ [])) (rs ++ (r ∷ []))) ≤ call_limit
     calls i =
-        let now = place_of i r.numbers >>= get_elem? r.state.threads in
+        let now = place_of i r.numbers >>= slice_get r.state.threads in
         let left = open_more r d i ds rs counted ∙ ap (λ (b : Bool). open_for now (one_if b d.path ++ open_calls_of i ds rs)) (no_call i d k is) in
         let few = fewer now (open_calls_of i ds rs) in
         let limit = before.calls i in

@@ -1,12 +1,12 @@
 -- The calls that a run keeps for one thread, told by its number, and what a step does to them.
+use Rattle.std.proofs.Common.{Option, None, Some, option_map, slice_get}
 use Prim.Native.Nat.{ℕ, zero, suc, ◌≤◌, ◌<◌}
 use mathlib.Core.Path.{◌≡◌, refl, sym, ◌∙◌, ap}
 use mathlib.Core.Bool.{Bool, true, false}
-use mathlib.Core.Option.{Option, none, some, map}
 use mathlib.Core.List.{List, [], ◌∷◌, ◌++◌}
 use native.Mathlib.Omega.{arith}
 use lib.Dec.{eqb, leb}
-use lib.ListN.{get_elem?, length}
+use lib.ListN.{length}
 use borrow.Author.Tests.{eqb-true, eq-eqb, leb-true, le-leb}
 use Rattle.spec.specs.Choice.{when◌then◌else◌}
 use Rattle.spec.proofs.Clashes.{true_is_not_false}
@@ -27,9 +27,9 @@ one_if b q = when b then (q ∷ []) else []
 
 -- what a list has for thread i, place by place
 unfoldable pub look_up : {A : Type 0} → (i : ℕ) → List ℕ → List A → Option A
-look_up i [] xs = none
-look_up i (n ∷ ns) [] = none
-look_up i (n ∷ ns) (x ∷ xs) = when eqb i n then some x else look_up i ns xs
+look_up i [] xs = None
+look_up i (n ∷ ns) [] = None
+look_up i (n ∷ ns) (x ∷ xs) = when eqb i n then Some x else look_up i ns xs
 
 unfoldable pub calls_for : (i : ℕ) → List ℕ → List (List Path) → List Path
 calls_for i [] calls = []
@@ -37,8 +37,8 @@ calls_for i (n ∷ ns) [] = []
 calls_for i (n ∷ ns) (ps ∷ calls) = when eqb i n then ps else calls_for i ns calls
 
 or_none : Option (List Path) → List Path
-or_none none = []
-or_none (some ps) = ps
+or_none None = []
+or_none (Some ps) = ps
 
 calls_looked : (i : ℕ) (ns : List ℕ) (calls : List (List Path)) → calls_for i ns calls ≡ or_none (look_up i ns calls)
 unfolding calls_for look_up or_none
@@ -46,41 +46,41 @@ calls_looked i [] calls = refl
 calls_looked i (n ∷ ns) [] = refl
 calls_looked i (n ∷ ns) (ps ∷ calls) = by_cases (eqb i n) (calls_looked i ns calls)
   where
-    by_cases : (b : Bool) → calls_for i ns calls ≡ or_none (look_up i ns calls) → (when b then ps else calls_for i ns calls) ≡ or_none (when b then some ps else look_up i ns calls)
+    by_cases : (b : Bool) → calls_for i ns calls ≡ or_none (look_up i ns calls) → (when b then ps else calls_for i ns calls) ≡ or_none (when b then Some ps else look_up i ns calls)
     by_cases true later = refl
     by_cases false later = later
 
 -- of these calls, those that are open in a thread
 unfoldable pub open_for : Option Thread → List Path → List Path
-open_for none ps = []
-open_for (some t) ps = still_open t.body ps
+open_for None ps = []
+open_for (Some t) ps = still_open t.body ps
 
 -- ---- Threads by their numbers
 
-nowhere_placed : {A : Type 0} (o : Option ℕ) → (o >>= get_elem? {A = A} []) ≡ none
-nowhere_placed none = refl
-nowhere_placed (some p) = refl
+nowhere_placed : {A : Type 0} (o : Option ℕ) → (o >>= slice_get {X = A} []) ≡ None
+nowhere_placed None = refl
+nowhere_placed (Some p) = refl
 
-pub placed : {A : Type 0} (i : ℕ) (ns : List ℕ) (xs : List A) → (place_of i ns >>= get_elem? xs) ≡ look_up i ns xs
+pub placed : {A : Type 0} (i : ℕ) (ns : List ℕ) (xs : List A) → (place_of i ns >>= slice_get xs) ≡ look_up i ns xs
 unfolding place_of look_up
 placed i [] xs = refl
 placed i (n ∷ ns) [] = nowhere_placed (place_of i (n ∷ ns))
 placed i (n ∷ ns) (x ∷ xs) = by_cases (eqb i n) (place_of i ns) (placed i ns xs)
   where
-    by_cases : (b : Bool) (o : Option ℕ) → (o >>= get_elem? xs) ≡ look_up i ns xs →
-        ((when b then some 0 else map suc o) >>= get_elem? (x ∷ xs)) ≡ (when b then some x else look_up i ns xs)
+    by_cases : (b : Bool) (o : Option ℕ) → (o >>= slice_get xs) ≡ look_up i ns xs →
+        ((when b then Some 0 else option_map suc o) >>= slice_get (x ∷ xs)) ≡ (when b then Some x else look_up i ns xs)
     by_cases true o later = refl
-    by_cases false none later = later
-    by_cases false (some p) later = later
+    by_cases false None later = later
+    by_cases false (Some p) later = later
 
 -- A number among those that rise from `low` on.
-looked_above : {A : Type 0} {a : A} (low high i : ℕ) (ns : List ℕ) (xs : List A) → Rising low ns high → look_up i ns xs ≡ some a → low ≤ i
+looked_above : {A : Type 0} {a : A} (low high i : ℕ) (ns : List ℕ) (xs : List A) → Rising low ns high → look_up i ns xs ≡ Some a → low ≤ i
 unfolding look_up
 looked_above low high i [] xs r h = none_is_not_some h
 looked_above low high i (n ∷ ns) [] r h = none_is_not_some h
 looked_above {a = a} low high i (n ∷ ns) (x ∷ xs) r h = by_cases (eqb i n) refl h (looked_above (suc n) high i ns xs r.1)
   where
-    by_cases : (b : Bool) → eqb i n ≡ b → (when b then some x else look_up i ns xs) ≡ some a → (look_up i ns xs ≡ some a → suc n ≤ i) → low ≤ i
+    by_cases : (b : Bool) → eqb i n ≡ b → (when b then Some x else look_up i ns xs) ≡ Some a → (look_up i ns xs ≡ Some a → suc n ≤ i) → low ≤ i
     by_cases true is q later = let first = r.0 in let same = eqb-true i n is in omega (arith, first, same)
     by_cases false is q later = let first = r.0 in let above = later q in omega (arith, first, above)
 
@@ -100,19 +100,19 @@ none_either_way true = refl
 none_either_way false = refl
 
 -- What stands at the place of the thread.
-pub looked_at : {A : Type 0} {x : A} (low high i p : ℕ) (ns : List ℕ) (xs : List A) → Rising low ns high → get_elem? ns p ≡ some i → get_elem? xs p ≡ some x →
-    look_up i ns xs ≡ some x
+pub looked_at : {A : Type 0} {x : A} (low high i p : ℕ) (ns : List ℕ) (xs : List A) → Rising low ns high → slice_get ns p ≡ Some i → slice_get xs p ≡ Some x →
+    look_up i ns xs ≡ Some x
 unfolding look_up
 looked_at low high i p [] xs r h k = none_is_not_some h
 looked_at low high i p (n ∷ ns) [] r h k = none_is_not_some k
 looked_at {x = x} low high i zero (n ∷ ns) (y ∷ xs) r h k = by_cases (eqb i n) (eq-eqb i n (sym (some_injective h)))
   where
-    by_cases : (b : Bool) → b ≡ true → (when b then some y else look_up i ns xs) ≡ some x
+    by_cases : (b : Bool) → b ≡ true → (when b then Some y else look_up i ns xs) ≡ Some x
     by_cases true is = k
     by_cases false is = true_is_not_false (sym is)
 looked_at {x = x} low high i (suc p) (n ∷ ns) (y ∷ xs) r h k = by_cases (eqb i n) refl (looked_at (suc n) high i p ns xs r.1 h k)
   where
-    by_cases : (b : Bool) → eqb i n ≡ b → look_up i ns xs ≡ some x → (when b then some y else look_up i ns xs) ≡ some x
+    by_cases : (b : Bool) → eqb i n ≡ b → look_up i ns xs ≡ Some x → (when b then Some y else look_up i ns xs) ≡ Some x
     by_cases true is later =
         let above = rising_above (suc n) high ns p i r.1 h in let same = eqb-true i n is in absurd (omega (arith, above, same))
     by_cases false is later = later
@@ -127,13 +127,13 @@ open_looked i (n ∷ ns) [] calls = refl
 open_looked i (n ∷ ns) (t ∷ ts) [] = by_cases (look_up i (n ∷ ns) (t ∷ ts))
   where
     by_cases : (o : Option Thread) → [] ≡ open_for o []
-    by_cases none = refl
-    by_cases (some u) = refl
+    by_cases None = refl
+    by_cases (Some u) = refl
 open_looked i (n ∷ ns) (t ∷ ts) (ps ∷ calls) = by_cases (eqb i n) (open_looked i ns ts calls)
   where
     by_cases : (b : Bool) → calls_for i ns (open_calls ts calls) ≡ open_for (look_up i ns ts) (calls_for i ns calls) →
         (when b then still_open t.body ps else calls_for i ns (open_calls ts calls))
-        ≡ open_for (when b then some t else look_up i ns ts) (when b then ps else calls_for i ns calls)
+        ≡ open_for (when b then Some t else look_up i ns ts) (when b then ps else calls_for i ns calls)
     by_cases true later = refl
     by_cases false later = later
 
@@ -146,7 +146,7 @@ spawned_looked i k (n ∷ ns) [] h = absurd (omega (arith, h))
 spawned_looked i k (n ∷ ns) (ps ∷ calls) h = ap (λ (qs : List Path). when eqb i n then ps else qs) (spawned_looked i k ns calls (omega (arith, h)))
 
 -- Thread j, at place p, takes a call.
-taken_looked : (i j p : ℕ) (q : Path) (ns : List ℕ) (calls : List (List Path)) → length ns ≡ length calls → place_of j ns ≡ some p →
+taken_looked : (i j p : ℕ) (q : Path) (ns : List ℕ) (calls : List (List Path)) → length ns ≡ length calls → place_of j ns ≡ Some p →
     calls_for i ns (record_call p q calls) ≡ one_if (eqb i j) q ++ calls_for i ns calls
 unfolding place_of calls_for record_call
 taken_looked i j p q [] calls h at = none_is_not_some at
@@ -165,16 +165,16 @@ taken_looked i j p q (n ∷ ns) (ps ∷ calls) h at =
     other true false e f d X later = refl
     other false b e f d X later = later
 
-    later_place : (o : Option ℕ) → map suc o ≡ some p → eqb j n ≡ false → place_of j ns ≡ o →
-        ((k : ℕ) → place_of j ns ≡ some k → calls_for i ns (record_call k q calls) ≡ one_if (eqb i j) q ++ calls_for i ns calls) →
+    later_place : (o : Option ℕ) → option_map suc o ≡ Some p → eqb j n ≡ false → place_of j ns ≡ o →
+        ((k : ℕ) → place_of j ns ≡ Some k → calls_for i ns (record_call k q calls) ≡ one_if (eqb i j) q ++ calls_for i ns calls) →
         calls_for i (n ∷ ns) (record_call p q (ps ∷ calls)) ≡ one_if (eqb i j) q ++ calls_for i (n ∷ ns) (ps ∷ calls)
-    later_place none z d w later = none_is_not_some z
-    later_place (some k) z d w later =
+    later_place None z d w later = none_is_not_some z
+    later_place (Some k) z d w later =
         ap (λ (x : ℕ). calls_for i (n ∷ ns) (record_call x q (ps ∷ calls))) (sym (some_injective z))
         ∙ other (eqb i n) (eqb i j) refl refl d (calls_for i ns (record_call k q calls)) (later k w)
 
-    by_cases : (b : Bool) → eqb j n ≡ b → (when b then some 0 else map suc (place_of j ns)) ≡ some p →
-        ((k : ℕ) → place_of j ns ≡ some k → calls_for i ns (record_call k q calls) ≡ one_if (eqb i j) q ++ calls_for i ns calls) →
+    by_cases : (b : Bool) → eqb j n ≡ b → (when b then Some 0 else option_map suc (place_of j ns)) ≡ Some p →
+        ((k : ℕ) → place_of j ns ≡ Some k → calls_for i ns (record_call k q calls) ≡ one_if (eqb i j) q ++ calls_for i ns calls) →
         calls_for i (n ∷ ns) (record_call p q (ps ∷ calls)) ≡ one_if (eqb i j) q ++ calls_for i (n ∷ ns) (ps ∷ calls)
     by_cases true is z later =
         ap (λ (x : ℕ). calls_for i (n ∷ ns) (record_call x q (ps ∷ calls))) (sym (some_injective z))
@@ -184,31 +184,31 @@ taken_looked i j p q (n ∷ ns) (ps ∷ calls) h at =
 
 -- Without the thread at place f, of those that are left.
 pub left_looked : {A B : Type 0} {b : B} (low high i f : ℕ) (ns : List ℕ) (ys : List B) (xs : List A) → Rising low ns high →
-    look_up i (remove ns f) ys ≡ some b → look_up i (remove ns f) (remove xs f) ≡ look_up i ns xs
+    look_up i (remove ns f) ys ≡ Some b → look_up i (remove ns f) (remove xs f) ≡ look_up i ns xs
 unfolding look_up
 left_looked low high i f [] ys xs r h = none_is_not_some h
 left_looked {A = A} low high i zero (n ∷ ns) ys [] r h = nothing ns
   where
-    nothing : (ms : List ℕ) → look_up {A = A} i ms [] ≡ none
+    nothing : (ms : List ℕ) → look_up {A = A} i ms [] ≡ None
     nothing [] = refl
     nothing (m ∷ ms) = refl
 left_looked low high i zero (n ∷ ns) ys (x ∷ xs) r h = by_cases (eqb i n) refl
   where
-    by_cases : (b : Bool) → eqb i n ≡ b → look_up i ns xs ≡ (when b then some x else look_up i ns xs)
+    by_cases : (b : Bool) → eqb i n ≡ b → look_up i ns xs ≡ (when b then Some x else look_up i ns xs)
     by_cases true is = let same = eqb-true i n is in let above = looked_above (suc n) high i ns ys r.1 h in absurd (omega (arith, same, above))
     by_cases false is = refl
 left_looked low high i (suc f) (n ∷ ns) [] xs r h = none_is_not_some h
 left_looked low high i (suc f) (n ∷ ns) (y ∷ ys) [] r h = refl
 left_looked {b = z} low high i (suc f) (n ∷ ns) (y ∷ ys) (x ∷ xs) r h = by_cases (eqb i n) h (left_looked (suc n) high i f ns ys xs r.1)
   where
-    by_cases : (b : Bool) → (when b then some y else look_up i (remove ns f) ys) ≡ some z →
-        (look_up i (remove ns f) ys ≡ some z → look_up i (remove ns f) (remove xs f) ≡ look_up i ns xs) →
-        (when b then some x else look_up i (remove ns f) (remove xs f)) ≡ (when b then some x else look_up i ns xs)
+    by_cases : (b : Bool) → (when b then Some y else look_up i (remove ns f) ys) ≡ Some z →
+        (look_up i (remove ns f) ys ≡ Some z → look_up i (remove ns f) (remove xs f) ≡ look_up i ns xs) →
+        (when b then Some x else look_up i (remove ns f) (remove xs f)) ≡ (when b then Some x else look_up i ns xs)
     by_cases true k later = refl
     by_cases false k later = later k
 
 calls_left : {t : Thread} (high i f : ℕ) (ns : List ℕ) (ts : List Thread) (calls : List (List Path)) → Rising 0 ns high →
-    look_up i (remove ns f) ts ≡ some t → calls_for i (remove ns f) (remove calls f) ≡ calls_for i ns calls
+    look_up i (remove ns f) ts ≡ Some t → calls_for i (remove ns f) (remove calls f) ≡ calls_for i ns calls
 calls_left high i f ns ts calls r is =
     calls_looked i (remove ns f) (remove calls f) ∙ ap or_none (left_looked 0 high i f ns ts calls r is) ∙ sym (calls_looked i ns calls)
 
@@ -219,14 +219,14 @@ joined_looked high i f ns ts calls r = by_cases (look_up i (remove ns f) ts) ref
   where
     by_cases : (o : Option Thread) → look_up i (remove ns f) ts ≡ o →
         open_for o (calls_for i (remove ns f) (remove calls f)) ≡ open_for o (calls_for i ns calls)
-    by_cases none is = refl
-    by_cases (some t) is = ap (open_for (some t)) (calls_left high i f ns ts calls r is)
+    by_cases None is = refl
+    by_cases (Some t) is = ap (open_for (Some t)) (calls_left high i f ns ts calls r is)
 
 unfoldable pub is_call : Effect → Bool → Bool
 is_call e b = choose (same_effect same_kind e opens) b false
 
 -- Thread j makes the move m, whose word stood at the path q.
-module _ (r : Run) (proper : Proper r) (m : Move) (j : ℕ) (there : place_of j r.numbers ≡ some m.thread) (q : Path) (i : ℕ) (ts : List Thread) where
+module _ (r : Run) (proper : Proper r) (m : Move) (j : ℕ) (there : place_of j r.numbers ≡ Some m.thread) (q : Path) (i : ℕ) (ts : List Thread) where
   books_counted : length r.numbers ≡ length r.calls
   books_counted = proper.counted ∙ sym proper.all_called
 

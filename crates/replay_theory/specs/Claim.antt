@@ -4,9 +4,7 @@
 -- threads' numbers and how many threads there have been, and they say how each goes on. They are proved in proofs/Followed, proofs/Calls and
 -- proofs/Reported, and fit one report, one answer and one list of runs alone (Exact). Three parts are implied by the others of their record and
 -- are told for the reader: `running` and `puts_body` of a step (proofs/Implied), `races` of the first race (`told_is_race`, proofs/AtMostOneRace).
-use Rattle.std.specs.Prelude.{ℕ, suc, ◌+◌, ◌≤◌, ◌<◌, ◌≡◌, Bool, true, false, ◌&&◌, ◌⊎◌, List, [], ◌∷◌, ◌++◌, eqb, length, take, Ok}
-use Rattle.std.proofs.Math.Option.{Option, none, some}
-use Rattle.std.proofs.Math.ListN.{get_elem?}
+use Rattle.std.specs.Prelude.{ℕ, suc, ◌+◌, ◌≤◌, ◌<◌, ◌≡◌, Bool, true, false, ◌&&◌, ◌⊎◌, List, [], ◌∷◌, ◌++◌, eqb, length, take, Option, None as none, Some as some, Ok, slice_get}
 use Rattle.spec.specs.Choice.{when◌then◌else◌}
 use Rattle.spec.specs.Text.{Line, lines}
 use Rattle.spec.specs.Program.{Program}
@@ -35,7 +33,7 @@ runs_of P trace_text = runs_along (start_run (erase_program P)) (lines trace_tex
 
 -- Thread i, by its number, is t and stands at that place.
 pub record Numbered (r : Run) (i place : ℕ) (t : Thread) : Type 0 where
-  pub number : get_elem? r.numbers place ≡ some i
+  pub number : slice_get r.numbers place ≡ some i
   pub thread : ThreadAt r.state place t
 
 -- ------------------------------------------------------------------ its steps
@@ -58,7 +56,7 @@ pub record LowestFinished (r : Run) (n place : ℕ) : Type 0 where
 
 -- What stands at the path q in the expression of thread i, if the thread is there.
 unfoldable pub part_in : Run → (i : ℕ) → (q : Path) → Option Exp
-part_in r i q = (place_of i r.numbers >>= get_elem? r.state.threads) >>= λ t. part_at q t.body
+part_in r i q = (place_of i r.numbers >>= slice_get r.state.threads) >>= λ t. part_at q t.body
 
 -- What a step reduces: the word at that path in the expression of that thread.
 pub record Reduced : Type 0 where
@@ -79,7 +77,7 @@ pub record LanguageStep (r : Run) (l : TraceLine) (d : Reduced) (r' : Run) : Typ
   pub path : next_path thread.body ≡ d.path
   pub reduces : reduce r.procedures r.state move ≡ some r'.state
   pub joins_lowest : (n : ℕ) → d.word ≡ unary_redex join (name n) → LowestFinished r n move.finished
-  pub puts_body : (f : ℕ) (v : Value) (p : Procedure) → d.word ≡ unary_redex (call f) v → get_elem? r.procedures f ≡ some p →
+  pub puts_body : (f : ℕ) (v : Value) (p : Procedure) → d.word ≡ unary_redex (call f) v → slice_get r.procedures f ≡ some p →
       part_in r' d.thread d.path ≡ some (substitute p.parameter v p.body)
   pub same_procedures : r'.procedures ≡ r.procedures
   pub numbered : r'.numbers ≡ numbers_after r move (effect d.word)
@@ -138,15 +136,15 @@ pub record Within (rs : List Run) (ds : List Reduced) : Type 0 where
 -- Line n + 1 is the step from run n to run n + 1, and what is reduced is counted from 0.
 pub record StepDone (rs : List Run) (ls : List Line) (ds : List Reduced) (n : ℕ) : Type 0 where
   pub before : Run
-  pub before_there : get_elem? rs n ≡ some before
+  pub before_there : slice_get rs n ≡ some before
   pub after : Run
-  pub after_there : get_elem? rs (suc n) ≡ some after
+  pub after_there : slice_get rs (suc n) ≡ some after
   pub line : Line
-  pub line_there : get_elem? ls n ≡ some line
+  pub line_there : slice_get ls n ≡ some line
   pub read : TraceLine
   pub shown : trace_line line ≡ some read
   pub reduced : Reduced
-  pub reduced_there : get_elem? ds n ≡ some reduced
+  pub reduced_there : slice_get ds n ≡ some reduced
   pub step : LanguageStep before read reduced after
 
 -- Stops rs ds r l k n: the runs so far are rs, by the steps ds, and the last is r; the next line is l, which is line k, and the trace ends with
@@ -167,8 +165,8 @@ pub record Follows (rs : List Run) (ls : List Line) (steps : ℕ) (answer : Numb
   pub each : (n : ℕ) → n < steps → StepDone rs ls reduced n
   pub within : (n : ℕ) → n ≤ steps → Within (take (suc n) rs) (take n reduced)
   pub last : Run
-  pub last_there : get_elem? rs steps ≡ some last
-  pub stops : Stops rs reduced last (get_elem? ls steps) (suc steps) answer
+  pub last_there : slice_get rs steps ≡ some last
+  pub stops : Stops rs reduced last (slice_get ls steps) (suc steps) answer
 
 -- ------------------------------------------------------------------ its race
 
@@ -190,12 +188,12 @@ pub record Racing (r : Run) (i j : ℕ) : Type 0 where
 -- State n is the first with a race; in it threads i and j race, i the smaller, and no lower pair does.
 pub record FirstRaceIs (rs : List Run) (n i j : ℕ) : Type 0 where
   pub run : Run
-  pub there : get_elem? rs n ≡ some run
+  pub there : slice_get rs n ≡ some run
   pub races : Race run.state
   pub in_order : i < j
   pub racing : Racing run i j
   pub lowest : (i' j' : ℕ) → i' < j' → Racing run i' j' → (i < i') ⊎ ((i ≡ i') × (j ≤ j'))
-  pub before : (m : ℕ) (r : Run) → m < n → get_elem? rs m ≡ some r → RaceFree r.state
+  pub before : (m : ℕ) (r : Run) → m < n → slice_get rs m ≡ some r → RaceFree r.state
 
 -- What a report says of the states of these runs: no race in any, or the first.
 abbrev pub RaceReported : List Run → FirstRace → Type 0

@@ -1,9 +1,7 @@
 -- That the claims are exact: at most one report fits given runs; one count of steps and one answer; and for a program and a trace one list of
 -- runs, in which the calls that count as open are those that run. That what is handed back fits is claimed of every replay (Claim). These are
 -- proved in proofs/AtMostOneRace, AtMostOneEnd, AtMostOneStep, AtMostOneWay and Running.
-use Rattle.std.specs.Prelude.{ℕ, suc, ◌<◌, ◌≡◌, List, length, take}
-use Rattle.std.proofs.Math.Option.{some}
-use Rattle.std.proofs.Math.ListN.{get_elem?}
+use Rattle.std.specs.Prelude.{ℕ, suc, ◌<◌, ◌≡◌, List, length, take, Some, slice_get}
 use Rattle.spec.specs.Text.{Line}
 use Rattle.calculus.specs.Expression.{Exp, Program}
 use Rattle.calculus.specs.State.{Thread}
@@ -24,7 +22,7 @@ OneEnd = (rs : List Run) (ls : List Line) (m n : ℕ) (a b : Numbers) → Follow
 
 -- The threads have different numbers.
 abbrev pub Apart : List ℕ → Type 0
-Apart numbers = (p q i : ℕ) → get_elem? numbers p ≡ some i → get_elem? numbers q ≡ some i → p ≡ q
+Apart numbers = (p q i : ℕ) → slice_get numbers p ≡ Some i → slice_get numbers q ≡ Some i → p ≡ q
 
 -- One lowest finished thread.
 abbrev pub OneLowest : Type 0
@@ -51,11 +49,11 @@ module _ {rs ss : List Run} {ls : List Line} {m n : ℕ} {a b : Numbers} (F : Fo
     pub answer : a ≡ b
     pub reduced : F.reduced ≡ G.reduced
     pub counted : length rs ≡ length ss
-    pub runs : (k : ℕ) (r s : Run) → get_elem? rs k ≡ some r → get_elem? ss k ≡ some s → Alike r s
+    pub runs : (k : ℕ) (r s : Run) → slice_get rs k ≡ Some r → slice_get ss k ≡ Some s → Alike r s
 
 -- From the start of a program one list of runs follows a trace, and with it one count of steps and one answer.
 abbrev pub OneExecution : Type 0
-OneExecution = (p : Program) (rs ss : List Run) (ls : List Line) (m n : ℕ) (a b : Numbers) → get_elem? rs 0 ≡ some (start_run p) → get_elem? ss 0 ≡ some (start_run p) →
+OneExecution = (p : Program) (rs ss : List Run) (ls : List Line) (m n : ℕ) (a b : Numbers) → slice_get rs 0 ≡ Some (start_run p) → slice_get ss 0 ≡ Some (start_run p) →
     (F : Follows rs ls m a) (G : Follows ss ls n b) → SameNames F G → SameExecution F G
 
 -- ------------------------------------------------------------------ its open calls
@@ -66,6 +64,6 @@ RunsAt e p = (d : Exp) × Runs e p d
 
 -- What a thread does next, in any of these runs, the body of each of its open calls does.
 abbrev pub OpenCallsRun : Type 0
-OpenCallsRun = (p : Program) (rs : List Run) (ls : List Line) (m : ℕ) (a : Numbers) → get_elem? rs 0 ≡ some (start_run p) → (F : Follows rs ls m a) →
-    (n : ℕ) (r : Run) → get_elem? rs n ≡ some r → (i place : ℕ) (t : Thread) → Numbered r i place t →
+OpenCallsRun = (p : Program) (rs : List Run) (ls : List Line) (m : ℕ) (a : Numbers) → slice_get rs 0 ≡ Some (start_run p) → (F : Follows rs ls m a) →
+    (n : ℕ) (r : Run) → slice_get rs n ≡ Some r → (i place : ℕ) (t : Thread) → Numbered r i place t →
     Every (RunsAt t.body) (open_calls_of i (take n F.reduced) (take (suc n) rs))

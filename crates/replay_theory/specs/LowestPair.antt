@@ -1,6 +1,5 @@
 -- The lowest pair of threads that race. proofs/Pairs shows that a run has one exactly when its state has a race of the calculus.
-use Rattle.std.specs.Prelude.{ℕ, Bool, false, ◌||◌, List, [], ◌∷◌, eqb}
-use Rattle.std.proofs.Math.Option.{Option, none, some}
+use Rattle.std.specs.Prelude.{ℕ, Bool, false, ◌||◌, List, [], ◌∷◌, eqb, Option, None, Some}
 use Rattle.spec.specs.Choice.{when◌then◌else◌}
 use Rattle.calculus.specs.Expression.{Redex, next_word}
 use Rattle.calculus.specs.State.{Slot, Thread}
@@ -12,7 +11,7 @@ unfoldable pub if_cell : (ℕ → Slot) → Option ℕ → Option ℕ
 if_cell names o = do
   n ← o
   cell_value (names n)
-  some n
+  Some n
 
 -- the cell that a thread is about to read, the cell that it is about to write
 pub record Uses : Type 0 where
@@ -23,9 +22,9 @@ unfoldable pub uses_of : (ℕ → Slot) → Option Redex → Uses
 uses_of names w = record { reading = if_cell names (w >>= λ x. (traits x).reading); writing = if_cell names (w >>= λ x. (traits x).writing) }
 
 unfoldable pub same_cell : Option ℕ → Option ℕ → Bool
-same_cell none o = false
-same_cell (some n) none = false
-same_cell (some n) (some m) = eqb n m
+same_cell None o = false
+same_cell (Some n) None = false
+same_cell (Some n) (Some m) = eqb n m
 
 -- Definition 2.1: one of the two is about to write a cell that the other is about to read or write
 unfoldable pub clash : Uses → Uses → Bool
@@ -39,15 +38,15 @@ uses_in names (i ∷ is) (t ∷ ts) = (i, uses_of names (word_of (next_word t.bo
 
 -- "its lowest pair (smaller thread first, then the other)": the first thread that clashes with a later one, and the first of those
 unfoldable pub clashing : Uses → List (ℕ × Uses) → Option ℕ
-clashing a [] = none
-clashing a (u ∷ us) = when clash a u.1 then some u.0 else clashing a us
+clashing a [] = None
+clashing a (u ∷ us) = when clash a u.1 then Some u.0 else clashing a us
 
 unfoldable pub pair_or : (i : ℕ) → Option ℕ → Option (ℕ × ℕ) → Option (ℕ × ℕ)
-pair_or i none later = later
-pair_or i (some j) later = some (i, j)
+pair_or i None later = later
+pair_or i (Some j) later = Some (i, j)
 
 unfoldable pub lowest_among : List (ℕ × Uses) → Option (ℕ × ℕ)
-lowest_among [] = none
+lowest_among [] = None
 lowest_among (u ∷ us) = pair_or u.0 (clashing u.1 us) (lowest_among us)
 
 unfoldable pub lowest_pair : Run → Option (ℕ × ℕ)

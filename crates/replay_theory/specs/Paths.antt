@@ -1,6 +1,5 @@
 -- Where a word stands in an expression: the parts that lead to it, from the outside in.
-use Rattle.std.specs.Prelude.{List, [], ◌∷◌}
-use Rattle.std.proofs.Math.Option.{Option, none, some}
+use Rattle.std.specs.Prelude.{List, [], ◌∷◌, Option, None, Some}
 use Rattle.calculus.specs.Expression.{Exp, value, var, let_in, if, while, spawn, write, unary, nullary, Next, is_value, at_variable, at_word, next_word}
 use Rattle.calculus.specs.State.{Part, first, second}
 use Rattle.calculus.specs.Reduction.{◌>>=◌, part_listed}
@@ -27,21 +26,21 @@ next_path (unary o e) = path_once (next_word e) [] (first ∷ next_path e)
 next_path (nullary o) = []
 
 unfoldable pub only_part : Exp → Part → Option Exp
-only_part e first = some e
-only_part e second = none
+only_part e first = Some e
+only_part e second = None
 
 unfoldable pub part_of : Exp → Part → Option Exp
-part_of (value v) c = none
-part_of (var x) c = none
-part_of (let_in x e₁ e₂) c = some (part_listed c e₁ e₂)
-part_of (if e₁ e₂) c = some (part_listed c e₁ e₂)
+part_of (value v) c = None
+part_of (var x) c = None
+part_of (let_in x e₁ e₂) c = Some (part_listed c e₁ e₂)
+part_of (if e₁ e₂) c = Some (part_listed c e₁ e₂)
 part_of (while e) c = only_part e c
-part_of (spawn e₁ e₂) c = some (part_listed c e₁ e₂)
-part_of (write e₁ e₂) c = some (part_listed c e₁ e₂)
+part_of (spawn e₁ e₂) c = Some (part_listed c e₁ e₂)
+part_of (write e₁ e₂) c = Some (part_listed c e₁ e₂)
 part_of (unary o e) c = only_part e c
-part_of (nullary o) c = none
+part_of (nullary o) c = None
 
 -- the expression at a path
 unfoldable pub part_at : Path → Exp → Option Exp
-part_at [] e = some e
+part_at [] e = Some e
 part_at (c ∷ p) e = part_of e c >>= part_at p

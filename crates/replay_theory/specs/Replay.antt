@@ -1,6 +1,5 @@
 -- The answer of a replay, and its report, in the order 1; 10 to 15, 45 and 49; then line by line 46, 47, 48.
-use Rattle.std.specs.Prelude.{ℕ, ◌+◌, Bool, List, [], ◌∷◌, leb, length, Result, Ok, Err}
-use Rattle.std.proofs.Math.Option.{Option, none, some}
+use Rattle.std.specs.Prelude.{ℕ, ◌+◌, Bool, List, [], ◌∷◌, leb, length, Option, None as none, Some as some, Result, Ok, Err}
 use Rattle.spec.specs.Choice.{when◌then◌else◌}
 use Rattle.spec.specs.Text.{Line, lines}
 use Rattle.spec.specs.Reading.{◌>>=◌, require}

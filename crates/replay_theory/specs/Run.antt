@@ -1,7 +1,5 @@
 -- A run as a trace records it: a state of the calculus with the numbers of its threads, and the step that a trace line is.
-use Rattle.std.specs.Prelude.{ℕ, zero, suc, ◌+◌, Bool, true, false, not, ◌&&◌, List, [], ◌∷◌, ◌++◌, eqb, leb, ltb, length}
-use Rattle.std.proofs.Math.Option.{Option, none, some, map}
-use Rattle.std.proofs.Math.ListN.{get_elem?}
+use Rattle.std.specs.Prelude.{ℕ, zero, suc, ◌+◌, Bool, true, false, not, ◌&&◌, List, [], ◌∷◌, ◌++◌, eqb, leb, ltb, length, Option, None, Some, option_map, slice_get}
 use Rattle.spec.specs.Choice.{when◌then◌else◌}
 use Rattle.calculus.specs.Expression.{Value, Unary, join, ref, read, lock, unlock, post, wait, hold, call, Nullary, newtid, newlock, newsem, newrwlock, Exp, Redex, let_redex, if_redex, while_redex, spawn_redex, write_redex, unary_redex, nullary_redex, Next, is_value, at_variable, at_word, next_word, choose, Procedure, Program}
 use Rattle.calculus.specs.State.{Thread, State, Part, first, second, Move, remove}
@@ -37,8 +35,8 @@ start_run p = record { procedures = p.procedures; state = start_state p; numbers
 
 -- "threads count from 0 in spawn order": the place of thread i in the state, if it is there
 unfoldable pub place_of : (i : ℕ) → (numbers : List ℕ) → Option ℕ
-place_of i [] = none
-place_of i (n ∷ ns) = when eqb i n then some 0 else map suc (place_of i ns)
+place_of i [] = None
+place_of i (n ∷ ns) = when eqb i n then Some 0 else option_map suc (place_of i ns)
 
 unfoldable pub has_finished : Next → Bool
 has_finished (is_value v) = true
@@ -48,24 +46,24 @@ has_finished (at_word w) = false
 -- "Each thread has one record: running, finished or joined"; a thread that has begun and is not in the state is joined, and of one that has
 -- not begun there is no record
 unfoldable pub record_for : (begun : Bool) → Option Thread → Option Status
-record_for begun (some t) = some (when has_finished (next_word t.body) then Finished else Running)
-record_for begun none = when begun then some Joined else none
+record_for begun (Some t) = Some (when has_finished (next_word t.body) then Finished else Running)
+record_for begun None = when begun then Some Joined else None
 
 unfoldable pub record_of : Run → (i : ℕ) → Option Status
-record_of r i = record_for (ltb i r.threads) (place_of i r.numbers >>= get_elem? r.state.threads)
+record_of r i = record_for (ltb i r.threads) (place_of i r.numbers >>= slice_get r.state.threads)
 
 -- ------------------------------------------------------------------ what a word does
 
 -- "choice is 0 or 1 at an if and 0 elsewhere, 0 taking e1"
 unfoldable pub part_of_if : (choice : ℕ) → Option Part
-part_of_if zero = some first
-part_of_if (suc zero) = some second
-part_of_if (suc (suc c)) = none
+part_of_if zero = Some first
+part_of_if (suc zero) = Some second
+part_of_if (suc (suc c)) = None
 
 -- where there is nothing to choose, the part that a move lists is ignored
 unfoldable pub no_choice : (choice : ℕ) → Option Part
-no_choice zero = some first
-no_choice (suc c) = none
+no_choice zero = Some first
+no_choice (suc c) = None
 
 -- what a word does to the threads, calls and things of a run
 pub data Effect : Type 0 where
@@ -83,12 +81,12 @@ pub record Traits : Type 0 where
 
 -- of most words there is only an effect to tell
 abbrev pub does : Effect → Traits
-does e = record { part = no_choice; effect = e; joining = none; reading = none; writing = none }
+does e = record { part = no_choice; effect = e; joining = None; reading = None; writing = None }
 
 unfoldable pub unary_traits : Unary → Value → Traits
-unary_traits join v = record { part = no_choice; effect = joins; joining = name_of v; reading = none; writing = none }
+unary_traits join v = record { part = no_choice; effect = joins; joining = name_of v; reading = None; writing = None }
 unary_traits ref v = does (makes cells)
-unary_traits read v = record { part = no_choice; effect = plain; joining = none; reading = name_of v; writing = none }
+unary_traits read v = record { part = no_choice; effect = plain; joining = None; reading = name_of v; writing = None }
 unary_traits lock v = does plain
 unary_traits unlock v = does plain
 unary_traits post v = does plain
@@ -104,10 +102,10 @@ kind_made (newrwlock N) = rwlocks
 
 unfoldable pub traits : Redex → Traits
 traits (let_redex x v e) = does plain
-traits (if_redex e₁ e₂) = record { part = part_of_if; effect = plain; joining = none; reading = none; writing = none }
+traits (if_redex e₁ e₂) = record { part = part_of_if; effect = plain; joining = None; reading = None; writing = None }
 traits (while_redex e) = does plain
 traits (spawn_redex v e) = does spawns
-traits (write_redex v w) = record { part = no_choice; effect = plain; joining = none; reading = none; writing = name_of v }
+traits (write_redex v w) = record { part = no_choice; effect = plain; joining = None; reading = None; writing = name_of v }
 traits (unary_redex o v) = unary_traits o v
 traits (nullary_redex o) = does (makes (kind_made o))
 
@@ -127,8 +125,8 @@ lowest_finished n (t ∷ ts) = when eqb t.tid n && has_finished (next_word t.bod
 
 -- a join of no name is no reduction, and every other word ignores the finished thread that a move lists
 unfoldable pub finished_for : Option ℕ → List Thread → ℕ
-finished_for none ts = 0
-finished_for (some n) ts = lowest_finished n ts
+finished_for None ts = 0
+finished_for (Some n) ts = lowest_finished n ts
 
 -- names are given in turn: 0 to the start's identifier, then one to each thing that is made
 unfoldable pub next_name : (things : ObjectKind → ℕ) → ℕ
@@ -147,8 +145,8 @@ record_call (suc p) q (ps ∷ calls) = ps ∷ record_call p q calls
 
 -- "a call taken is open in each state where its body is no value yet": the body stands where the call stood
 unfoldable pub is_open : Option Exp → Bool
-is_open none = false
-is_open (some body) = not (has_finished (next_word body))
+is_open None = false
+is_open (Some body) = not (has_finished (next_word body))
 
 unfoldable pub still_open : Exp → List Path → List Path
 still_open e [] = []
@@ -199,11 +197,11 @@ after r m q e s = record {
 unfoldable pub stepped : Run → TraceLine → Option Run
 stepped r l = do
   p ← place_of l.thread r.numbers
-  t ← get_elem? r.state.threads p
+  t ← slice_get r.state.threads p
   w ← word_of (next_word t.body)
   c ← part_chosen w l.choice
   s ← reduce r.procedures r.state (move_of r p w c)
-  some (after r (move_of r p w c) (next_path t.body) (effect w) s)
+  Some (after r (move_of r p w c) (next_path t.body) (effect w) s)
 
 -- ------------------------------------------------------------------ limits
 

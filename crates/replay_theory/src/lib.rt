@@ -5,7 +5,7 @@
 use spec::Refusal;
 
 // The record of a thread.
-#[derive(Clone, Copy)]
+#[derive(Clone, Copy, PartialEq, Eq)]
 pub enum Status {
     Running,
     Finished,
@@ -14,7 +14,7 @@ pub enum Status {
 
 // How a replay ends: every line of the trace is done, or a reason to stop. A trace has no limit of length, so its lines are
 // counted as lengths are; for the reasons of a sheet 32 bits are enough.
-#[derive(Clone, Copy)]
+#[derive(Clone, Copy, PartialEq, Eq)]
 pub enum Ending {
     Done,
     Refused(Refusal),
@@ -24,7 +24,7 @@ pub enum Ending {
 }
 
 // The first state with a race, counted from 0, and its lowest pair of threads.
-#[derive(Clone, Copy)]
+#[derive(Clone, Copy, PartialEq, Eq)]
 pub enum FirstRace {
     None,
     Found {
@@ -34,21 +34,21 @@ pub enum FirstRace {
     },
 }
 
-#[derive(Clone, Copy)]
+#[derive(Clone, Copy, PartialEq, Eq)]
 pub struct Report {
     pub steps: usize,
     pub race: FirstRace,
 }
 
 // What a replay hands back.
-#[derive(Clone, Copy)]
+#[derive(Clone, Copy, PartialEq, Eq)]
 pub struct Replayed {
     pub ending: Ending,
     pub report: Report,
 }
 
 // The four numbers of an ending.
-#[derive(Clone, Copy)]
+#[derive(Clone, Copy, PartialEq, Eq)]
 pub struct Numbers {
     pub number: u32,
     pub line: usize,

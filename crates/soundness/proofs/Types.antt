@@ -1,8 +1,8 @@
 -- The type of the calculus that a type's number stands for.
+use Rattle.std.proofs.Common.{Some}
 use mathlib.Core.Path.{◌≡◌, sym, ap, subst, ◌∙◌}
 use mathlib.Core.List.{[], ◌∷◌, map}
 use mathlib.Core.Bool.{true}
-use mathlib.Core.Option.{some}
 use Prim.Native.Nat.{ℕ}
 use native.Mathlib.Omega.{arith}
 use native.Mathlib.Decide.{ℕ_discrete}
@@ -114,11 +114,11 @@ module _ {P : Program} (S : Split) (R : InRange P S) where
   -- ------------------------------------------------------------------ variables
 
   -- the type of a variable in scope
-  pub variable_typed : (Γ : conditions.Env) (v : ℕ) → among v (map (λ b. b.0) Γ) ≡ true → environment S Γ v ≡ some (means S (type_in Γ v))
+  pub variable_typed : (Γ : conditions.Env) (v : ℕ) → among v (map (λ b. b.0) Γ) ≡ true → environment S Γ v ≡ Some (means S (type_in Γ v))
   unfolding among type_in
   variable_typed [] v h = let clash : ◌≡◌ {A = ℕ} 0 1 = cc in absurd (omega arith)
   variable_typed (b ∷ Γ) v h = by_cases (λ k. variable_typed Γ v k) (ℕ_discrete v b.0)
     where
-      by_cases : (among v (map (λ c. c.0) Γ) ≡ true → environment S Γ v ≡ some (means S (type_in Γ v))) → (d : Dec (v ≡ b.0)) → choose d (some (means S b.1)) (environment S Γ v) ≡ some (means S (when eqb b.0 v then b.1 else type_in Γ v))
+      by_cases : (among v (map (λ c. c.0) Γ) ≡ true → environment S Γ v ≡ Some (means S (type_in Γ v))) → (d : Dec (v ≡ b.0)) → choose d (Some (means S b.1)) (environment S Γ v) ≡ Some (means S (when eqb b.0 v then b.1 else type_in Γ v))
       by_cases others (yes e) = rw (eq-eqb b.0 v (sym e))
       by_cases others (no n) = rw (ne_eqb b.0 v (λ e. n (sym e))) (others (rw (ne_eqb v b.0 n) at h))

@@ -13,13 +13,11 @@ use Rattle.spec.specs.Choice.{when◌then◌else◌}
 use Rattle.spec.specs.Text.{Field, numeral}
 use Rattle.spec.specs.Reading.{with_numeral, numerals}
 use Rattle.lexer.specs.Views.{width, end_of, first_field, behind, with_field, line_at}
-use Rattle.lexer.specs.Numbers.{stored, numeral_of}
+use Rattle.lexer.specs.Numbers.{stored}
 use Rattle.lexer.specs.declared.FieldEnd.{FieldEnd}
 use Rattle.lexer.specs.declared.FieldEnd.TheVariants.{Comma, Newline, Text}
-use Rattle.lexer.specs.declared.Numeral.TheVariants as numeral_is
 use Rattle.lexer.proofs.Fields.{line_comma, line_newline, line_text, line_some}
-use Rattle.trace.specs.declared.TraceLine.TheVariants as line
-use Rattle.trace.specs.declared.Closed.TheVariants as closed
+use Rattle.trace.specs.declared.Closed.{Closed}
 use Rattle.trace.specs.Lines.{move_of, move_in, closed_number, closed_by, choice_by}
 
 -- ------------------------------------------------------------------ one field
@@ -32,11 +30,11 @@ module _ (end from to : ℕ) (text : List ℕ) (le : from ≤ length text) (is :
   byte : get_or t (width t) 0 ≡ get_or text to 0
   byte = get_or-drop from text (width t) 0 ∙ ap (λ (i : ℕ). get_or text i 0) (sym is)
 
-  pub not_closed : length text ≤ to → closed.Malformed ≡ closed_by end from t
+  pub not_closed : length text ≤ to → None ≡ closed_by end from t
   unfolding closed_by
   not_closed h = rw (le-ltb (width t) (length t) (omega (arith, h, is, length-drop from text)))
 
-  pub other_byte : to < length text → (get_or text to 0 ≡ end → ⊥) → closed.Malformed ≡ closed_by end from t
+  pub other_byte : to < length text → (get_or text to 0 ≡ end → ⊥) → None ≡ closed_by end from t
   unfolding closed_by
   other_byte h n = rw (lt-ltb (width t) (length t) (omega (arith, h, is, length-drop from text)), ne_eqb (get_or t (width t) 0) end (λ e. n (sym byte ∙ e)))
 
@@ -45,16 +43,6 @@ module _ (end from to : ℕ) (text : List ℕ) (le : from ≤ length text) (is :
   closed_field h e =
       let w : to - from ≡ width t = omega (arith, is) in
       rw (lt-ltb (width t) (length t) (omega (arith, h, is, length-drop from text)), eq-eqb (get_or t (width t) 0) end (byte ∙ e), w, is)
-
-pub number_decodes : (o : Option ℕ) (n next : ℕ) → numeral_of o ≡ numeral_is.Value n → closed.Number (stored n) next ≡ closed_number o next
-unfolding numeral_of closed_number
-number_decodes None n next e = cc
-number_decodes (Some m) n next e = let same : m ≡ n = cc in rw same
-
-pub malformed_decodes : (o : Option ℕ) (next : ℕ) → numeral_of o ≡ numeral_is.Malformed → closed.Malformed ≡ closed_number o next
-unfolding numeral_of closed_number
-malformed_decodes None next e = refl
-malformed_decodes (Some m) next e = cc
 
 -- ------------------------------------------------------------------ the byte that ends a field
 
@@ -87,18 +75,18 @@ module _ (from : ℕ) (t : List ℕ) where
   byte_closes end h = rw (lt-ltb (width t) (length t) h.0, eq-eqb (get_or t (width t) 0) end h.1)
 
   -- or another
-  text_open : (end : ℕ) → EndIs Text (width t) t → closed_by end from t ≡ closed.Malformed
+  text_open : (end : ℕ) → EndIs Text (width t) t → closed_by end from t ≡ None
   unfolding closed_by
   text_open end h = rw (le-ltb (width t) (length t) h)
 
-  byte_open : (end b : ℕ) → (b ≡ end → ⊥) → (width t < length t) × (get_or t (width t) 0 ≡ b) → closed_by end from t ≡ closed.Malformed
+  byte_open : (end b : ℕ) → (b ≡ end → ⊥) → (width t < length t) × (get_or t (width t) 0 ≡ b) → closed_by end from t ≡ None
   unfolding closed_by
   byte_open end b n h = rw (lt-ltb (width t) (length t) h.0, ne_eqb (get_or t (width t) 0) end (λ e. n (sym h.1 ∙ e)))
 
 -- ------------------------------------------------------------------ the line
 
 -- three fields or more are no line of a trace
-three : (a b c : Option ℕ) (o : Option (List ℕ)) (next : ℕ) → move_of (with_numeral a (with_numeral b (with_numeral c o))) next ≡ line.Malformed
+three : (a b c : Option ℕ) (o : Option (List ℕ)) (next : ℕ) → move_of (with_numeral a (with_numeral b (with_numeral c o))) next ≡ None
 unfolding move_of with_numeral
 three None b c o next = refl
 three (Some a) None c o next = refl
@@ -106,7 +94,7 @@ three (Some a) (Some b) None o next = refl
 three (Some a) (Some b) (Some c) None next = refl
 three (Some a) (Some b) (Some c) (Some ns) next = refl
 
-no_number : (f : Field) (o : Option (List Field × List ℕ)) (n : ℕ) → numeral f ≡ None → move_in n (with_field f o) ≡ line.Malformed
+no_number : (f : Field) (o : Option (List Field × List ℕ)) (n : ℕ) → numeral f ≡ None → move_in n (with_field f o) ≡ None
 unfolding move_in with_field numerals with_numeral move_of
 no_number f None n e = refl
 no_number f (Some found) n e = rw e
@@ -120,11 +108,11 @@ two f g a next e = rw e (go (numeral g))
     go (Some b) = refl
 
 -- what the fields behind the second come to
-more : (f g : Field) (t : List ℕ) (n : ℕ) → move_in n (with_field f (with_field g (line_at t))) ≡ line.Malformed
+more : (f g : Field) (t : List ℕ) (n : ℕ) → move_in n (with_field f (with_field g (line_at t))) ≡ None
 unfolding move_in with_field numerals
 more f g t n = go (line_at t) refl
   where
-    go : (o : Option (List Field × List ℕ)) → line_at t ≡ o → move_in n (with_field f (with_field g o)) ≡ line.Malformed
+    go : (o : Option (List Field × List ℕ)) → line_at t ≡ o → move_in n (with_field f (with_field g o)) ≡ None
     go None e = refl
     go (Some ([], r)) e = absurd (let h = line_some t [] r e in omega arith)
     go (Some (h ∷ fs, r)) e = three (numeral f) (numeral g) (numeral h) (numerals fs) (n - length r)
@@ -157,20 +145,21 @@ module _ (text : List ℕ) where
     pub behind_is : next ≡ at + width (here at) + 1
     pub fits : next ≤ length text
 
-  pub first_field_lem : (at n next : ℕ) → at ≤ length text → closed_by 44 at (here at) ≡ closed.Number n next → FirstField at n next
+  pub first_field_lem : (at n next : ℕ) → at ≤ length text → closed_by 44 at (here at) ≡ Some (record { number = n; next = next }) → FirstField at n next
   unfolding closed_number
   first_field_lem at n next le e = go (end_of (here at)) refl (end_is (here at))
     where
-      numbered : (o : Option ℕ) → numeral (first_field (here at)) ≡ o → end_of (here at) ≡ Comma → width (here at) < length (here at) → closed_number o (at + width (here at) + 1) ≡ closed.Number n next → FirstField at n next
-      numbered None q p h f = absurd (let z : ◌≡◌ {A = ℕ} 0 1 = cc in omega arith)
+      numbered : (o : Option ℕ) → numeral (first_field (here at)) ≡ o → end_of (here at) ≡ Comma → width (here at) < length (here at) → closed_number o (at + width (here at) + 1) ≡ Some (record { number = n; next = next }) → FirstField at n next
+      numbered None q p h f = cc
       numbered (Some m) q p h f =
-          let b : next ≡ at + width (here at) + 1 = cc in
-          record { value = m; numeral_is = q; number = cc; comma = p; behind_is = b; fits = omega (arith, b, h, le, length-drop at text) }
+          let same : ◌≡◌ {A = Closed} (record { number = stored m; next = at + width (here at) + 1 }) (record { number = n; next = next }) = cc in
+          let b : next ≡ at + width (here at) + 1 = sym (ap (λ (x : Closed). x.next) same) in
+          record { value = m; numeral_is = q; number = sym (ap (λ (x : Closed). x.number) same); comma = p; behind_is = b; fits = omega (arith, b, h, le, length-drop at text) }
 
       go : (x : FieldEnd) → end_of (here at) ≡ x → EndIs x (width (here at)) (here at) → FirstField at n next
       go Comma p h = numbered (numeral (first_field (here at))) refl p h.0 (sym (byte_closes at (here at) 44 h) ∙ e)
-      go Newline p h = absurd (let f = sym (byte_open at (here at) 44 10 (λ q. omega (arith, q)) h) ∙ e in let z : ◌≡◌ {A = ℕ} 0 1 = cc in omega arith)
-      go Text p h = absurd (let f = sym (text_open at (here at) 44 h) ∙ e in let z : ◌≡◌ {A = ℕ} 0 1 = cc in omega arith)
+      go Newline p h = cc (sym (byte_open at (here at) 44 10 (λ q. omega (arith, q)) h) ∙ e)
+      go Text p h = cc (sym (text_open at (here at) 44 h) ∙ e)
 
   rest_behind : (at next : ℕ) → next ≡ at + width (here at) + 1 → behind (here at) ≡ here next
   unfolding behind
@@ -179,19 +168,19 @@ module _ (text : List ℕ) where
   pub line_found : (at n next : ℕ) → FirstField at n next → choice_by n (closed_by 10 next (here next)) ≡ move_in (length text) (line_at (here at))
   line_found at n next F = rw (F.number, line_comma (here at) F.comma, rest_behind at next F.behind_is) (second_field next F.value (first_field (here at)) F.fits F.numeral_is)
 
-  pub line_malformed : (at : ℕ) → closed_by 44 at (here at) ≡ closed.Malformed → line.Malformed ≡ move_in (length text) (line_at (here at))
+  pub line_malformed : (at : ℕ) → closed_by 44 at (here at) ≡ None → None ≡ move_in (length text) (line_at (here at))
   unfolding closed_number move_in move_of with_numeral numerals
   line_malformed at e = go (end_of (here at)) refl (end_is (here at))
     where
-      by_numeral : (o : Option ℕ) → numeral (first_field (here at)) ≡ o → end_of (here at) ≡ Comma → closed_number o (at + width (here at) + 1) ≡ closed.Malformed → line.Malformed ≡ move_in (length text) (line_at (here at))
+      by_numeral : (o : Option ℕ) → numeral (first_field (here at)) ≡ o → end_of (here at) ≡ Comma → closed_number o (at + width (here at) + 1) ≡ None → None ≡ move_in (length text) (line_at (here at))
       by_numeral None q p f = rw (line_comma (here at) p, no_number (first_field (here at)) (line_at (behind (here at))) (length text) q)
       by_numeral (Some m) q p f = cc
 
-      one_field : (o : Option ℕ) (next : ℕ) → move_of (with_numeral o (Some [])) next ≡ line.Malformed
+      one_field : (o : Option ℕ) (next : ℕ) → move_of (with_numeral o (Some [])) next ≡ None
       one_field None next = refl
       one_field (Some m) next = refl
 
-      go : (x : FieldEnd) → end_of (here at) ≡ x → EndIs x (width (here at)) (here at) → line.Malformed ≡ move_in (length text) (line_at (here at))
+      go : (x : FieldEnd) → end_of (here at) ≡ x → EndIs x (width (here at)) (here at) → None ≡ move_in (length text) (line_at (here at))
       go Comma p h = by_numeral (numeral (first_field (here at))) refl p (sym (byte_closes at (here at) 44 h) ∙ e)
       go Newline p h = rw (line_newline (here at) p) (sym (one_field (numeral (first_field (here at))) (length text - length (behind (here at)))))
       go Text p h = rw (line_text (here at) p)

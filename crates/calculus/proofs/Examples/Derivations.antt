@@ -1,7 +1,7 @@
 -- Programs that Figure 5 derives, and that are therefore safe.
+use Rattle.std.proofs.Common.{Some}
 use Prim.Native.Nat.{ℕ, zero, suc, ◌+◌, ◌*◌, ◌≤◌}
 use mathlib.Core.Path.{◌≡◌, refl}
-use mathlib.Core.Option.{some}
 use mathlib.Core.List.{[]}
 use native.Mathlib.Decide.{ℕ_discrete}
 use native.Mathlib.Omega.{arith}
@@ -90,7 +90,7 @@ t_type = tid_type (holding 0 1)
 abbrev l_type : Ty
 l_type = lock_type (holding 2 0) (holding 2 0)
 
-section_2_2_1_thread_derived : (Γ : Env) → Γ 0 ≡ some x_type → Γ 1 ≡ some y_type → Γ 3 ≡ some l_type →
+section_2_2_1_thread_derived : (Γ : Env) → Γ 0 ≡ Some x_type → Γ 1 ≡ Some y_type → Γ 3 ≡ Some l_type →
     2 ∣ [] ∣ Γ ∣ holding 0 1 ⊢ section221_thread ∶ int_type ∣ holding 0 1
 unfolding ℕ_discrete
 section_2_2_1_thread_derived Γ x y l =
@@ -148,7 +148,7 @@ two_halves_fit = record { at = by_location }
     by_location (suc zero) = omega arith
     by_location (suc (suc ρ)) = omega arith
 
-reads_the_book_derived : (Γ : Env) → Γ 0 ≡ some x_type → Γ 1 ≡ some book_type → 2 ∣ [] ∣ Γ ∣ holding 0 0 ⊢ reads_the_book ∶ int_type ∣ holding 0 0
+reads_the_book_derived : (Γ : Env) → Γ 0 ≡ Some x_type → Γ 1 ≡ Some book_type → 2 ∣ [] ∣ Γ ∣ holding 0 0 ⊢ reads_the_book ∶ int_type ∣ holding 0 0
 unfolding ℕ_discrete
 reads_the_book_derived Γ x book =
     let half = holding_sum 0 0 1 0 in

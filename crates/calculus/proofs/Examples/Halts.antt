@@ -1,8 +1,8 @@
 -- Threads that halt: where the claim allows it, and where it does not.
+use Rattle.std.proofs.Common.{Some}
 use Prim.Native.Nat.{ℕ, zero, suc}
 use mathlib.Core.Path.{◌≡◌, refl, ap, sym, ◌∙◌}
 use mathlib.Core.Logic.{◌≢◌, ◌⊎◌, inl, inr}
-use mathlib.Core.Option.{some}
 use mathlib.Core.List.{List, [], ◌∷◌}
 use native.Mathlib.Decide.{ℕ_discrete, dec_le, dec_lt}
 use native.Mathlib.Omega.{arith}
@@ -18,7 +18,7 @@ use Rattle.calculus.proofs.Examples.Claims.{odd_halt_is_not_safe}
 
 -- ---- Odd halts: a constant is of the wrong kind for every word with one part but `ref` and `call`; and a `call` finds no procedure here
 
-constant_stops : (o : Unary) → o ≢ ref → (s : State) (m : Move) (t : Thread) (s' : State) → unary_reduct [] s m t o (int 0) ≡ some s' → ⊥
+constant_stops : (o : Unary) → o ≢ ref → (s : State) (m : Move) (t : Thread) (s' : State) → unary_reduct [] s m t o (int 0) ≡ Some s' → ⊥
 constant_stops join d s m t s' q = none_is_not_some q
 constant_stops ref d s m t s' q = d refl
 constant_stops read d s m t s' q = none_is_not_some q
@@ -89,7 +89,7 @@ post_never_waits s (at_hold n N w k b e f) = let z : ◌≡◌ {A = ℕ} 0 1 = c
 post_of_lock_halts : Halts [] lock_posted 0
 unfolding start_state run attempt reduce ℕ_discrete
 post_of_lock_halts = stuck_halts [] lock_posted 0 refl λ m r s' w q.
-    let stuck : unary_reduct [] lock_posted m about_to_post post (name 1) ≡ some s' = rw (word_injective (sym w)) at q in
+    let stuck : unary_reduct [] lock_posted m about_to_post post (name 1) ≡ Some s' = rw (word_injective (sym w)) at q in
     none_is_not_some stuck
 
 pub post_of_lock_halts_oddly : ¬ HaltsWell [] lock_posted
@@ -163,5 +163,5 @@ figure_2b_waits_at_join = waiting (run [] moves2b_to_join (start_state figure2b)
 -- ---- `unlock` goes ahead on any lock, held or not
 
 pub unlock_opens : (P : List Procedure) (s : State) (m : Move) (t : Thread) (n : ℕ) (l : LockState) → s.names n ≡ a_lock l →
-    unary_reduct P s m t unlock (name n) ≡ some (becomes s m t (update s.names n (a_lock opened)) zero_exp)
-unlock_opens P s m t n l e = ap (λ sl. lock_state sl >> some (becomes s m t (update s.names n (a_lock opened)) zero_exp)) e
+    unary_reduct P s m t unlock (name n) ≡ Some (becomes s m t (update s.names n (a_lock opened)) zero_exp)
+unlock_opens P s m t n l e = ap (λ sl. lock_state sl >> Some (becomes s m t (update s.names n (a_lock opened)) zero_exp)) e

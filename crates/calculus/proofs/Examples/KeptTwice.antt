@@ -1,11 +1,10 @@
 -- What the caller keeps back is counted once: were it counted twice, Figure 5 would derive a program that races.
+use Rattle.std.proofs.Common.{Some, slice_get}
 use Prim.Native.Nat.{ℕ}
 use mathlib.Core.Path.{◌≡◌, refl}
-use mathlib.Core.Option.{some}
 use mathlib.Core.List.{[], ◌∷◌}
 use native.Mathlib.Decide.{ℕ_discrete}
 use native.Mathlib.Omega.{arith}
-use lib.ListN.{get_elem?}
 use Rattle.calculus.specs.Expression.{call, Exp, unary}
 use Rattle.calculus.specs.Capability.{Cap, nothing, ◌≈◌⊕◌}
 use Rattle.calculus.specs.Figure5.{int_type, as_it_is, Signature, Signatures, Env, ◌∣◌∣◌∣◌⊢◌∶◌∣◌, VAR, INT, LET, NEWT, SPAWN, REF, WRITE, no_procedures, procedure, Derivation}
@@ -17,7 +16,7 @@ use Rattle.calculus.proofs.Examples.Races.{kept_twice_has_no_derivation}
 
 -- CALL with Ψkeep given back twice, as a rule beside those of Figure 5.
 abbrev pub TwiceCALL : Type 0
-TwiceCALL = (D : ℕ) (S : Signatures) (Γ : Env) (Ψ Ψ₁ Ψ₂ Ψ₃ Ψkeep : Cap) (f : ℕ) (g : Signature) (e : Exp) → get_elem? S f ≡ some g →
+TwiceCALL = (D : ℕ) (S : Signatures) (Γ : Env) (Ψ Ψ₁ Ψ₂ Ψ₃ Ψkeep : Cap) (f : ℕ) (g : Signature) (e : Exp) → slice_get S f ≡ Some g →
     D ∣ S ∣ Γ ∣ Ψ ⊢ e ∶ g.argument ∣ Ψ₁ → Ψ₁ ≈ g.before ⊕ Ψkeep → Ψ₂ ≈ g.after ⊕ Ψkeep → Ψ₃ ≈ Ψ₂ ⊕ Ψkeep →
     D ∣ S ∣ Γ ∣ Ψ ⊢ unary (call f) e ∶ g.result ∣ Ψ₃
 

@@ -1,11 +1,11 @@
 -- Steps in two orders: races, where the order matters; two reads, where it does not; and one thread, which has one order.
+use Rattle.std.proofs.Common.{slice_get}
 use Prim.Native.Nat.{ℕ}
 use mathlib.Core.Path.{◌≡◌, refl, sym, ap, ◌∙◌}
 use mathlib.Core.Logic.{inl, inr}
 use mathlib.Core.List.{List, [], ◌∷◌, ◌++◌}
 use native.Mathlib.Decide.{ℕ_discrete}
 use native.Mathlib.Omega.{arith}
-use lib.ListN.{get_elem?}
 use Rattle.calculus.specs.Expression.{int, name, read, lock, unlock, value, var, let_in, write, unary}
 use Rattle.calculus.specs.State.{cell, Thread, State, Move}
 use Rattle.calculus.specs.Reduction.{reduce, attempt, run, start_state}
@@ -23,7 +23,7 @@ constants_differ h = let z : ◌≡◌ {A = ℕ} 1 0 = cc in omega (arith, z)
 pub figure_2a_order_matters : ¬ SameEitherWay [] (run [] moves2a (start_state figure2a)) (goes 0) (goes 1)
 unfolding start_state run attempt reduce ℕ_discrete
 figure_2a_order_matters same =
-    let at_1 = ap (λ (s : State). get_elem? s.threads 1) (some_injective (same.one_way ∙ sym same.other_way)) in
+    let at_1 = ap (λ (s : State). slice_get s.threads 1) (some_injective (same.one_way ∙ sym same.other_way)) in
     constants_differ (ap (λ (t : Thread). t.body) (some_injective at_1))
 
 pub figure_2a_is_not_in_either_order : ¬ InEitherOrder figure2a

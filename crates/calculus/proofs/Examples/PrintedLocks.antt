@@ -1,7 +1,7 @@
 -- The out inequality as Section 3.1.6 prints it is unsound: were a variable shown so, Figure 5 would derive a program that races.
+use Rattle.std.proofs.Common.{Some}
 use Prim.Native.Nat.{ℕ}
 use mathlib.Core.Path.{◌≡◌, refl}
-use mathlib.Core.Option.{some}
 use mathlib.Core.List.{[]}
 use native.Mathlib.Decide.{ℕ_discrete}
 use native.Mathlib.Omega.{arith}
@@ -20,7 +20,7 @@ pub data ◌printed_as◌ : Ty → Ty → Type 0 where
 
 -- VAR with the printed inequality, as a rule beside those of Figure 5.
 abbrev pub PrintedVAR : Type 0
-PrintedVAR = (D : ℕ) (S : Signatures) (Γ : Env) (Ψ : Cap) (x : ℕ) (σ τ : Ty) → Γ x ≡ some σ → σ printed_as τ → D ∣ S ∣ Γ ∣ Ψ ⊢ var x ∶ τ ∣ Ψ
+PrintedVAR = (D : ℕ) (S : Signatures) (Γ : Env) (Ψ : Cap) (x : ℕ) (σ τ : Ty) → Γ x ≡ Some σ → σ printed_as τ → D ∣ S ∣ Γ ∣ Ψ ⊢ var x ∶ τ ∣ Ψ
 
 -- The lock lends the whole of x. Where it is unlocked it is shown as one that lends nothing, so the thread that unlocks it keeps the whole.
 pub unlock_for_nothing_derived_as_printed : PrintedVAR → 1 ∣ [] ∣ empty ∣ holding 1 0 ⊢ unlock_for_nothing.root ∶ int_type ∣ holding 1 0

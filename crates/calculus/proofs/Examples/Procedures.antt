@@ -1,7 +1,7 @@
 -- Programs with procedures: Figure 5 derives them, so they are safe, and they run to their end.
+use Rattle.std.proofs.Common.{Some}
 use Prim.Native.Nat.{ℕ}
 use mathlib.Core.Path.{◌≡◌, refl}
-use mathlib.Core.Option.{some}
 use mathlib.Core.List.{[], ◌∷◌}
 use native.Mathlib.Decide.{ℕ_discrete}
 use native.Mathlib.Omega.{arith}
@@ -32,7 +32,7 @@ abbrev l_type : Ty
 l_type = lock_type (holding 1 0) (holding 1 0)
 
 -- What a thread has of y it keeps over its call, and has again afterwards.
-purges_locked_derived : (Γ : Env) (y : ℕ) → Γ 1 ≡ some x_type → Γ 2 ≡ some l_type →
+purges_locked_derived : (Γ : Env) (y : ℕ) → Γ 1 ≡ Some x_type → Γ 2 ≡ Some l_type →
     1 ∣ purge_signature ∷ [] ∣ Γ ∣ holding 0 y ⊢ purges_locked ∶ int_type ∣ holding 0 y
 unfolding ℕ_discrete
 purges_locked_derived Γ y x l =

@@ -1,13 +1,12 @@
 -- Names in any run, of any program: a used name stays used, and names never run out.
+use Rattle.std.proofs.Common.{Option, None, Some, slice_get}
 use Prim.Native.Nat.{ℕ, suc, ◌≤◌, max}
 use mathlib.Core.Path.{◌≡◌, refl}
 use mathlib.Core.Path.{subst as along}
 use mathlib.Core.Logic.{◌≢◌}
-use mathlib.Core.Option.{Option, none, some}
 use mathlib.Core.List.{List, [], ◌∷◌}
 use native.Mathlib.Decide.{ℕ_discrete}
 use native.Mathlib.Omega.{arith}
-use lib.ListN.{get_elem?}
 use Rattle.calculus.specs.Expression.{Value, Unary, join, ref, read, lock, unlock, post, wait, hold, call, Nullary, newtid, newlock, newsem, newrwlock, Redex, let_redex, if_redex, while_redex, spawn_redex, write_redex, unary_redex, nullary_redex, next_word, choose, Procedure, Program}
 use Rattle.calculus.specs.State.{LockState, opened, closed, Inside, Slot, unused, identifier, cell, a_lock, semaphore, rwlock, Thread, State, Move, update}
 use Rattle.calculus.specs.Reduction.{name_of, if_unused, if_identifier, cell_value, lock_state, if_opened, count, one_less, rw_state, inside_after, if_equal, value_of, word_of, made, named, unary_reduct, reduct, reduce, or_else, attempt, states, start_state}
@@ -44,19 +43,19 @@ made_is_used (newrwlock N) = rwlock_is_used
 
 module _ (P : List Procedure) (s : State) (m : Move) (t : Thread) where
   -- The state that a reduction is told to give.
-  told : {a b : State} → OneChanged s.names a.names → some a ≡ some b → OneChanged s.names b.names
+  told : {a b : State} → OneChanged s.names a.names → Some a ≡ Some b → OneChanged s.names b.names
   told h q = along (λ (z : State). OneChanged s.names z.names) (some_injective q) h
 
-  named_changes_one : (new : Slot) (s' : State) → new ≢ unused → named s m t new ≡ some s' → OneChanged s.names s'.names
+  named_changes_one : (new : Slot) (s' : State) → new ≢ unused → named s m t new ≡ Some s' → OneChanged s.names s'.names
   named_changes_one new s' used q =
       let (_, _, q₁) = bind_is_some (if_unused (s.names m.fresh)) q in
       told (one_changed m.fresh new used) q₁
 
-  unary_changes_one : (o : Unary) (v : Value) (s' : State) → unary_reduct P s m t o v ≡ some s' → OneChanged s.names s'.names
+  unary_changes_one : (o : Unary) (v : Value) (s' : State) → unary_reduct P s m t o v ≡ Some s' → OneChanged s.names s'.names
   unary_changes_one join v s' q =
       let (n, _, q₁) = bind_is_some (name_of v) q in
       let (_, _, q₂) = bind_is_some (if_identifier (s.names n)) q₁ in
-      let (u, _, q₃) = bind_is_some (get_elem? s.threads m.finished) q₂ in
+      let (u, _, q₃) = bind_is_some (slice_get s.threads m.finished) q₂ in
       let (_, _, q₄) = bind_is_some (if_equal u.tid n) q₃ in
       let (_, _, q₅) = bind_is_some (value_of (next_word u.body)) q₄ in
       told none_changed q₅
@@ -89,10 +88,10 @@ module _ (P : List Procedure) (s : State) (m : Move) (t : Thread) where
       let (after, _, q₃) = bind_is_some (inside_after p.0 w p.1) q₂ in
       told (one_changed n (rwlock p.0 after) rwlock_is_used) q₃
   unary_changes_one (call f) v s' q =
-      let (_, _, q₁) = bind_is_some (get_elem? P f) q in
+      let (_, _, q₁) = bind_is_some (slice_get P f) q in
       told none_changed q₁
 
-  reduct_changes_one : (r : Redex) (s' : State) → reduct P s m t r ≡ some s' → OneChanged s.names s'.names
+  reduct_changes_one : (r : Redex) (s' : State) → reduct P s m t r ≡ Some s' → OneChanged s.names s'.names
   reduct_changes_one (let_redex x v e) s' q = told none_changed q
   reduct_changes_one (if_redex e₁ e₂) s' q = told none_changed q
   reduct_changes_one (while_redex e) s' q = told none_changed q
@@ -112,9 +111,9 @@ unfolding attempt reduce
 attempt_changes_one P s m = by_cases (reduce P s m) refl
   where
     by_cases : (o : Option State) → reduce P s m ≡ o → OneChanged s.names (or_else o s).names
-    by_cases none q = none_changed
-    by_cases (some s') q =
-        let (t, _, q₁) = bind_is_some (get_elem? s.threads m.thread) q in
+    by_cases None q = none_changed
+    by_cases (Some s') q =
+        let (t, _, q₁) = bind_is_some (slice_get s.threads m.thread) q in
         let (r, _, q₂) = bind_is_some (word_of (next_word t.body)) q₁ in
         reduct_changes_one P s m t r s' q₂
 

@@ -1,6 +1,6 @@
 -- Laws of runs.
+use Rattle.std.proofs.Common.{Some}
 use mathlib.Core.Path.{◌≡◌, refl, ap, ◌∙◌}
-use mathlib.Core.Option.{some}
 use mathlib.Core.List.{List, [], ◌∷◌, ◌++◌}
 use Rattle.calculus.specs.Expression.{Procedure}
 use Rattle.calculus.specs.State.{State, Move}
@@ -21,7 +21,7 @@ module _ (P : List Procedure) where
   run_of_both (m ∷ ms) ns s = run_of_both ms ns (attempt P s m)
 
   -- A run whose first two moves are reductions goes on from the state after them.
-  pub run_goes_on : (s s' : State) (m k : Move) (ms : List Move) → taking_both P s m k ≡ some s' → run P (m ∷ k ∷ ms) s ≡ run P ms s'
+  pub run_goes_on : (s s' : State) (m k : Move) (ms : List Move) → taking_both P s m k ≡ Some s' → run P (m ∷ k ∷ ms) s ≡ run P ms s'
   unfolding run attempt
   run_goes_on s s' m k ms q =
       let (s₁, e, q₁) = bind_is_some (reduce P s m) q in

@@ -1,40 +1,29 @@
--- Each answer is that of the tests on the way to it.
-use mathlib.Core.Path.{sym, ◌∙◌}
-use Rattle.spec.specs.Text.{bytes}
+-- One word after the other; the definition has each test the other way round.
+use mathlib.Core.Path.{◌∙◌}
+use Rattle.spec.specs.Text.{bytes, look_up}
 use Rattle.keywords.specs.Words.{type_word_of}
+use Rattle.keywords.proofs.SameBytes.{same_turned}
+use Rattle.keywords.proofs.Words.{either}
 use Rattle.keywords.proofs.type_word.Goals as goal
 
-pub returns-then-same : goal.returns-then-same
-unfolding type_word_of bytes
-returns-then-same c =
-    sym (rw (sym c.same.ensures ∙ c.if-same.true))
-
-pub returns-then-same-2 : goal.returns-then-same-2
-unfolding type_word_of bytes
-returns-then-same-2 c =
-    sym (rw (sym c.same.ensures ∙ c.if-same.false, sym c.same-2.ensures ∙ c.if-same-2.true))
-
-pub returns-then-same-3 : goal.returns-then-same-3
-unfolding type_word_of bytes
-returns-then-same-3 c =
-    sym (rw (sym c.same.ensures ∙ c.if-same.false, sym c.same-2.ensures ∙ c.if-same-2.false, sym c.same-3.ensures ∙ c.if-same-3.true))
-
-pub returns-then-same-4 : goal.returns-then-same-4
-unfolding type_word_of bytes
-returns-then-same-4 c =
-    sym (rw (sym c.same.ensures ∙ c.if-same.false, sym c.same-2.ensures ∙ c.if-same-2.false, sym c.same-3.ensures ∙ c.if-same-3.false, sym c.same-4.ensures ∙ c.if-same-4.true))
-
-pub returns-then-same-5 : goal.returns-then-same-5
-unfolding type_word_of bytes
-returns-then-same-5 c =
-    sym (rw (sym c.same.ensures ∙ c.if-same.false, sym c.same-2.ensures ∙ c.if-same-2.false, sym c.same-3.ensures ∙ c.if-same-3.false, sym c.same-4.ensures ∙ c.if-same-4.false, sym c.same-5.ensures ∙ c.if-same-5.true))
-
-pub returns-then-same-6 : goal.returns-then-same-6
-unfolding type_word_of bytes
-returns-then-same-6 c =
-    sym (rw (sym c.same.ensures ∙ c.if-same.false, sym c.same-2.ensures ∙ c.if-same-2.false, sym c.same-3.ensures ∙ c.if-same-3.false, sym c.same-4.ensures ∙ c.if-same-4.false, sym c.same-5.ensures ∙ c.if-same-5.false, sym c.same-6.ensures ∙ c.if-same-6.true))
-
 pub returns : goal.returns
-unfolding type_word_of bytes
 returns c =
-    sym (rw (sym c.same.ensures ∙ c.if-same.false, sym c.same-2.ensures ∙ c.if-same-2.false, sym c.same-3.ensures ∙ c.if-same-3.false, sym c.same-4.ensures ∙ c.if-same-4.false, sym c.same-5.ensures ∙ c.if-same-5.false, sym c.same-6.ensures ∙ c.if-same-6.false))
+    let f = c.args.field.now in
+    either _ _ _ c.or-5.ensures
+    (either _ _ _ c.or-4.ensures
+    (either _ _ _ c.or-3.ensures
+    (either _ _ _ c.or-2.ensures
+    (either _ _ _ c.or.ensures c.spelled.ensures c.spelled-2.ensures)
+    c.spelled-3.ensures)
+    c.spelled-4.ensures)
+    c.spelled-5.ensures)
+    c.spelled-6.ensures
+    ∙ (unfold look_up bytes type_word_of in
+    rw (
+      same_turned (bytes "int") f,
+      same_turned (bytes "ref") f,
+      same_turned (bytes "lock") f,
+      same_turned (bytes "tid") f,
+      same_turned (bytes "sem") f,
+      same_turned (bytes "rwlock") f,
+    ))

@@ -1,12 +1,7 @@
 -- The two cases of the definition.
-use borrow.Author.Tests.{le-leb, lt-leb}
-use Rattle.lexer.specs.Numbers.{stored}
+use mathlib.Core.Path.{◌∙◌}
+use Rattle.lexer.proofs.Stored.{held_or_largest}
 use Rattle.lexer.proofs.narrow.Goals as goal
 
-pub returns-then-n-gt-LARGEST_STORED : goal.returns-then-n-gt-LARGEST_STORED
-unfolding stored
-returns-then-n-gt-LARGEST_STORED c = simp (lt-leb _ _ c.if-n-gt-LARGEST_STORED.true)
-
 pub returns : goal.returns
-unfolding stored
-returns c = simp (le-leb _ _ c.if-n-gt-LARGEST_STORED.false)
+returns c = c.unwrap_or.ensures ∙ held_or_largest c.args.n c.try_from.result c.try_from.ensures

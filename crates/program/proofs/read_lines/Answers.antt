@@ -1,61 +1,36 @@
 -- The lines that line 1 counts, then no line behind them, then what they list.
+use Rattle.std.proofs.lemmas.Result.{err_from_is_err_and}
 use native.Mathlib.Omega.{arith}
-use mathlib.Core.Path.{sym, subst, ◌∙◌}
-use Rattle.program.specs.Lines.{StepsShown}
+use mathlib.Core.Path.{sym, ◌∙◌}
 use Rattle.program_lines.proofs.TailLaws.{line_fits}
 use Rattle.program.proofs.Sheets.{lines_refused, lines_spare, lines_read, lines_unresolved}
 use Rattle.program.proofs.read_lines.Goals as goal
 
-pub overflow_add-n : goal.overflow_add-n
-overflow_add-n c = let pre = c.requires in omega (arith, pre.few_steps, pre.few_procedures)
-
-pub step_lines-requires : goal.step_lines-requires
-step_lines-requires c =
-    let pre = c.requires in
-    (record { long = pre.long; few = omega (arith, pre.few_steps, pre.few_procedures) }, pre.placed)
+pub returns-in_err-stored : goal.returns-in_err-stored
+returns-in_err-stored c =
+    let p = err_from_is_err_and c.from_residual.result c.from_residual.ensures.1 in
+    rw (p.1, p.2) (lines_refused _ _ c.index-steps.ensures.0 c.index-procedures.ensures.0 c.in_err-stored.ensures)
 
 pub overflow_add-spare : goal.overflow_add-spare
 overflow_add-spare c =
-    let s = subst (StepsShown _ _ _ _ _ _) c.in-Read.is c.step_lines.ensures in
-    omega (arith, line_fits _ _ s.found.placed (sym c.at_end.ensures ∙ c.if-not-at_end.true))
+    omega (arith, line_fits _ _ c.in_ok-stored.ensures.found.placed (sym c.at_end.ensures ∙ c.if-not-at_end.true))
 
 pub returns-then-not-at_end : goal.returns-then-not-at_end
 returns-then-not-at_end c =
-    lines_spare _ _ _ _ _ _ _ _ _ _ (subst (StepsShown _ _ _ _ _ _) c.in-Read.is c.step_lines.ensures)
+    lines_spare _ _ c.index-steps.ensures.0 c.index-procedures.ensures.0 c.in_ok-stored.ensures
     (sym c.at_end.ensures ∙ c.if-not-at_end.true)
 
-pub resolve-requires : goal.resolve-requires
-resolve-requires c =
-    let pre = c.requires in
-    let s = subst (StepsShown _ _ _ _ _ _) c.in-Read.is c.step_lines.ensures in
-    record {
-      long = s.changed.long ∙ pre.long;
-      all = omega (arith, s.found.all, pre.few_steps);
-      few = pre.few_procedures;
-      stored = s.found.stored;
-    }
-
-pub returns-in-Refused : goal.returns-in-Refused
-returns-in-Refused c =
-    lines_refused _ _ _ _ _ _ _ _ (subst (StepsShown _ _ _ _ _ _) c.in-Refused.is c.step_lines.ensures)
-
-pub returns-in-Holds : goal.returns-in-Holds
-returns-in-Holds c =
-    let pre = c.requires in
-    lines_read _ _ _ _ _ _ _ _ _ _ (subst (StepsShown _ _ _ _ _ _) c.in-Read.is c.step_lines.ensures) pre.few_steps pre.few_procedures
+pub returns-in_err-resolve : goal.returns-in_err-resolve
+returns-in_err-resolve c =
+    let p = err_from_is_err_and c.from_residual-in_err-resolve.result c.from_residual-in_err-resolve.ensures.1 in
+    rw (p.1, p.2) (lines_unresolved _ _ c.index-steps.ensures.0 c.index-procedures.ensures.0 c.in_ok-stored.ensures
     (sym c.at_end.ensures ∙ c.if-not-at_end.false)
-    _
-    _
-    c.resolve.ensures
-    c.in-Holds.is
+    c.in_err-resolve.ensures)
 
-pub returns-in-Refused-resolve : goal.returns-in-Refused-resolve
-returns-in-Refused-resolve c =
-    let pre = c.requires in
-    lines_unresolved _ _ _ _ _ _ _ _ _ _ (subst (StepsShown _ _ _ _ _ _) c.in-Read.is c.step_lines.ensures) pre.few_steps pre.few_procedures
+pub returns : goal.returns
+returns c =
+    lines_read _ _ c.index-steps.ensures.0 c.index-procedures.ensures.0 c.in_ok-stored.ensures
     (sym c.at_end.ensures ∙ c.if-not-at_end.false)
-    _
-    _
-    c.resolve.ensures
-    _
-    c.in-Refused-resolve.is
+    c.requires.few_steps
+    c.requires.few_procedures
+    c.in_ok-resolve.ensures

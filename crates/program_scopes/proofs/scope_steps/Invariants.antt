@@ -1,11 +1,7 @@
 -- The loop's invariant: judging the steps from here on, with the table as it is, comes to what judging all of them does;
 -- what is stored for the steps passed stands in the work space.
-use Prim.Native.Nat.{◌-◌}
 use Rattle.program_scopes.proofs.ScopeLaws.{ScopesSoFar}
 use Rattle.program_scopes.proofs.scope_steps.Given as goal
 
 abbrev pub invariant-loop-k : goal.invariant-loop-k
 invariant-loop-k l = ScopesSoFar l.count l.from l.to l.initial.work l.work l.initial.table l.table l.k
-
-abbrev pub decreases-loop-k : goal.decreases-loop-k
-decreases-loop-k l = l.to - l.k

@@ -1,42 +1,36 @@
-use mathlib.Core.Path.{refl, ◌∙◌}
+use mathlib.Core.Path.{sym, ◌∙◌}
 use native.Mathlib.Omega.{arith}
-use borrow.Author.Rules.{rules}
-use Rattle.lexer.specs.Cursors.{rest, past, span_to}
-use Rattle.lexer.specs.declared.FieldEnd.TheVariants.{Comma, Newline, Text}
-use Rattle.lexer.proofs.Fields.{comma_width, comma_end, newline_width, newline_end, byte_width, byte_end, text_width, text_end}
-use Rattle.lexer.proofs.Places.{span_is}
+use Rattle.lexer.specs.Cursors.{rest}
+use Rattle.lexer.specs.declared.FieldEnd.TheVariants.{Text}
+use Rattle.lexer.proofs.Fields.{ends_before, before_byte, before_end, byte_within}
+use Rattle.lexer.proofs.Places.{span_is, past_fits}
 use Rattle.lexer.proofs.Cursor.field.Goals as goal
 
-pub loop-to-init : goal.loop-to-init
-loop-to-init c = (omega arith, search rules, refl, refl)
+pub span-requires : goal.span-requires
+unfolding rest
+span-requires c =
+    let found = ends_before _ _ (before_byte c.args.text.now c.loop-to.to (omega arith) ∙ sym c.of.ensures ∙ c.in-Some.is) in
+    past_fits _ _ _ _ (c.loop-to.invariant.1 ∙ found.1) (omega arith) c.requires
 
-pub returns-then-b-eq44 : goal.returns-then-b-eq44
-unfolding rest past span_to
-returns-then-b-eq44 c =
-    let text = c.args.text.now in
-    let to = c.loop-to.to in
-    let w = comma_width text to (omega arith) c.if-b-eq44.true in
-    span_is text _ Comma to (c.loop-to.invariant.3 ∙ comma_end text to (omega arith) c.if-b-eq44.true) (omega arith)
-
-pub returns-then-b-eq10 : goal.returns-then-b-eq10
-unfolding rest past span_to
-returns-then-b-eq10 c =
-    let text = c.args.text.now in
-    let to = c.loop-to.to in
-    let w = newline_width text to (omega arith) c.if-b-eq44.false c.if-b-eq10.true in
-    span_is text _ Newline to (c.loop-to.invariant.3 ∙ newline_end text to (omega arith) c.if-b-eq44.false c.if-b-eq10.true) (omega arith)
+pub returns-in-Some : goal.returns-in-Some
+unfolding rest
+returns-in-Some c =
+    let found = ends_before _ _ (before_byte c.args.text.now c.loop-to.to (omega arith) ∙ sym c.of.ensures ∙ c.in-Some.is) in
+    c.span.ensures ∙ span_is _ _ _ _ (c.loop-to.invariant.1 ∙ found.1) (omega arith)
 
 pub loop-to-preserved : goal.loop-to-preserved
 loop-to-preserved c =
-    let text = c.args.text.now in
-    let to = c.loop-to.to in
-    let w = byte_width text to (omega arith) c.if-b-eq44.false c.if-b-eq10.false in
-    (omega arith, omega arith, omega arith, c.loop-to.invariant.3 ∙ byte_end text to (omega arith) c.if-b-eq44.false c.if-b-eq10.false)
+    let w = byte_within c.args.text.now c.loop-to.to (before_byte c.args.text.now c.loop-to.to (omega arith) ∙ sym c.of.ensures ∙ c.in_default.is) in
+    (omega arith, c.loop-to.invariant.1 ∙ w.1)
+
+pub span-requires-2 : goal.span-requires-2
+unfolding rest
+span-requires-2 c =
+    let found = ends_before _ Text (before_end c.args.text.now c.loop-to.to (omega arith)) in
+    past_fits _ _ _ _ (c.loop-to.invariant.1 ∙ found.1) (omega arith) c.requires
 
 pub returns : goal.returns
-unfolding rest past span_to
+unfolding rest
 returns c =
-    let text = c.args.text.now in
-    let to = c.loop-to.to in
-    let w = text_width text to (omega arith) in
-    span_is text _ Text to (c.loop-to.invariant.3 ∙ text_end text to (omega arith)) (omega arith)
+    let found = ends_before _ Text (before_end c.args.text.now c.loop-to.to (omega arith)) in
+    c.span-2.ensures ∙ span_is _ _ _ _ (c.loop-to.invariant.1 ∙ found.1) (omega arith)

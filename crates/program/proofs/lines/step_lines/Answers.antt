@@ -1,30 +1,26 @@
-use Rattle.program_lines.specs.Lines.{StepShown}
+use Rattle.std.proofs.lemmas.Result.{err_from_is_err_and}
 use Rattle.program.proofs.StepLoop.{start, finish, refuses, step_on, proc_on}
-use mathlib.Core.Path.{refl, subst}
+use mathlib.Core.Path.{refl}
 use Rattle.program.proofs.lines.step_lines.Goals as goal
 use Rattle.program.proofs.lines.step_lines.Goals.{in-Step, in-Proc}
 
-pub loop-k-init : goal.loop-k-init
-loop-k-init c = start _ _ _ _ _ c.requires.0.long c.requires.1
+pub loop-init : goal.loop-init
+loop-init c = start _ _ _ _ _ c.told-work c.requires.1
 
-pub step_line-requires : goal.step_line-requires
-step_line-requires c = c.loop-k.invariant.loop_step.placed
+pub returns-in_err-line : goal.returns-in_err-line
+returns-in_err-line c =
+    let p = err_from_is_err_and c.from_residual.result c.from_residual.ensures.1 in
+    rw (p.1, p.2) (refuses c.loop.invariant c.loop-test.true c.in_err-line.ensures)
 
-pub returns-in-Refused : goal.returns-in-Refused
-returns-in-Refused c =
-    refuses c.loop-k.invariant c.loop-k-test.true _ (subst (StepShown _ _ _) c.in-Refused.is c.step_line.ensures)
-
-pub loop-k-preserved : goal.loop-k-preserved
-loop-k-preserved c =
-    let room = c.requires.0 in
-    elim c.match-step_line.branch [
-      | in-Step w ↦
-          step_on c.loop-k.invariant c.loop-k-test.true room.long room.few _ _ _ _ (subst (StepShown _ _ _) w.in-Step.is c.step_line.ensures)
-          w.code_of.ensures _ _ _ _ w.work-is w.cursor-is w.steps-is w.procs-is
-      | in-Proc w ↦
-          proc_on c.loop-k.invariant c.loop-k-test.true room.long room.few _ _ _ (subst (StepShown _ _ _) w.in-Proc.is c.step_line.ensures)
-          refl _ _ _ _ w.work-is w.cursor-is w.steps-is w.procs-is
-    ]
+pub loop-preserved : goal.loop-preserved
+loop-preserved c = elim c.match-line.branch [
+  | in-Step w ↦
+      step_on c.loop.invariant c.loop-test.true c.told-work c.requires.0 _ _ _ _ (rw w.in-Step.is at c.in_ok-line.ensures)
+      w.code_of.ensures _ _ _ _ w.work-is w.cursor-is w.steps-is w.procs-is
+  | in-Proc w ↦
+      proc_on c.loop.invariant c.loop-test.true c.told-work c.requires.0 _ _ _ (rw w.in-Proc.is at c.in_ok-line.ensures)
+      refl _ _ _ _ w.work-is w.cursor-is w.steps-is w.procs-is
+]
 
 pub returns : goal.returns
-returns c = finish c.loop-k.invariant c.loop-k-test.false
+returns c = finish c.loop.invariant c.loop-test.false _

@@ -12,14 +12,14 @@ returns-then-at_end c = count_empty _ _ c.start-top.ensures (sym c.at_end.ensure
 pub field-field-requires : goal.field-field-requires
 field-field-requires c = placed_top _ _ c.start-top.ensures c.requires
 
-pub slice_bounds-same-count : goal.slice_bounds-same-count
-slice_bounds-same-count c = (span_le _ _ c.field-field.result c.field-field.ensures (placed_top _ _ c.start-top.ensures c.requires)).0
+pub slice_bounds-heading-count : goal.slice_bounds-heading-count
+slice_bounds-heading-count c = (span_le _ _ c.field-field.result c.field-field.ensures (placed_top _ _ c.start-top.ensures c.requires)).0
 
-pub slice_bounds-same-start : goal.slice_bounds-same-start
-slice_bounds-same-start c = (span_le _ _ c.field-field.result c.field-field.ensures (placed_top _ _ c.start-top.ensures c.requires)).0
+pub slice_bounds-heading-start : goal.slice_bounds-heading-start
+slice_bounds-heading-start c = (span_le _ _ c.field-field.result c.field-field.ensures (placed_top _ _ c.start-top.ensures c.requires)).0
 
-pub slice_bounds-same-end-2 : goal.slice_bounds-same-end-2
-slice_bounds-same-end-2 c = (span_le _ _ c.field-field.result c.field-field.ensures (placed_top _ _ c.start-top.ensures c.requires)).1
+pub slice_bounds-heading-end : goal.slice_bounds-heading-end
+slice_bounds-heading-end c = (span_le _ _ c.field-field.result c.field-field.ensures (placed_top _ _ c.start-top.ensures c.requires)).1
 
 pub plain_count-requires : goal.plain_count-requires
 unfolding bytes
@@ -29,15 +29,6 @@ plain_count-requires c =
       here = record { placed = placed_top _ _ c.start-top.ensures c.requires; left = sym c.at_end.ensures ∙ c.if-at_end.false; field = c.field-field.ensures };
       spelled = heading_plain _ (marks _ _ c.field-field.result _ _ c.field-field.ensures c.same.ensures ∙ c.if-same.true);
     }
-
-pub slice_bounds-same-count-2 : goal.slice_bounds-same-count-2
-slice_bounds-same-count-2 c = (span_le _ _ c.field-field.result c.field-field.ensures (placed_top _ _ c.start-top.ensures c.requires)).0
-
-pub slice_bounds-same-start-2 : goal.slice_bounds-same-start-2
-slice_bounds-same-start-2 c = (span_le _ _ c.field-field.result c.field-field.ensures (placed_top _ _ c.start-top.ensures c.requires)).0
-
-pub slice_bounds-same-end-4 : goal.slice_bounds-same-end-4
-slice_bounds-same-end-4 c = (span_le _ _ c.field-field.result c.field-field.ensures (placed_top _ _ c.start-top.ensures c.requires)).1
 
 pub full_count-requires : goal.full_count-requires
 unfolding bytes
