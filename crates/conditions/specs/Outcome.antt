@@ -7,6 +7,7 @@ use Rattle.spec.specs.StepContexts.{numbered, first_false}
 
 -- the first refusal of two outcomes
 unfoldable pub both : Result (Unit {0}) Refusal → Result (Unit {0}) Refusal → Result (Unit {0}) Refusal
+unfolding ◌>>=◌
 both a b = a >>= λ holds. b
 
 -- the first false one of a step's conditions, which are numbered from i on

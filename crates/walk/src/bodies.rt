@@ -28,6 +28,7 @@ fn check_proc_line(work: &[u32], locations: u32, f: u32) -> Result<(), Refusal>
 }
 
 // Procedure f: the conditions at its line, then those of its body, whose pre is before.
+#[tactic(auto, using(workspace::proofs::Region::changed_nothing), unfolding(crate::specs::Bodies::body_outcome, conditions::specs::Outcome::both))]
 fn check_body(work: &mut [u32], how: Judging, f: u32) -> Result<(), Refusal>
     requires { length work.old ≡ work_size }
     ensures { (result ≡ body_outcome how work.old f) × ChangedWithin pres_at (pres_at + 256) work.old work.new }

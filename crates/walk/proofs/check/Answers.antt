@@ -1,5 +1,5 @@
 -- The lock lines, the start, then the procedures and the root; proofs/Procedures.antt says what they come to for the sheets.
-use Rattle.std.proofs.Common.{◌+◌, refl, sym, ◌∙◌}
+use Rattle.std.proofs.Common.{◌+◌, sym, ◌∙◌}
 use Rattle.workspace.specs.Layout.{pres_at}
 use Rattle.workspace.proofs.Region.{changed_nothing}
 use Rattle.conditions.specs.Outcome.{both}
@@ -24,11 +24,9 @@ returns-in_err-check_start c =
     record {
       answers = λ P S H counted.
           refused_by _ c.from_residual-in_err-check_start.ensures.1
-          ∙ rw (
-            ← locks_shown _ S _ H.split H.in_range _ H.locations_given _ counted,
-            ← start_judged _ _ _ _ _ _ P S H c.cell-root.ensures c.cell-line.ensures c.in_err-check_start.ensures,
-          )
-          (sym (both_goes_on _ _ (sym c.in_ok-check_locks.ensures) ∙ both_stops _ _ refl));
+          ∙ rw (← locks_shown _ S _ H.split H.in_range _ H.locations_given _ counted)
+          (sym (both_goes_on _ _ (sym c.in_ok-check_locks.ensures)
+          ∙ both_stops _ _ (sym (start_judged _ _ _ _ _ _ P S H c.cell-root.ensures c.cell-line.ensures c.in_err-check_start.ensures))));
       changed = changed_nothing pres_at (pres_at + 256) _;
     }
 
