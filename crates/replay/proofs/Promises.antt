@@ -18,9 +18,6 @@ pub space_counted : space_size ≡ replay_space
 unfolding replay_space
 space_counted = refl
 
-pub front_long : (N : ℕ) (w : List ℕ) → N ≤ length w → N ≡ replay_space → length (take N w) ≡ replay_space
-front_long N w h e = length-take-le N w h ∙ e
-
 -- The first N numbers of w are lent, and come back as x. N is a variable here for the same reason.
 module _ (N : ℕ) (w x : List ℕ) (h : N ≤ length w) (k : length x ≡ length (take N w)) where
   pub same_length : length (x ++ drop N w) ≡ length w

@@ -21,7 +21,7 @@ use Rattle.workspace.proofs.Held.{ends_length, body_sized, root_sized}
 use Rattle.workspace.proofs.Expression.{codes, values, lines_of, Standing}
 use Rattle.workspace.proofs.Bodies.{AllHere, all_here}
 use Rattle.threads.specs.declared.Threads.{Threads}
-use Rattle.replay_control.specs.Layout.{continuations_at, space_size}
+use Rattle.replay_control.specs.Layout.{continuations_at, program_size, space_size}
 use Rattle.replay_control.specs.Control.{first_of}
 use Rattle.replay_control.specs.Continuations.{linked}
 use Rattle.replay_engine.specs.Steps.{start_of}
@@ -114,11 +114,10 @@ held_copied {P = P} C few procs H =
       listed = m;
     }
 
-pub program_linked : (s p p' : List ℕ) (P : Program) (c : Counts) → Copied s p → HeldAs P s c → c.steps ≤ 256 → c.procedures ≤ 16 → p' ≡ linked p c.steps c.procedures →
+pub program_linked : (s p p' : List ℕ) (P : Program) (c : Counts) → length p ≡ program_size → Copied s p → HeldAs P s c → c.steps ≤ 256 → c.procedures ≤ 16 → p' ≡ linked p c.steps c.procedures →
     ProgramStands p' P.procedures P.root
-program_linked s p p' P c C H few procs e =
-    let l = C.long in
-    let held = held_copied {p = p} {P = P} (record { long = omega (arith, l); same = C.same }) few procs H in
+program_linked s p p' P c l C H few procs e =
+    let held = held_copied {p = p} {P = P} (record { long = omega (arith, l); same = C }) few procs H in
     let n = H.counted in
     let m = H.listed in
     subst (λ (x : List ℕ). ProgramStands x P.procedures P.root) ((λ i. linked p (n i) (m i)) ∙ sym e)
@@ -127,7 +126,7 @@ program_linked s p p' P c C H few procs e =
       firsts = held.firsts;
       variables = held.variables;
       ranged = held.ranged;
-      long = C.long;
+      long = l;
       few = omega (arith, n, few);
       procs = omega (arith, m, procs);
     }))
@@ -208,7 +207,7 @@ module _ (text : List ℕ) (fits : length text ≤ 16384) where
     sheet_held s long same = held_copied (record { long = omega (arith, long); same = same }) few few_procedures work_held
 
     pub sheet_holds : (s : List ℕ) → length s ≡ space_size → ((i : ℕ) → i < continuations_at → get_or s i 0 ≡ get_or w i 0) → Held s c
-    sheet_holds s long same = record { listed = F.P; held = sheet_held s long same; few = few; procs = few_procedures; long = long }
+    sheet_holds s long same = record { listed = F.P; held = sheet_held s long same; few = few; procs = few_procedures }
 
     pub sheet_judged : judged replay_space text ≡ Ok F.P
     sheet_judged = judged_read ∙ F.reads

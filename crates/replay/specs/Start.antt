@@ -3,7 +3,7 @@ use Rattle.std.specs.Prelude.{ℕ, None, Some, Result, ◌<◌, ◌≤◌, ◌�
 use Rattle.spec.specs.Program.{Program, program}
 use Rattle.program.specs.Sheet.{Answered}
 use Rattle.program.specs.declared.Counts.{Counts}
-use Rattle.replay_control.specs.Layout.{continuations_at, program_size, space_size}
+use Rattle.replay_control.specs.Layout.{continuations_at}
 use Rattle.spec.specs.declared.Refusal.{Refusal}
 use Rattle.threads.specs.Threads.{started}
 use Rattle.replay_theory.specs.declared.Ending.TheVariants.{Refused}
@@ -11,22 +11,19 @@ use Rattle.replay_loop.specs.declared.Point.{Point}
 use Rattle.replay_simulation.proofs.Bodies.{all_size, AllStanding, AllRanged, FirstsAt, VariablesAt, ProgramStands}
 
 -- a program sheet has been read in the front of a space: what its reader leaves there, and what it answers
-pub record SheetIn (text s s' : List ℕ) (r : Result Counts Refusal) : Type 0 where
+pub record SheetIn (text s' : List ℕ) (r : Result Counts Refusal) : Type 0 where
   pub work : List ℕ
   pub answer : Answered work r (program text)
   pub front : (i : ℕ) → i < continuations_at → get_or s' i 0 ≡ get_or work i 0
-  pub long : length s' ≡ length s
 
 -- the columns of a program, copied from the space
-pub record Copied (s p : List ℕ) : Type 0 where
-  pub long : length p ≡ program_size
-  pub same : (i : ℕ) → i < continuations_at → get_or p i 0 ≡ get_or s i 0
+abbrev pub Copied : (s p : List ℕ) → Type 0
+Copied s p = (i : ℕ) → i < continuations_at → get_or p i 0 ≡ get_or s i 0
 
--- a linked program, and a space that is long enough
-pub record Runs (p s : List ℕ) : Type 0 where
+-- a linked program
+pub record Runs (p : List ℕ) : Type 0 where
   pub listed : Program
   pub stands : ProgramStands p listed.procedures listed.root
-  pub long : length s ≡ space_size
 
 -- the space holds that program, with its counts
 pub record HeldAs (P : Program) (s : List ℕ) (c : Counts) : Type 0 where
@@ -42,7 +39,6 @@ pub record Held (s : List ℕ) (c : Counts) : Type 0 where
   pub held : HeldAs listed s c
   pub few : c.steps ≤ 256
   pub procs : c.procedures ≤ 16
-  pub long : length s ≡ space_size
 
 -- a run that the refusal of its sheet has stopped
 unfoldable pub refused_point : Refusal → Point

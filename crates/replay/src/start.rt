@@ -4,7 +4,6 @@ ghost use Rattle.spec.specs.Program.{Program};
 ghost use Rattle.spec.specs.declared.Refusal.TheVariants.{ShortWorkspace};
 ghost use Rattle.replay_theory.specs.Replay.{replay_space, judged, refused as refused_by};
 ghost use Rattle.replay_machine.specs.Replay.{start_replay, play as played, replayed as played_of};
-ghost use Rattle.replay_control.specs.Layout.{program_size, space_size};
 ghost use Rattle.replay_simulation.proofs.Bodies.{ProgramStands};
 ghost use Rattle.replay_loop.specs.Play.{LoopPost};
 ghost use Rattle.replay.specs.Start.{SheetIn, Copied, Runs, HeldAs, Held, refused_point};
@@ -18,8 +17,8 @@ use spec::Refusal;
 use threads::Threads;
 
 // The start of a linked program.
-fn first_point(job: &[u32], space: &mut [u32]) -> Point
-    requires { Runs job.now space.old }
+fn first_point(job: &[u32; PROGRAM], space: &mut [u32; SPACE]) -> Point
+    requires { Runs job.now }
     ensures { ((P : Program) → ProgramStands job.now P.procedures P.root → LoopPost result.ending (played (start_replay P)) job.now space.new result) × (result.steps ≡ 0) }
 {
     let threads = replay_engine::start(job, space);
@@ -33,24 +32,23 @@ fn first_point(job: &[u32], space: &mut [u32]) -> Point
 }
 
 // The columns of the program that the space holds: its steps, as the reader of program sheets left them.
-fn copy_columns(columns: &mut [u32], space: &[u32])
-    requires { (length columns.old ≡ program_size) × (length space.now ≡ space_size) }
+fn copy_columns(columns: &mut [u32; PROGRAM], space: &[u32; SPACE])
     ensures { Copied space.now columns.new }
 {
     columns[..CONTINUATIONS].copy_from_slice(&space[..CONTINUATIONS]);
 }
 
 // Reads a program sheet in the front of the space, which has more room than its reader asks for.
-fn read_program(program: &[u8], space: &mut [u32]) -> Result<Counts, Refusal>
-    requires { (length space.old ≡ replay_space) × (length program.now ≤ 16384) }
-    ensures { SheetIn program.now space.old space.new result }
+fn read_program(program: &[u8], space: &mut [u32; SPACE]) -> Result<Counts, Refusal>
+    requires { length program.now ≤ 16384 }
+    ensures { SheetIn program.now space.new result }
 {
     program::read(program, &mut space[..workspace::SIZE])
 }
 
 // The run of the program that the space holds: its columns become the job, and the space the run's.
-fn begin_held(job: &mut [u32], space: &mut [u32], counts: Counts) -> Point
-    requires { (length job.old ≡ program_size) × Held space.old counts }
+fn begin_held(job: &mut [u32; PROGRAM], space: &mut [u32; SPACE], counts: Counts) -> Point
+    requires { Held space.old counts }
     ensures { ((P : Program) → HeldAs P space.old counts → LoopPost result.ending (played (start_replay P)) job.new space.new result) × (result.steps ≡ 0) }
 {
     copy_columns(job, space);
@@ -76,9 +74,8 @@ fn refused_point(r: Refusal) -> Point
 }
 
 // Begins with a program in a job and a space of just the size.
-fn begin_in(program: &[u8], job: &mut [u32], space: &mut [u32]) -> Point
-    requires { (length job.old ≡ program_size) × (length space.old ≡ replay_space) }
-    ensures { LoopPost result.ending (played_of (judged replay_space program.now)) job.new space.new result × (result.steps ≡ 0) }
+fn begin_in(program: &[u8], job: &mut [u32; PROGRAM], space: &mut [u32; SPACE]) -> Point
+    ensures { LoopPost result.ending (played_of (judged replay_space program.now)) job.new space.new result × (result.steps ≡ 0) × (length space.new ≡ replay_space) }
 {
     if PROGRAM_LIMIT < program.len() {
         return refused_point(Refusal::LongProgram);
@@ -104,11 +101,11 @@ pub fn begin(program: &[u8], job: &mut [u32], space: &mut [u32]) -> Point
     ensures kept { length space.old < replay_space → space.new ≡ space.old }
     ensures free { (length space.new ≡ length space.old) × (drop replay_space space.new ≡ drop replay_space space.old) }
 {
-    if job.len() != PROGRAM {
+    let Some(job) = job.as_mut_array() else {
         return refused_point(Refusal::ShortWorkspace);
-    }
-    if space.len() < SPACE {
+    };
+    let Some(space) = space.first_chunk_mut() else {
         return refused_point(Refusal::ShortWorkspace);
-    }
-    begin_in(program, job, &mut space[..SPACE])
+    };
+    begin_in(program, job, space)
 }
