@@ -1,5 +1,5 @@
 -- A short work space is refused as it is; of a longer one the first numbers are lent on and then cleared.
-use Rattle.std.proofs.Common.{ℕ, ◌++◌, drop, replicate, refl, sym, ap, ◌∙◌}
+use Rattle.std.proofs.Common.{◌≡◌, ℕ, ◌++◌, drop, replicate, refl, sym, ap, ◌∙◌}
 use Rattle.spec.proofs.Reasons.{short_workspace}
 use Rattle.workspace.specs.Layout.{work_size}
 use Rattle.workspace.proofs.Lent.{short_kept, long_cleared}

@@ -1,6 +1,5 @@
 -- The word's seed is drilled, and buffers for any sheet are never too short.
-use Rattle.std.proofs.Common.{sym, subst, ap, ◌∙◌}
-use Rattle.racedrill.specs.Pair.{shown}
+use Rattle.std.proofs.Common.{sym, ◌∙◌}
 use Rattle.racedrill.proofs.Pairs.{none_of, pair_of_lem}
 use Rattle.racedrill.proofs.pair.pair_of.Goals as goal
 

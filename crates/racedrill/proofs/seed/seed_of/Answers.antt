@@ -1,17 +1,13 @@
--- The numeral is read by the lexer; what is left is the test against 2^32.
-use Rattle.std.proofs.Common.{Option, None, Some, ap, sym, ◌∙◌, ℕ}
-use borrow.Author.Tests.{lt-ltb, le-ltb}
-use Rattle.racedrill.specs.Seed.{seed_in, seed_of}
+-- The numeral is read by the lexer; what is left is whether 32 bits hold it.
+use Rattle.std.proofs.Common.{sym, ◌∙◌}
+use Rattle.racedrill.specs.Seed.{seed_of}
+use Rattle.racedrill.proofs.Seeds.{no_numeral, held}
 use Rattle.racedrill.proofs.seed.seed_of.Goals as goal
 
 pub returns-in_err-n : goal.returns-in_err-n
-unfolding seed_of seed_in
-returns-in_err-n c = c.from_residual.ensures ∙ ap seed_in (sym c.in_err-n.was ∙ c.numeral_of.ensures)
-
-pub returns-then-n-ge-END : goal.returns-then-n-ge-END
-unfolding seed_of seed_in
-returns-then-n-ge-END c = rw (sym c.numeral_of.ensures ∙ c.in_ok-n.was, le-ltb c.in_ok-n.n 4294967296 c.if-n-ge-END.true)
+unfolding seed_of
+returns-in_err-n c = c.from_residual.ensures ∙ no_numeral _ (sym c.numeral_of.ensures ∙ c.in_err-n.was)
 
 pub returns : goal.returns
-unfolding seed_of seed_in
-returns c = rw (sym c.numeral_of.ensures ∙ c.in_ok-n.was, lt-ltb c.in_ok-n.n 4294967296 c.if-n-ge-END.false)
+unfolding seed_of
+returns c = c.ok.ensures.value ∙ held _ _ c.try_from.result (sym c.numeral_of.ensures ∙ c.in_ok-n.was) c.try_from.ensures
