@@ -21,8 +21,8 @@ use Rattle.workspace.specs.Holds.{HoldsSplit}
 use Rattle.workspace.specs.Steps.{steps_from}
 use Rattle.workspace.proofs.Region.{region_kept, changed_then, changed_wider}
 use Rattle.workspace.proofs.Steps.{steps_kept}
-use Rattle.split_fields.specs.Answers.{SplitCursor}
-use Rattle.split.specs.Stored.{EmptyStored, Storing, StoringRows, StoringSignatures, TypesRead, MapsRead, SignaturesRead, RowsRead}
+use Rattle.split_fields.specs.Answers.{SplitCursor, AtLine}
+use Rattle.split.specs.Stored.{EmptyStored, TypesRead, MapsRead, SignaturesRead, RowsRead}
 use Rattle.split.specs.Sheet.{StoringBody, body, BodyAnswer, BodyRead}
 
 module _ (purpose : Purpose) {text : List ℕ} {c : Cursor} {h : Header} {n k : ℕ} {w : List ℕ} (pre : StoringBody text c h n k) (long : length w ≡ work_size) where
@@ -34,8 +34,8 @@ module _ (purpose : Purpose) {text : List ℕ} {c : Cursor} {h : Header} {n k : 
     changed_one : ChangedWithin row_types_at work_size w w₁
     changed_one = changed_wider row_types_at work_size (omega arith) (omega arith) types.changed
 
-    pub maps_ready : Storing text c₂ h
-    maps_ready = record { reading = record { placed = types.answered.4; fits = pre.storing.reading.fits }; small = pre.storing.small }
+    pub maps_ready : AtLine text c₂ h
+    maps_ready = record { reading = record { placed = types.answered.4; fits = pre.at.reading.fits }; small = pre.at.small }
 
     pub maps_stop : {w₂ : List ℕ} {r : Refusal} → MapsRead text c₂ h w₁ w₂ (Err r) → BodyRead purpose h n k (place_at text c) w w₂ (Err r)
     unfolding body ◌>>=◌
@@ -52,14 +52,8 @@ module _ (purpose : Purpose) {text : List ℕ} {c : Cursor} {h : Header} {n k : 
         changed_empty : ChangedWithin row_types_at work_size w v
         changed_empty = changed_then row_types_at work_size changed_two (changed_wider row_types_at work_size (omega arith) (omega arith) emptied.changed)
 
-        pub signatures_ready : StoringSignatures text c₃ h k
-        signatures_ready = record {
-          storing = record {
-            reading = record { placed = maps.answered.4; fits = pre.storing.reading.fits };
-            small = pre.storing.small;
-          };
-          few = pre.few_procedures;
-        }
+        pub signatures_ready : AtLine text c₃ h × k ≤ 16
+        signatures_ready = (record { reading = record { placed = maps.answered.4; fits = pre.at.reading.fits }; small = pre.at.small }, pre.few_procedures)
 
         pub signatures_stop : {u : List ℕ} {r : Refusal} → SignaturesRead text c₃ h k v u (Err r) → BodyRead purpose h n k (place_at text c) w u (Err r)
         unfolding body ◌>>=◌
@@ -72,14 +66,8 @@ module _ (purpose : Purpose) {text : List ℕ} {c : Cursor} {h : Header} {n k : 
           changed_signed : ChangedWithin row_types_at work_size w u
           changed_signed = changed_then row_types_at work_size changed_empty (changed_wider row_types_at work_size (omega arith) (omega arith) signatures.changed)
 
-          pub rows_ready : StoringRows text c₄ h n
-          rows_ready = record {
-            storing = record {
-              reading = record { placed = signatures.answered.4; fits = pre.storing.reading.fits };
-              small = pre.storing.small;
-            };
-            few = pre.few_steps;
-          }
+          pub rows_ready : AtLine text c₄ h × n ≤ 256
+          rows_ready = (record { reading = record { placed = signatures.answered.4; fits = pre.at.reading.fits }; small = pre.at.small }, pre.few_steps)
 
           same_rows : read_lines split_sheet (map (row_line purpose h) (steps_from w 0 n)) (place_at text c₄) ≡ read_lines split_sheet (map (row_line purpose h) (steps_from u 0 n)) (place_at text c₄)
           same_rows =
@@ -95,7 +83,7 @@ module _ (purpose : Purpose) {text : List ℕ} {c : Cursor} {h : Header} {n k : 
 
           module _ {w₃ : List ℕ} {c₅ : Cursor} (rows : RowsRead purpose text c₄ h n u w₃ (Ok c₅)) where
             pub end_ready : SplitCursor text c₅
-            end_ready = record { placed = rows.answered.4; fits = pre.storing.reading.fits }
+            end_ready = record { placed = rows.answered.4; fits = pre.at.reading.fits }
 
             abbrev found : Split
             found = record { header = h; types = types.answered.0; maps = maps.answered.0; signatures = signatures.answered.0; rows = rows.answered.0 }
@@ -106,9 +94,9 @@ module _ (purpose : Purpose) {text : List ℕ} {c : Cursor} {h : Header} {n k : 
                 let l = length-map types.answered.0 f in
                 let few = types.answered.2 in
                 region_kept rows.changed (inr low)
-                (region_kept signatures.changed (inl (omega (arith, pre.storing.small.types)))
-                (region_kept emptied.changed (inl (omega (arith, pre.storing.small.types)))
-                (region_kept maps.changed (inl (omega (arith, pre.storing.small.types))) r)))
+                (region_kept signatures.changed (inl (omega (arith, pre.at.small.types)))
+                (region_kept emptied.changed (inl (omega (arith, pre.at.small.types)))
+                (region_kept maps.changed (inl (omega (arith, pre.at.small.types))) r)))
 
             holds : HoldsSplit w₃ found
             holds = record {
@@ -116,7 +104,7 @@ module _ (purpose : Purpose) {text : List ℕ} {c : Cursor} {h : Header} {n k : 
               firsts = types_kept firsts_at _ (omega arith) (omega arith) types.answered.3.second;
               seconds = types_kept seconds_at _ (omega arith) (omega arith) types.answered.3.third;
               maps = λ m l. region_kept rows.changed (inr (omega arith))
-                  (region_kept signatures.changed (inr (omega arith)) (region_kept emptied.changed (inl (omega (arith, maps.answered.3.wide m l, maps.answered.2, pre.storing.small.locations, pre.storing.small.maps))) (maps.answered.3.maps m l)));
+                  (region_kept signatures.changed (inr (omega arith)) (region_kept emptied.changed (inl (omega (arith, maps.answered.3.wide m l, maps.answered.2, pre.at.small.locations, pre.at.small.maps))) (maps.answered.3.maps m l)));
               empty = region_kept rows.changed (inr (omega arith)) (region_kept signatures.changed (inr (omega arith)) emptied.empty);
               befores = region_kept rows.changed (inr (omega arith)) signatures.answered.3.befores;
               arguments = region_kept rows.changed (inr (omega arith)) signatures.answered.3.arguments;

@@ -58,7 +58,7 @@ module _ {text : List ℕ} {n k : ℕ} {w : List ℕ} (pre : Readable text n k w
     module _ {h : Header} {c : Cursor} (header : HeaderAnswer text (read_line split_sheet (header_line purpose) (place_at text top)) (Ok (h, c))) where
       pub behind_header : StoringBody text c h n k
       behind_header = record {
-        storing = record { reading = record { placed = header.1; fits = pre.short }; small = header.2 };
+        at = record { reading = record { placed = header.1; fits = pre.short }; small = header.2 };
         few_steps = pre.few_steps;
         few_procedures = pre.few_procedures;
       }

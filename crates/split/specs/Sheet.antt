@@ -12,7 +12,7 @@ use Rattle.workspace.specs.Region.{ChangedWithin}
 use Rattle.workspace.specs.Holds.{HoldsSteps, HoldsSplit}
 use Rattle.workspace.specs.Steps.{steps_from}
 use Rattle.lexer.specs.declared.Cursor.{Cursor}
-use Rattle.split.specs.Stored.{Storing}
+use Rattle.split_fields.specs.Answers.{AtLine}
 use Rattle.workspace.specs.Sheets.{Small}
 
 -- a text that the limit lets through, as many steps and procedures as a program may have, and a work space to store a sheet in
@@ -24,7 +24,7 @@ pub record Readable (text : List ℕ) (steps procedures : ℕ) (w : List ℕ) : 
 
 -- a cursor after a header, after which rows of so many steps and signatures of so many procedures may be
 pub record StoringBody (text : List ℕ) (c : Cursor) (h : Header) (steps procedures : ℕ) : Type 0 where
-  pub storing : Storing text c h
+  pub at : AtLine text c h
   pub few_steps : steps ≤ 256
   pub few_procedures : procedures ≤ 16
 

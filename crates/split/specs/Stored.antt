@@ -1,5 +1,5 @@
 -- What lines leave in the work space, and what the answers of the readers of many lines mean.
-use Rattle.std.specs.Prelude.{◌≡◌, List, [], map, ℕ, ◌+◌, ◌*◌, ◌<◌, ◌≤◌, length, get_or, set, replicate, Result, Ok, Err}
+use Rattle.std.specs.Prelude.{◌≡◌, List, [], map, ℕ, ◌+◌, ◌*◌, ◌<◌, length, get_or, set, replicate, Result, Ok, Err}
 use Rattle.spec.specs.declared.Refusal.{Refusal}
 use Rattle.spec.specs.Reading.{split_sheet, Place, read_lines}
 use Rattle.spec.specs.Split.{Map, Row, type_lines, map_line, signature_line, row_line}
@@ -13,8 +13,6 @@ use Rattle.workspace.specs.Region.{Region, ChangedWithin}
 use Rattle.workspace.specs.Holds.{start_number}
 use Rattle.workspace.specs.Steps.{steps_from}
 use Rattle.spec.specs.declared.Header.{Header}
-use Rattle.workspace.specs.Sheets.{Small}
-use Rattle.split_fields.specs.Answers.{SplitCursor}
 
 -- three numbers of each entry, in three columns with room for so many rows, one after the other
 pub record Columns {A : Type 0} (f g h : A → ℕ) (b rows : ℕ) (w : List ℕ) (entries : List A) : Type 0 where
@@ -49,21 +47,6 @@ signed w f g =
 pub record EmptyStored (w w' : List ℕ) : Type 0 where
   pub empty : Region w' (maps_at + stride * empty_map) (replicate stride 0)
   pub changed : ChangedWithin empty_row_at (empty_row_at + stride) w w'
-
--- a cursor after which lines of a sheet with this header may be
-pub record Storing (text : List ℕ) (c : Cursor) (h : Header) : Type 0 where
-  pub reading : SplitCursor text c
-  pub small : Small h
-
--- the same, with rows of so many steps among them
-pub record StoringRows (text : List ℕ) (c : Cursor) (h : Header) (steps : ℕ) : Type 0 where
-  pub storing : Storing text c h
-  pub few : steps ≤ 256
-
--- the same, with signatures of so many procedures
-pub record StoringSignatures (text : List ℕ) (c : Cursor) (h : Header) (procedures : ℕ) : Type 0 where
-  pub storing : Storing text c h
-  pub few : procedures ≤ 16
 
 -- n lines read one after the other: what they say is in the work space
 abbrev pub LinesAnswer : {A : Type 0} → (n : ℕ) → (Stored : List A → Type 0) → List ℕ → Result (List A × Place) Refusal → Result Cursor Refusal → Type 0

@@ -1,5 +1,6 @@
 // The map lines of the split sheet, into the work space, and the empty map after them.
-ghost use Rattle.split.specs.Stored.{Storing, MapsRead, EmptyStored};
+ghost use Rattle.split_fields.specs.Answers.{AtLine};
+ghost use Rattle.split.specs.Stored.{MapsRead, EmptyStored};
 
 use lexer::Cursor;
 use spec::{Header, Refusal};
@@ -13,7 +14,7 @@ pub(crate) fn read_maps(
     header: Header,
     work: &mut [u32; SIZE],
 ) -> Result<Cursor, Refusal>
-    requires { Storing text.now from header }
+    requires { AtLine text.now from header }
     ensures { MapsRead text.now from header work.old work.new result }
 {
     let mut cursor = from;

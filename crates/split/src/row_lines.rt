@@ -1,8 +1,9 @@
 // The step lines of the split sheet, into the work space.
-ghost use Rattle.std.specs.Prelude.{◌≡◌, ◌+◌, ◌<◌, set};
+ghost use Rattle.std.specs.Prelude.{◌≡◌, ◌+◌, ◌<◌, ◌≤◌, set};
 ghost use Rattle.workspace.specs.Layout.{row_types_at, posts_at, starts_at};
 ghost use Rattle.workspace.specs.Holds.{start_number};
-ghost use Rattle.split.specs.Stored.{StoringRows, RowsRead};
+ghost use Rattle.split_fields.specs.Answers.{AtLine};
+ghost use Rattle.split.specs.Stored.{RowsRead};
 
 use lexer::Cursor;
 use spec::{Header, Purpose, Refusal};
@@ -29,7 +30,7 @@ pub(crate) fn read_rows(
     steps: usize,
     work: &mut [u32; SIZE],
 ) -> Result<Cursor, Refusal>
-    requires { StoringRows text.now from header steps }
+    requires { AtLine text.now from header × steps ≤ 256 }
     ensures { RowsRead purpose text.now from header steps work.old work.new result }
 {
     let mut cursor = from;

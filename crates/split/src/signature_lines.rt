@@ -1,6 +1,7 @@
 // The signature lines of the split sheet, into the work space.
-ghost use Rattle.std.specs.Prelude.{◌≡◌, ◌<◌};
-ghost use Rattle.split.specs.Stored.{StoringSignatures, signed, SignaturesRead};
+ghost use Rattle.std.specs.Prelude.{◌≡◌, ◌<◌, ◌≤◌};
+ghost use Rattle.split_fields.specs.Answers.{AtLine};
+ghost use Rattle.split.specs.Stored.{signed, SignaturesRead};
 
 use lexer::Cursor;
 use spec::{Header, Refusal, Signature};
@@ -26,7 +27,7 @@ pub(crate) fn read_signatures(
     procedures: usize,
     work: &mut [u32; SIZE],
 ) -> Result<Cursor, Refusal>
-    requires { StoringSignatures text.now from header procedures }
+    requires { AtLine text.now from header × procedures ≤ 16 }
     ensures { SignaturesRead text.now from header procedures work.old work.new result }
 {
     let mut cursor = from;

@@ -1,7 +1,8 @@
 // The type lines of the split sheet, into the work space.
 ghost use Rattle.std.specs.Prelude.{◌≡◌, ◌+◌, ◌<◌, set};
 ghost use Rattle.workspace.specs.Layout.{kinds_at, firsts_at, seconds_at, kind_code, first_of, second_of};
-ghost use Rattle.split.specs.Stored.{Storing, TypesRead};
+ghost use Rattle.split_fields.specs.Answers.{AtLine};
+ghost use Rattle.split.specs.Stored.{TypesRead};
 
 use lexer::Cursor;
 use spec::{Header, Refusal, TypeLine, TypeNumber};
@@ -26,7 +27,7 @@ pub(crate) fn read_types(
     header: Header,
     work: &mut [u32; SIZE],
 ) -> Result<Cursor, Refusal>
-    requires { Storing text.now from header }
+    requires { AtLine text.now from header }
     ensures { TypesRead text.now from header work.old work.new result }
 {
     let mut cursor = from;

@@ -4,6 +4,7 @@ use Rattle.std.specs.Borrow.{Bor}
 use Rattle.spec.specs.Text.{Field, numeral}
 use Rattle.spec.specs.Reading.{Place}
 use Rattle.spec.specs.Split.{post_field}
+use Rattle.spec.specs.declared.Header.{Header}
 use Rattle.spec.specs.declared.MapNumber.{MapNumber}
 use Rattle.spec.specs.declared.Purpose.{Purpose}
 use Rattle.spec.specs.declared.Purpose.TheVariants.{Check, Fill}
@@ -12,12 +13,18 @@ use Rattle.lexer.specs.Views.{end_of, first_field}
 use Rattle.lexer.specs.Cursors.{Placed, rest, behind_field, place_at}
 use Rattle.lexer.specs.Numbers.{Spells}
 use Rattle.lexer.specs.declared.Cursor.{Cursor}
+use Rattle.workspace.specs.Sheets.{Small}
 use Rattle.lexer.specs.declared.FieldEnd.TheVariants.{Comma, Newline}
 
 -- a text that the limit lets through, and a cursor in it
 pub record SplitCursor (text : List ℕ) (c : Cursor) : Type 0 where
   pub placed : Placed text c
   pub fits : length text ≤ 65536
+
+-- a cursor in it, in a sheet with this header
+pub record AtLine (text : List ℕ) (c : Cursor) (h : Header) : Type 0 where
+  pub reading : SplitCursor text c
+  pub small : Small h
 
 -- a line: a refusal is that of document 01; else what is read is what document 01 reads there, with the cursor after it
 abbrev pub LineAnswer : {A : Type 0} → List ℕ → Result (A × Place) Refusal → Result (A × Cursor) Refusal → Type 0

@@ -2,8 +2,9 @@
 ghost use Rattle.std.specs.Prelude.{◌≡◌};
 ghost use Rattle.spec.specs.Reading.{split_sheet, read_line};
 ghost use Rattle.lexer.specs.Cursors.{place_at};
+ghost use Rattle.split_fields.specs.Answers.{AtLine};
 ghost use Rattle.split_lines.specs.RowLines.{word_line, row_judged};
-ghost use Rattle.split_lines.specs.RowAnswers.{AtRow, RowAnswer};
+ghost use Rattle.split_lines.specs.RowAnswers.{RowAnswer};
 
 use lexer::Cursor;
 use spec::{Header, MapNumber, Purpose, Refusal, TypeNumber, Word};
@@ -45,7 +46,7 @@ pub fn row_line(
     word: Word,
     header: Header,
 ) -> Result<(Row, Cursor), Refusal>
-    requires { AtRow text.now cursor header }
+    requires { AtLine text.now cursor header }
     ensures { RowAnswer text.now (read_line split_sheet (word_line purpose header word) (place_at text.now cursor)) result }
 {
     if cursor.at_end(text) {

@@ -3,8 +3,7 @@ ghost use Rattle.std.specs.Prelude.{◌≡◌, [], ◌∷◌};
 ghost use Rattle.spec.specs.Reading.{split_sheet, below, all_in_range, read_line};
 ghost use Rattle.spec.specs.Split.{signature_line};
 ghost use Rattle.lexer.specs.Cursors.{place_at};
-ghost use Rattle.split_fields.specs.Answers.{LineAnswer};
-ghost use Rattle.split_lines.specs.RowAnswers.{AtRow};
+ghost use Rattle.split_fields.specs.Answers.{AtLine, LineAnswer};
 ghost use Rattle.split_lines.specs.RowLines.{signature_ranges};
 
 use lexer::Cursor;
@@ -33,7 +32,7 @@ pub fn signature_line(
     cursor: Cursor,
     header: Header,
 ) -> Result<(Signature, Cursor), Refusal>
-    requires { AtRow text.now cursor header }
+    requires { AtLine text.now cursor header }
     ensures { LineAnswer text.now (read_line split_sheet (signature_line header) (place_at text.now cursor)) result }
 {
     if cursor.at_end(text) {

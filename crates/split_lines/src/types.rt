@@ -1,11 +1,10 @@
 // The type line of a split sheet.
-ghost use Rattle.std.specs.Prelude.{◌≡◌, [], ◌∷◌};
+ghost use Rattle.std.specs.Prelude.{◌≡◌, [], ◌∷◌, ◌<◌};
 ghost use Rattle.spec.specs.Reading.{split_sheet, read_line};
 ghost use Rattle.spec.specs.Split.{type_line};
 ghost use Rattle.lexer.specs.Cursors.{place_at};
-ghost use Rattle.split_fields.specs.Answers.{LineAnswer};
+ghost use Rattle.split_fields.specs.Answers.{AtLine, LineAnswer};
 ghost use Rattle.split_lines.specs.TypeLines.{type_seen};
-ghost use Rattle.split_lines.specs.TypeAnswers.{AtType};
 
 use keywords::TypeWord;
 use lexer::Cursor;
@@ -52,7 +51,7 @@ pub fn type_line(
     own: TypeNumber,
     header: Header,
 ) -> Result<(TypeLine, Cursor), Refusal>
-    requires { AtType text.now cursor header own.0 }
+    requires { AtLine text.now cursor header × own.0 < 64 }
     ensures { LineAnswer text.now (read_line split_sheet (type_line header own.0) (place_at text.now cursor)) result }
 {
     if cursor.at_end(text) {

@@ -9,7 +9,7 @@ use Rattle.split.proofs.Loops.{signatures_on}
 use Rattle.split.proofs.signature_lines.read_signatures.Goals as goal
 
 pub loop-f-init : goal.loop-f-init
-loop-f-init c = first_stage (signatures_empty c.args.work.now c.told-work) c.requires.storing.reading.placed
+loop-f-init c = first_stage (signatures_empty c.args.work.now c.told-work) c.requires.0.reading.placed
 
 pub returns-in_err-signature : goal.returns-in_err-signature
 returns-in_err-signature c =
@@ -19,7 +19,7 @@ returns-in_err-signature c =
 
 pub loop-f-preserved : goal.loop-f-preserved
 loop-f-preserved c =
-    signatures_on c.requires.few c.told-work c.loop-f.invariant c.loop-f-test.true c.in_ok-signature.ensures.0 c.in_ok-signature.ensures.1 c.store_signature.ensures
+    signatures_on c.requires.1 c.told-work c.loop-f.invariant c.loop-f-test.true c.in_ok-signature.ensures.0 c.in_ok-signature.ensures.1 c.store_signature.ensures
 
 pub returns : goal.returns
 returns c = stages_done c.loop-f.invariant (signatures_numbered c.args.header c.args.procedures) (omega arith)

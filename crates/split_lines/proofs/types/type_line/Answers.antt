@@ -21,14 +21,14 @@ returns-in_err-kind c =
 pub numbers-requires : goal.numbers-requires
 numbers-requires c =
     let head = subst (HeadAnswer _ _) c.in_ok-field.ensures.ok_part c.first_field.ensures in
-    comma_placed _ _ _ c.requires.reading.placed head.1 head.2
+    comma_placed _ _ _ c.requires.0.reading.placed head.1 head.2
 
 pub returns-in_err-next : goal.returns-in_err-next
 returns-in_err-next c =
     let head = subst (HeadAnswer _ _) c.in_ok-field.ensures.ok_part c.first_field.ensures in
     let known = ap type_word_of (sym head.0) ∙ sym c.type_word.ensures ∙ c.in_ok-kind.ensures.ok_part in
     rw (exit _ c.from_residual-in_err-next.result c.in_err-next.ensures.value c.from_residual-in_err-next.ensures.1)
-    (type_malformed _ _ _ _ (sym c.if-at_end.ensures) c.requires.reading.placed head.1 head.2 _ known c.numbers.ensures refl c.in_err-next.ensures.ok_part)
+    (type_malformed _ _ _ _ (sym c.if-at_end.ensures) c.requires.0.reading.placed head.1 head.2 _ known c.numbers.ensures refl c.in_err-next.ensures.ok_part)
 
 pub returns-in_err-t : goal.returns-in_err-t
 returns-in_err-t c =
@@ -36,11 +36,11 @@ returns-in_err-t c =
     let known = ap type_word_of (sym head.0) ∙ sym c.type_word.ensures ∙ c.in_ok-kind.ensures.ok_part in
     rw (exit _ c.from_residual-in_err-t.result c.in_err-t.ensures.value c.from_residual-in_err-t.ensures.1)
     (rw (← c.type_of.ensures, c.in_err-t.ensures.ok_part) at
-    (type_read c.args.header c.args.own.0 _ _ (sym c.if-at_end.ensures) c.requires.reading.placed head.1 head.2 _ known c.numbers.ensures refl c.requires.small c.requires.numbered c.in_ok-next.ensures.ok_part))
+    (type_read c.args.header c.args.own.0 _ _ (sym c.if-at_end.ensures) c.requires.0.reading.placed head.1 head.2 _ known c.numbers.ensures refl c.requires.0.small c.requires.1 c.in_ok-next.ensures.ok_part))
 
 pub returns : goal.returns
 returns c =
     let head = subst (HeadAnswer _ _) c.in_ok-field.ensures.ok_part c.first_field.ensures in
     let known = ap type_word_of (sym head.0) ∙ sym c.type_word.ensures ∙ c.in_ok-kind.ensures.ok_part in
     rw (← c.type_of.ensures, c.in_ok-t.ensures.ok_part) at
-    (type_read c.args.header c.args.own.0 _ _ (sym c.if-at_end.ensures) c.requires.reading.placed head.1 head.2 _ known c.numbers.ensures refl c.requires.small c.requires.numbered c.in_ok-next.ensures.ok_part)
+    (type_read c.args.header c.args.own.0 _ _ (sym c.if-at_end.ensures) c.requires.0.reading.placed head.1 head.2 _ known c.numbers.ensures refl c.requires.0.small c.requires.1 c.in_ok-next.ensures.ok_part)
