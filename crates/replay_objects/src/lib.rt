@@ -35,6 +35,7 @@ pub struct Slot {
 }
 
 impl Slot {
+    // The numbers of a thing.
     #[tactic(auto, unfolding(crate::specs::Stored::numbers_of))]
     pub fn of(x: Thing) -> Slot
         ensures { result ≡ numbers_of x }
@@ -55,7 +56,7 @@ impl Slot {
         }
     }
 
-    // A kind that stands for none names nothing.
+    // The thing of these numbers; a kind that stands for none names nothing.
     #[tactic(auto, unfolding(crate::specs::Stored::thing_of))]
     pub fn thing(self) -> Thing
         ensures { result ≡ thing_of self }
