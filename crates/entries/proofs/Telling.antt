@@ -1,41 +1,40 @@
--- What the numbers of a kept run promise: all that those of `racecheck_replay` do.
+-- What the numbers that are stored of a replay promise.
+use Rattle.std.proofs.Common.{None}
 use Prim.Native.Nat.{ℕ}
 use mathlib.Core.Path.{◌≡◌, sym, ◌∙◌, ap, subst}
 use mathlib.Core.List.{List}
-use lib.ListN.{length}
 use Rattle.spec.specs.Verdict.{verdict}
 use Rattle.spec.specs.declared.Answer.TheVariants.{Accept}
 use Rattle.spec.specs.declared.Refusal.TheVariants.{ShortWorkspace}
-use Rattle.replay_theory.specs.declared.FirstRace.TheVariants.{None}
+use Rattle.replay_theory.specs.declared.Numbers.{Numbers}
 use Rattle.replay_theory.specs.Replay.{replay, refused, returned_for}
 use Rattle.replay_theory.specs.Claim.{TraceFollowed, RaceFound}
 use Rattle.replay_theory.proofs.Reported.{trace_is_followed, race_is_found, none_if_accepted}
-use Rattle.replay_answers.specs.Numbers.{race_numbers, Stored}
+use Rattle.replay_answers.specs.declared.RaceNumbers.{RaceNumbers}
+use Rattle.replay_answers.specs.Numbers.{answer_told, race_told, race_numbers, Stored}
 use Rattle.replay_kept.specs.declared.numbers.Told.{Told}
 use Rattle.replay_kept.specs.Kept.{told_numbers}
-use Rattle.replay_pieces.specs.Pieces.{KeptRun}
 
-module _ (run : List ℕ) (t : Told) (told : (program trace job space : List ℕ) → KeptRun program trace job space run → t ≡ told_numbers (replay (length space) program trace)) where
-  pub answers : (program trace job space : List ℕ) → KeptRun program trace job space run → t.ending ≡ returned_for (replay (length space) program trace).ending
-  unfolding told_numbers
-  answers program trace job space K = ap (λ (x : Told). x.ending) (told program trace job space K)
+-- The four numbers of the answer, the steps and the three numbers of the race are those of what is told.
+module _ {t : Told} {a : Numbers} {steps state first second : ℕ} (S : (a ≡ t.ending) × (steps ≡ t.steps) × (race_told state first second ≡ t.race)) where
+  module _ (room : ℕ) (program trace : List ℕ) (e : t ≡ told_numbers (replay room program trace)) where
+    pub answers : a ≡ returned_for (replay room program trace).ending
+    unfolding told_numbers
+    answers = S.0 ∙ ap (λ (x : Told). x.ending) e
 
-  pub reports : (program trace job space : List ℕ) → KeptRun program trace job space run →
-      (t.steps ≡ (replay (length space) program trace).report.steps) × (t.race ≡ race_numbers (replay (length space) program trace).report.race)
-  unfolding told_numbers
-  reports program trace job space K = (ap (λ (x : Told). x.steps) (told program trace job space K), ap (λ (x : Told). x.race) (told program trace job space K))
+    pub reports : (steps ≡ (replay room program trace).report.steps) × (race_told state first second ≡ race_numbers (replay room program trace).report.race)
+    unfolding told_numbers
+    reports = (S.1 ∙ ap (λ (x : Told). x.steps) e, S.2 ∙ ap (λ (x : Told). x.race) e)
 
-  pub stops : (program trace job space : List ℕ) → KeptRun program trace job space run → TraceFollowed (length space) program trace t.steps t.ending
-  unfolding told_numbers
-  stops program trace job space K =
-      subst (λ (x : Told). TraceFollowed (length space) program trace x.steps x.ending) (sym (told program trace job space K)) (trace_is_followed (length space) program trace)
+    pub stops : TraceFollowed room program trace steps a
+    stops = rw (reports.0, answers) (trace_is_followed room program trace)
 
-  pub first_race : (program trace job space : List ℕ) → KeptRun program trace job space run → Stored (RaceFound (length space) program trace) t.race.state t.race.first t.race.second
-  first_race program trace job space K = record { race = _; told = (reports program trace job space K).1; holds = race_is_found (length space) program trace }
+    pub first_race : Stored (RaceFound room program trace) state first second
+    first_race = record { race = _; told = reports.1; holds = race_is_found room program trace }
 
-  pub safe : (program trace job space : List ℕ) → KeptRun program trace job space run → (room : ℕ) (split : List ℕ) → verdict room program split ≡ Accept → t.race ≡ race_numbers None
-  safe program trace job space K room split accepted = (reports program trace job space K).1 ∙ ap race_numbers (none_if_accepted (length space) program trace room split accepted)
+    pub safe : (other : ℕ) (split : List ℕ) → verdict other program split ≡ Accept → race_told state first second ≡ race_numbers None
+    safe other split accepted = reports.1 ∙ ap race_numbers (none_if_accepted room program trace other split accepted)
 
-pub short_told : (t : Told) → t ≡ told_numbers (refused ShortWorkspace) → (t.ending ≡ returned_for (refused ShortWorkspace).ending) × (t.steps ≡ 0) × (t.race ≡ race_numbers None)
-unfolding told_numbers refused
-short_told t e = (ap (λ (x : Told). x.ending) e, ap (λ (x : Told). x.steps) e, ap (λ (x : Told). x.race) e)
+  pub short_told : t ≡ told_numbers (refused ShortWorkspace) → (a ≡ returned_for (refused ShortWorkspace).ending) × (steps ≡ 0) × (race_told state first second ≡ race_numbers None)
+  unfolding told_numbers refused
+  short_told e = (S.0 ∙ ap (λ (x : Told). x.ending) e, S.1 ∙ ap (λ (x : Told). x.steps) e, S.2 ∙ ap (λ (x : Told). x.race) e)

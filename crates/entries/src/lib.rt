@@ -2,7 +2,7 @@
 // are stored. The crate `entries_c` exports them to C.
 #![tactic(auto)]
 
-ghost use Rattle.std.specs.Prelude.{◌≡◌, List, [], ◌++◌, true, false, ◌↔◌, ℕ, ◌+◌, ◌≤◌, ◌<◌, length, take, drop};
+ghost use Rattle.std.specs.Prelude.{◌≡◌, None, List, [], ◌++◌, true, false, ◌↔◌, ℕ, ◌+◌, ◌≤◌, ◌<◌, length, take, drop};
 ghost use Rattle.spec.specs.Program.{Program};
 ghost use Rattle.spec.specs.Split.{Map, Split};
 ghost use Rattle.spec.specs.Accepted.{Right};
@@ -17,7 +17,6 @@ ghost use Rattle.soundness.specs.EitherOrderText.{EitherOrderText};
 ghost use Rattle.checker.specs.Promise.{RefutedAs};
 ghost use Rattle.fill_theory.specs.AfterMaps.{AfterMaps};
 ghost use Rattle.fill_theory.specs.Answer.{fill as filling, returned_for, buffer_after, Fillable, FilledSheet, GreatestOverLimits};
-ghost use Rattle.replay_theory.specs.declared.FirstRace.TheVariants.{None};
 ghost use Rattle.spec.specs.declared.Refusal.TheVariants.{ShortWorkspace};
 ghost use Rattle.replay_theory.specs.Replay.{replay_space, replay as replayed, refused as refused_by, returned_for as ending_numbers};
 ghost use Rattle.replay_theory.specs.Claim.{TraceFollowed, RaceFound};
@@ -26,8 +25,47 @@ ghost use Rattle.replay.specs.Pieces.{ends_line, job_size};
 ghost use Rattle.replay_kept.specs.Kept.{kept_size};
 ghost use Rattle.replay_pieces.specs.Pieces.{roomy, answer_number, FrontUsed, KeptRun};
 
-use fill::Filled;
-use spec::Answer;
+use replay_kept::Told;
+use spec::{Answer, Returned};
+
+// Stores three of the numbers of an answer, and returns the first.
+#[tactic(auto, unfolding(spec::specs::Verdict::numbers4))]
+fn store_answer(
+    four: Returned,
+    line: &mut u32,
+    condition: &mut u32,
+    location: &mut u32,
+) -> u32
+    ensures { numbers4 result line.new condition.new location.new ≡ four }
+{
+    *line = four.line;
+    *condition = four.condition;
+    *location = four.location;
+    four.number
+}
+
+// Stores what a replay tells but for the number of its answer, which is returned.
+fn store_told(
+    told: Told,
+    line: &mut u64,
+    condition: &mut u32,
+    location: &mut u32,
+    steps: &mut u64,
+    state: &mut u64,
+    first: &mut u32,
+    second: &mut u32,
+) -> u32
+    ensures { (answer_told result line.new condition.new location.new ≡ told.ending) × (steps.new ≡ told.steps) × (race_told state.new first.new second.new ≡ told.race) }
+{
+    *line = told.ending.line as u64;
+    *condition = told.ending.condition;
+    *location = told.ending.location;
+    *steps = told.steps as u64;
+    *state = told.race.state as u64;
+    *first = told.race.first;
+    *second = told.race.second;
+    told.ending.number
+}
 
 // The answer to a pair of texts: `check` of the crate `checker`, clause by clause.
 pub fn racecheck_check(
@@ -47,10 +85,7 @@ pub fn racecheck_check(
     ensures either_order { numbers4 result line.new condition.new location.new ≡ numbers4 0 0 0 0 → EitherOrderText program.now }
 {
     let four = answers::numbers_of(checker::check(program, split, work));
-    *line = four.line;
-    *condition = four.condition;
-    *location = four.location;
-    four.number
+    store_answer(four, line, condition, location)
 }
 
 // The practice pair of a seed: `drill` of the crate `drill`, clause by clause. On 38 the three numbers stored are 0.
@@ -103,18 +138,15 @@ pub fn racecheck_fill(
     ensures accepted { result ≡ 0 → verdict (length work.old) program.now (take length_or_line.new out.new) ≡ Accept }
 {
     match fill::fill(program, split, work, out) {
-        Filled::Written(length) => {
+        Ok(length) => {
             *length_or_line = length;
             *condition = 0;
             *location = 0;
             0
         }
-        Filled::Refused(r) => {
+        Err(r) => {
             let four = answers::numbers_of(Answer::Refuse(r));
-            *length_or_line = four.line;
-            *condition = four.condition;
-            *location = four.location;
-            four.number
+            store_answer(four, length_or_line, condition, location)
         }
     }
 }
@@ -142,20 +174,8 @@ pub fn racecheck_replay(
     ensures first_race { Stored (RaceFound (length space.old) program.now trace.now) state.new first.new second.new }
     ensures safe { (room : ℕ) (split : List ℕ) → verdict room program.now split ≡ Accept → race_told state.new first.new second.new ≡ race_numbers None }
 {
-    let r = replay::replay(program, trace, space);
-    let ending = r.ending;
-    let report = r.report;
-    let race = report.race;
-    let four = replay_answers::ending_numbers(ending);
-    let pair = replay_answers::race_numbers(race);
-    *line = four.line as u64;
-    *condition = four.condition;
-    *location = four.location;
-    *steps = report.steps as u64;
-    *state = pair.state as u64;
-    *first = pair.first;
-    *second = pair.second;
-    four.number
+    let told = Told::from(replay::replay(program, trace, space));
+    store_told(told, line, condition, location, steps, state, first, second)
 }
 
 // The same of a trace that comes in pieces, all of it kept in three lent buffers: `begin` of the crate `replay_pieces`, clause by clause.
@@ -208,14 +228,5 @@ pub fn racecheck_replay_told(
     ensures safe { (program trace job space : List ℕ) → KeptRun program trace job space run.now → (room : ℕ) (split : List ℕ) → verdict room program split ≡ Accept → race_told state.new first.new second.new ≡ race_numbers None }
 {
     let told = replay_pieces::told(run);
-    let answer = told.ending;
-    let race = told.race;
-    *line = answer.line as u64;
-    *condition = answer.condition;
-    *location = answer.location;
-    *steps = told.steps as u64;
-    *state = race.state as u64;
-    *first = race.first;
-    *second = race.second;
-    answer.number
+    store_told(told, line, condition, location, steps, state, first, second)
 }

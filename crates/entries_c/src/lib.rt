@@ -2,7 +2,7 @@
 // length to C.
 #![tactic(auto)]
 
-ghost use Rattle.std.specs.Prelude.{◌≡◌, List, [], ◌++◌, true, false, ◌↔◌, ℕ, ◌+◌, ◌≤◌, ◌<◌, length, take, drop};
+ghost use Rattle.std.specs.Prelude.{◌≡◌, None, List, [], ◌++◌, true, false, ◌↔◌, ℕ, ◌+◌, ◌≤◌, ◌<◌, length, take, drop};
 ghost use Rattle.spec.specs.Program.{Program};
 ghost use Rattle.spec.specs.Split.{Map, Split};
 ghost use Rattle.spec.specs.Accepted.{Right};
@@ -17,7 +17,6 @@ ghost use Rattle.soundness.specs.EitherOrderText.{EitherOrderText};
 ghost use Rattle.checker.specs.Promise.{RefutedAs};
 ghost use Rattle.fill_theory.specs.AfterMaps.{AfterMaps};
 ghost use Rattle.fill_theory.specs.Answer.{fill as filling, returned_for, buffer_after, Fillable, FilledSheet, GreatestOverLimits};
-ghost use Rattle.replay_theory.specs.declared.FirstRace.TheVariants.{None};
 ghost use Rattle.spec.specs.declared.Refusal.TheVariants.{ShortWorkspace};
 ghost use Rattle.replay_theory.specs.Replay.{replay_space, replay as replayed, refused as refused_by, returned_for as ending_numbers};
 ghost use Rattle.replay_theory.specs.Claim.{TraceFollowed, RaceFound};

@@ -5,14 +5,14 @@ use Rattle.entries.proofs.racecheck_replay_told.Goals as goal
 
 pub returns : goal.returns
 returns c =
-    let t = c.told-told.result in
+    let S = c.store_told.ensures in
     let told = c.told-told.ensures.answer in
     record {
-      answer = telling.answers _ t told;
-      report = telling.reports _ t told;
-      short = λ l. telling.short_told t (c.told-told.ensures.short l);
+      answer = λ program trace job space K. telling.answers S _ _ _ (told program trace job space K);
+      report = λ program trace job space K. telling.reports S _ _ _ (told program trace job space K);
+      short = λ l. telling.short_told S (c.told-told.ensures.short l);
       unchanged = refl;
-      stops = telling.stops _ t told;
-      first_race = telling.first_race _ t told;
-      safe = telling.safe _ t told;
+      stops = λ program trace job space K. telling.stops S _ _ _ (told program trace job space K);
+      first_race = λ program trace job space K. telling.first_race S _ _ _ (told program trace job space K);
+      safe = λ program trace job space K. telling.safe S _ _ _ (told program trace job space K);
     }
