@@ -9,8 +9,5 @@ returns-in_err-held c =
     let p = err_from_is_err_and c.from_residual.result c.from_residual.ensures.1 in
     rw (p.1, p.2) (sheet_refused _ _ _ c.in_err-held.ensures)
 
-pub check-requires : goal.check-requires
-check-requires c = ?
-
 pub returns : goal.returns
 returns c = sheets_ruled _ _ _ _ _ _ c.in_ok-held.ensures c.check.ensures
