@@ -1,4 +1,3 @@
-pub mod Tests
 pub mod LineLaws
 pub mod FieldsInTurn
 pub mod StartLaws

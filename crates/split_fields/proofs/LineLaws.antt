@@ -7,9 +7,9 @@ use mathlib.Core.List.{List}
 use mathlib.Core.Bool.{true, false}
 use Prim.Native.Nat.{ℕ, ◌+◌}
 use Rattle.spec.specs.Text.{lines, Line, Field}
-use Rattle.spec.specs.Reading.{split_sheet, LineResult, good, bad, bad_form, bad_range, form, outside, miscounted, faulty, passed, read_line, end}
+use Rattle.spec.specs.Reading.{split_sheet, LineResult, good, bad, bad_range, outside, miscounted, faulty, passed, read_line, end}
 use Rattle.spec.specs.declared.Refusal.{Refusal}
-use Rattle.spec.specs.declared.Refusal.TheVariants.{SplitForm, SplitRange, SplitLines}
+use Rattle.spec.specs.declared.Refusal.TheVariants.{SplitRange, SplitLines}
 use Rattle.lexer.specs.Views.{end_of, first_field, text_ended, with_field, line_at}
 use Rattle.lexer.specs.Cursors.{Placed, rest, behind_field, place_at}
 use Rattle.lexer.specs.declared.Cursor.{Cursor}
@@ -37,10 +37,6 @@ module _ (text : List ℕ) (c : Cursor) where
 -- ------------------------------------------------------------------ what a line shows
 
 module _ {A : Type 0} (k : ℕ) (l : List Line) where
-  pub shows_form : {s : LineResult A} → s ≡ bad bad_form → passed split_sheet k l s ≡ Err (SplitForm k)
-  unfolding faulty passed form
-  shows_form e = rw e
-
   pub shows_range : {s : LineResult A} → s ≡ bad bad_range → passed split_sheet k l s ≡ Err (SplitRange k)
   unfolding faulty passed outside
   shows_range e = rw e

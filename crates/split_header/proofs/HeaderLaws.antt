@@ -11,7 +11,7 @@ use lib.Seq.{length-take-le}
 use borrow.Author.Tests.{leb-true, leb-false, lt-leb}
 use Rattle.spec.specs.Choice.{when◌then◌else◌}
 use Rattle.spec.specs.Text.{Field, look_up, lines}
-use Rattle.spec.specs.Reading.{split_sheet, LineResult, good, bad, bad_form, bad_range, seen, in_range, all_in_range, numerals, numbers, form, passed, next_line, read_line, or_bad_form}
+use Rattle.spec.specs.Reading.{split_sheet, LineResult, good, bad, bad_form, bad_range, seen, Range, in_range, all_in_range, numerals, numbers, form, passed, next_line, read_line, or_bad_form}
 use Rattle.spec.specs.Split.{headings, header_ranges, maps_of, maps_in, start_of, header_of, header_line}
 use Rattle.spec.specs.declared.Header.{Header}
 use Rattle.spec.specs.declared.Heading.{Heading}
@@ -30,7 +30,7 @@ use Rattle.lexer.proofs.Walks.{first_wrong, first_alone, left_some}
 use Rattle.lexer.proofs.Sheets.{next_at}
 use Rattle.workspace.specs.Sheets.{Small}
 use Rattle.split_header.specs.Header.{numerals_of, header_fits}
-use Rattle.split_fields.proofs.Tests.{range_parts}
+use Rattle.spec.proofs.Tests.{both_true}
 use Rattle.split_fields.proofs.LineLaws.{shows_range, shows_entry, comma_line, comma_kept, exit}
 
 -- ------------------------------------------------------------------ the numerals after it
@@ -89,6 +89,10 @@ module _ (h : Heading) (ns : List ℕ) (n : ℕ) (l t m : ℕ) where
       filled (numbers_of h ns e) ∙ ap (λ (k : ℕ). in_places h (ns ++ drop k places)) (sym all) ∙ sym (rw (el, et, em))
 
 -- ------------------------------------------------------------------ the ranges
+
+range_parts : (r : Range) (rs : List Range) (n : ℕ) (ns : List ℕ) → all_in_range (r ∷ rs) (n ∷ ns) ≡ true → (in_range r n ≡ true) × (all_in_range rs ns ≡ true)
+unfolding all_in_range
+range_parts r rs n ns h = both_true (in_range r n) (all_in_range rs ns) h
 
 pub header_small : (h : Header) → header_fits h ≡ true → Small h
 unfolding header_fits header_ranges

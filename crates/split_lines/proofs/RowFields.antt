@@ -7,7 +7,7 @@ use mathlib.Core.Bool.{Bool, true, false, and-false}
 use Prim.Native.Nat.{ℕ, ◌≤◌}
 use native.Mathlib.Omega.{arith}
 use lib.ListN.{length}
-use borrow.Author.Tests.{eq-eqb}
+use borrow.Author.Tests.{eq-eqb, le-ltb}
 use Rattle.spec.specs.Choice.{when◌then◌else◌}
 use Rattle.spec.specs.Text.{bytes, Field, digit_limit, digits, leading_zero, value, numeral}
 use Rattle.spec.specs.Reading.{LineResult, good, bad, bad_form, bad_range, seen, ensure, Range, below, in_range, all_in_range, with_numeral, numerals, numbers, or_bad_form}
@@ -20,7 +20,6 @@ use Rattle.spec.specs.declared.Word.{Word}
 use Rattle.lexer.specs.Numbers.{stored, Spells}
 use Rattle.lexer.proofs.Stored.{AllNarrow, stored_judged}
 use Rattle.split_fields.specs.Answers.{PostSpells}
-use Rattle.split_fields.proofs.Tests.{out_below}
 use Rattle.split_fields.specs.Starts.{start_limit}
 use Rattle.split_lines.specs.RowLines.{word_line}
 
@@ -130,6 +129,10 @@ zero_spelled = refl
 zero_stored : stored 0 ≡ 0
 unfolding stored
 zero_stored = refl
+
+out_below : (k n : ℕ) → k ≤ n → in_range (below k) n ≡ false
+unfolding in_range
+out_below k n h = le-ltb _ _ h
 
 -- a second number that is in no range
 second_out : (r₁ r₂ : Range) (rs : List Range) (a b : ℕ) (ns : List ℕ) → in_range r₂ b ≡ false → judged (r₁ ∷ r₂ ∷ rs) (a ∷ b ∷ ns) ≡ bad bad_range
