@@ -30,12 +30,7 @@ use spec::{Answer, Returned};
 
 // Stores three of the numbers of an answer, and returns the first.
 #[tactic(auto, unfolding(spec::specs::Verdict::numbers4))]
-fn store_answer(
-    four: Returned,
-    line: &mut u32,
-    condition: &mut u32,
-    location: &mut u32,
-) -> u32
+fn store_answer(four: Returned, line: &mut u32, condition: &mut u32, location: &mut u32) -> u32
     ensures { numbers4 result line.new condition.new location.new ≡ four }
 {
     *line = four.line;

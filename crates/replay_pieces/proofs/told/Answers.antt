@@ -13,5 +13,5 @@ returns-in-None c = record {
 }
 
 pub returns-in-Some-clause-answer : goal.returns-in-Some-clause-answer
-returns-in-Some-clause-answer c = λ program trace job space K. 
+returns-in-Some-clause-answer c = λ program trace job space K.
     c.told_in.ensures ∙ rw c.in-Some.ensures.cases.same (answer_in program trace _ space _ K.held)
