@@ -1,16 +1,16 @@
 // The steps in line order. Each is judged once the map before it is known, and hands down the maps before its parts.
 #![tactic(auto)]
 
-ghost use Rattle.std.specs.Prelude.{◌≡◌, ◌+◌, ◌-◌, ◌<◌, length};
+ghost use Rattle.std.specs.Prelude.{◌≡◌, ◌+◌, ◌-◌, ◌<◌};
 ghost use Rattle.spec.specs.Words.{pre_of_part, pre_of_second};
-ghost use Rattle.workspace.specs.Layout.{pres_at, work_size};
+ghost use Rattle.workspace.specs.Layout.{pres_at};
 ghost use Rattle.workspace.specs.Region.{ChangedWithin};
 ghost use Rattle.step_walk.specs.Walk.{refuses_types, counted, put_pre, pass_on, walk};
 
 use rule_rows::cell;
 use rule_table::check_step;
 use spec::{BinaryWord, MapNumber, Purpose, Refusal, UnaryWord, Word};
-use workspace::{ENDS, POSTS, PRES, STARTS, WORDS, index, word_of};
+use workspace::{ENDS, POSTS, PRES, SIZE, STARTS, WORDS, index, word_of};
 
 // What the conditions are judged for, and by which numbers of the split's header.
 #[derive(Clone, Copy)]
@@ -41,8 +41,7 @@ pub fn counted(purpose: Purpose, outcome: Result<(), Refusal>) -> Result<(), Ref
 
 // The map before a step, for one of the 256 that there may be.
 #[tactic(auto, unfolding(crate::specs::Walk::put_pre))]
-fn put_pre(work: &mut [u32], i: u32, m: MapNumber)
-    requires { length work.old ≡ work_size }
+fn put_pre(work: &mut [u32; SIZE], i: u32, m: MapNumber)
     ensures { work.new ≡ put_pre work.old i m }
 {
     if i < 256 {
@@ -75,8 +74,8 @@ fn pre_of_second(w: BinaryWord, pre: MapNumber, post1: MapNumber, start: MapNumb
 
 // The maps before the parts of step k.
 #[tactic(auto, unfolding(crate::specs::Walk::pass_on, crate::specs::Walk::pass_word))]
-fn pass_on(work: &mut [u32], k: u32)
-    requires { (length work.old ≡ work_size) × (k < 4294967295) }
+fn pass_on(work: &mut [u32; SIZE], k: u32)
+    requires { k < 4294967295 }
     ensures { work.new ≡ pass_on work.old k }
 {
     match word_of(cell(work, WORDS, k)) {
@@ -100,13 +99,12 @@ fn pass_on(work: &mut [u32], k: u32)
 // 31 to 33, or 31 alone when filling, of an expression: its steps in line order, from one index up to another, each judged once
 // the map before it is known; pre is the one before the first.
 pub fn check_steps(
-    work: &mut [u32],
+    work: &mut [u32; SIZE],
     how: Judging,
     from: u32,
     to: u32,
     pre: MapNumber,
 ) -> Result<(), Refusal>
-    requires { length work.old ≡ work_size }
     ensures { (result ≡ walk how (put_pre work.old from pre) from (to - from)) × ChangedWithin pres_at (pres_at + 256) work.old work.new }
 {
     put_pre(work, from, pre);

@@ -1,6 +1,6 @@
 // The bodies of the procedures, called or not, then the root.
-ghost use Rattle.std.specs.Prelude.{◌≡◌, ◌+◌, ◌≤◌, length};
-ghost use Rattle.workspace.specs.Layout.{pres_at, work_size};
+ghost use Rattle.std.specs.Prelude.{◌≡◌, ◌+◌, ◌≤◌};
+ghost use Rattle.workspace.specs.Layout.{pres_at};
 ghost use Rattle.workspace.specs.Region.{ChangedWithin};
 ghost use Rattle.walk.specs.Bodies.{procedure_outcome, body_outcome};
 ghost use Rattle.walk.specs.Contract.{BodiesRuled, ProgramRuled};
@@ -9,7 +9,7 @@ use rule_rows::{cell, signature_of};
 use sequential_rules::check_procedure;
 use spec::{MapNumber, Refusal, TypeNumber};
 use step_walk::{Judging, check_steps, counted};
-use workspace::{POSTS, PROC_FIRSTS, PROC_LINES, ROW_TYPES};
+use workspace::{POSTS, PROC_FIRSTS, PROC_LINES, ROW_TYPES, SIZE};
 
 // The conditions at the `proc` line of procedure f.
 #[tactic(auto, unfolding(crate::specs::Bodies::procedure_outcome))]
@@ -29,8 +29,7 @@ fn check_proc_line(work: &[u32], locations: u32, f: u32) -> Result<(), Refusal>
 
 // Procedure f: the conditions at its line, then those of its body, whose pre is before.
 #[tactic(auto, using(workspace::proofs::Region::changed_nothing), unfolding(crate::specs::Bodies::body_outcome, conditions::specs::Outcome::both))]
-fn check_body(work: &mut [u32], how: Judging, f: u32) -> Result<(), Refusal>
-    requires { length work.old ≡ work_size }
+fn check_body(work: &mut [u32; SIZE], how: Judging, f: u32) -> Result<(), Refusal>
     ensures { (result ≡ body_outcome how work.old f) × ChangedWithin pres_at (pres_at + 256) work.old work.new }
 {
     counted(how.purpose, check_proc_line(work, how.locations, f))?;
@@ -41,8 +40,8 @@ fn check_body(work: &mut [u32], how: Judging, f: u32) -> Result<(), Refusal>
 }
 
 // Every procedure in line order.
-fn check_bodies(work: &mut [u32], how: Judging, procedures: u32) -> Result<(), Refusal>
-    requires { (length work.old ≡ work_size) × (procedures ≤ 16) }
+fn check_bodies(work: &mut [u32; SIZE], how: Judging, procedures: u32) -> Result<(), Refusal>
+    requires { procedures ≤ 16 }
     ensures { BodiesRuled work.old how procedures result work.new }
 {
     for f in 0..procedures {
@@ -53,13 +52,13 @@ fn check_bodies(work: &mut [u32], how: Judging, procedures: u32) -> Result<(), R
 
 // 31 to 33, or 31 alone when filling: the procedures, then the root, whose pre is the start.
 pub(crate) fn check_program(
-    work: &mut [u32],
+    work: &mut [u32; SIZE],
     how: Judging,
     steps: u32,
     procedures: u32,
     start: MapNumber,
 ) -> Result<(), Refusal>
-    requires { (length work.old ≡ work_size) × (steps ≤ 256) × (procedures ≤ 16) }
+    requires { (steps ≤ 256) × (procedures ≤ 16) }
     ensures { ProgramRuled work.old how steps procedures start.0 result work.new }
 {
     check_bodies(work, how, procedures)?;

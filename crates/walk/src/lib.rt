@@ -4,8 +4,7 @@
 
 mod bodies;
 
-ghost use Rattle.std.specs.Prelude.{◌≡◌, ◌≤◌, length};
-ghost use Rattle.workspace.specs.Layout.{work_size};
+ghost use Rattle.std.specs.Prelude.{◌≤◌};
 ghost use Rattle.walk.specs.Contract.{Ruled};
 
 use bodies::check_program;
@@ -13,18 +12,18 @@ use conditions::{check_locks, check_start};
 use rule_rows::cell;
 use spec::{Header, Purpose, Refusal};
 use step_walk::Judging;
-use workspace::{LINES, PROC_FIRSTS};
+use workspace::{LINES, PROC_FIRSTS, SIZE};
 
 // The first reason of 44 and 30 to 33 for the sheets that the work space holds, when filling of 44, 30 and 31. It notes the maps
 // before steps there, and changes nothing else.
 pub fn check(
-    work: &mut [u32],
+    work: &mut [u32; SIZE],
     purpose: Purpose,
     steps: usize,
     procedures: usize,
     header: Header,
 ) -> Result<(), Refusal>
-    requires { (length work.old ≡ work_size) × (steps ≤ 256) × (procedures ≤ 16) × (header.locations ≤ 16) × (header.types ≤ 64) }
+    requires { (steps ≤ 256) × (procedures ≤ 16) × (header.locations ≤ 16) × (header.types ≤ 64) }
     ensures { Ruled work.old purpose steps procedures header result work.new }
 {
     let how = Judging {

@@ -10,7 +10,7 @@ pub loop-k-init : goal.loop-k-init
 loop-k-init c =
     let put = put_within c.args.work.now c.args.from c.args.pre in
     record {
-      long = rw c.put_pre.ensures (put.long ∙ c.requires);
+      long = c.put_pre.array_long;
       changed = rw c.put_pre.ensures put;
       rest = ap (λ (w : List ℕ). walk c.args.how w c.args.from (c.args.to - c.args.from)) (sym c.put_pre.ensures);
     }
