@@ -33,26 +33,33 @@ fn draw(x: u32) -> u32
     x.wrapping_mul(1_664_525).wrapping_add(1_013_904_223)
 }
 
-// The number of readers that a drawn number stands for, 1 to 31.
+// How many readers a pair has, 1 to 31.
+#[derive(Clone, Copy)]
+pub(crate) struct Readers {
+    pub count: u64,
+    pub ghost drawable: { Drawable count },
+}
+
+// The number of readers that a drawn number stands for.
 #[tactic(auto, unfolding(drill_theory::specs::Draw::readers))]
-fn readers(x: u32) -> u64
-    ensures { result ≡ readers_drawn x }
+fn readers_of(x: u32) -> Readers
+    ensures { result.count ≡ readers_drawn x }
 {
-    u64::from(1 + x / 65536 % 31)
+    Readers {
+        count: u64::from(1 + x / 65536 % 31),
+    }
 }
 
 // How long the program text of k readers is: it is written into a buffer without room.
-fn program_length(k: u64) -> u32
-    requires { Drawable k }
-    ensures { result ≡ length (program_text k) }
+fn program_length(k: Readers) -> u32
+    ensures { result ≡ length (program_text k.count) }
 {
     write_program(&mut [], k) as u32
 }
 
 // How long the split text of k readers is.
-fn split_length(k: u64) -> u32
-    requires { Drawable k }
-    ensures { result ≡ length (split_text k) }
+fn split_length(k: Readers) -> u32
+    ensures { result ≡ length (split_text k.count) }
 {
     write_split(&mut [], k) as u32
 }
@@ -70,7 +77,7 @@ pub fn drill(seed: u32, program: &mut [u8], split: &mut [u8]) -> Option<Drilled>
     ensures accepted { (returned_by result).number ≡ 0 → verdict workspace_size (take (returned_by result).program program.new) (take (returned_by result).split split.new) ≡ Accept }
 {
     let next = draw(seed);
-    let k = readers(next);
+    let k = readers_of(next);
     let program_size = program_length(k);
     let split_size = split_length(k);
     if program.len() < program_size as usize || split.len() < split_size as usize {

@@ -1,10 +1,10 @@
 // The program sheet of a practice pair.
 ghost use Rattle.std.specs.Prelude.{◌-◌};
 ghost use Rattle.writer.specs.Buffer.{Writes, WrittenAt};
-ghost use Rattle.drill_theory.specs.Draw.{Drawable};
 ghost use Rattle.drill_theory.specs.Pair.{program_text};
 ghost use Rattle.drill.specs.Lets.{let_text, lets_text};
 
+use crate::Readers;
 use writer::Writer;
 
 // Writes a let that binds v, and the lines of its value.
@@ -26,10 +26,10 @@ fn write_lets(writer: &mut Writer, value: &[u8], first: u64, end: u64)
 }
 
 // Writes the program text of k readers, and hands back its length.
-pub(crate) fn write_program(buffer: &mut [u8], k: u64) -> usize
-    requires { Drawable k }
-    ensures { WrittenAt buffer.old buffer.new 0 (program_text k) result }
+pub(crate) fn write_program(buffer: &mut [u8], readers: Readers) -> usize
+    ensures { WrittenAt buffer.old buffer.new 0 (program_text readers.count) result }
 {
+    let k = readers.count;
     let spawned = 2 + k;
     let mut writer = Writer::new(buffer);
     writer.bytes(b"P,");

@@ -2,9 +2,9 @@
 ghost use Rattle.std.specs.Prelude.{[], ◌∷◌, ◌≤◌};
 ghost use Rattle.text_theory.specs.Text.{text};
 ghost use Rattle.writer.specs.Buffer.{Writes, WrittenAt};
-ghost use Rattle.drill_theory.specs.Draw.{Drawable};
 ghost use Rattle.drill_theory.specs.Pair.{header, type_lines, row, start_row, falling_maps, spawn_rows, all_spawn_rows, join_rows, all_join_rows, split_text};
 
+use crate::Readers;
 use spec::{MapNumber, TypeNumber};
 use writer::Writer;
 
@@ -87,10 +87,10 @@ fn write_all_join_rows(writer: &mut Writer, count: u64)
 }
 
 // Writes the header and the type lines of k readers.
-fn write_head(writer: &mut Writer, k: u64)
-    requires { Drawable k }
-    ensures { Writes writer.old writer.new (text (header k ∷ type_lines k)) }
+fn write_head(writer: &mut Writer, readers: Readers)
+    ensures { Writes writer.old writer.new (text (header readers.count ∷ type_lines readers.count)) }
 {
+    let k = readers.count;
     writer.bytes(b"C,");
     writer.field(k, b',');
     writer.bytes(b"1,3,");
@@ -101,13 +101,13 @@ fn write_head(writer: &mut Writer, k: u64)
 }
 
 // Writes the split text of k readers, and hands back its length.
-pub(crate) fn write_split(buffer: &mut [u8], k: u64) -> usize
-    requires { Drawable k }
-    ensures { WrittenAt buffer.old buffer.new 0 (split_text k) result }
+pub(crate) fn write_split(buffer: &mut [u8], readers: Readers) -> usize
+    ensures { WrittenAt buffer.old buffer.new 0 (split_text readers.count) result }
 {
+    let k = readers.count;
     let share = MapNumber((k - 1) as u32);
     let mut writer = Writer::new(buffer);
-    write_head(&mut writer, k);
+    write_head(&mut writer, readers);
     write_maps(&mut writer, k + 1);
     writer.bytes(b"0,0,\n1,0,\n0,0,\n0,0,\n2,0,\n");
     write_all_spawn_rows(&mut writer, share, k);

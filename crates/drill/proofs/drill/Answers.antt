@@ -3,40 +3,27 @@ use mathlib.Core.Path.{ap, ◌∙◌}
 use native.Mathlib.Omega.{arith}
 use lib.ListN.{length}
 use Rattle.writer.specs.Buffer.{overwrite}
-use Rattle.drill_theory.proofs.Accepted.{readers_drawable}
 use Rattle.std.proofs.Common.{None}
 use Rattle.drill.proofs.Drilling.{Drills, program_of_lem, split_of_lem, program_short, split_short, both_written}
 use Rattle.drill.proofs.drill.Goals as goal
 use Rattle.drill.proofs.drill.Goals.{then-program-program_size-via-then-program-program_size, then-program-program_size-via-else-program-program_size+then-split-split_size}
 
-pub program_length-program_size-requires : goal.program_length-program_size-requires
-program_length-program_size-requires c = rw c.readers-k.ensures (readers_drawable _)
-
-pub split_length-split_size-requires : goal.split_length-split_size-requires
-split_length-split_size-requires c = rw c.readers-k.ensures (readers_drawable _)
-
 pub returns-then-program-program_size : goal.returns-then-program-program_size
 returns-then-program-program_size c =
     let d : Drills c.args.seed c.args.program.now c.args.split.now c.args.program.now c.args.split.now None = elim c.then-program-program_size.branch [
       | then-program-program_size-via-then-program-program_size w ↦
-          let p = program_of_lem _ _ _ c.draw-next.ensures c.readers-k.ensures in
+          let p = program_of_lem _ _ _ c.draw-next.ensures c.readers_of-k.ensures in
           program_short c.args.seed c.args.program.now c.args.split.now (omega (arith, c.program_length-program_size.ensures, ap length p))
       | then-program-program_size-via-else-program-program_size+then-split-split_size w ↦
-          let q = split_of_lem _ _ _ c.draw-next.ensures c.readers-k.ensures in
+          let q = split_of_lem _ _ _ c.draw-next.ensures c.readers_of-k.ensures in
           split_short c.args.seed c.args.program.now c.args.split.now (omega (arith, c.split_length-split_size.ensures, ap length q))
     ] in
     record { answer = d.0; written = d.1.0; unchanged = d.1.1.0; accepted = d.1.1.1 }
 
-pub write_program-requires : goal.write_program-requires
-write_program-requires c = rw c.readers-k.ensures (readers_drawable _)
-
-pub write_split-requires : goal.write_split-requires
-write_split-requires c = rw c.readers-k.ensures (readers_drawable _)
-
 pub returns : goal.returns
 returns c =
-    let p = program_of_lem _ _ _ c.draw-next.ensures c.readers-k.ensures in
-    let q = split_of_lem _ _ _ c.draw-next.ensures c.readers-k.ensures in
+    let p = program_of_lem _ _ _ c.draw-next.ensures c.readers_of-k.ensures in
+    let q = split_of_lem _ _ _ c.draw-next.ensures c.readers_of-k.ensures in
     let d =
     both_written c.args.seed _ _ _ c.args.program.now c.args.split.now _ _ c.draw-next.ensures
     (c.program_length-program_size.ensures ∙ ap length p)

@@ -5,8 +5,8 @@ use Rattle.drill.proofs.program_length.Goals as goal
 
 pub overflow_cast-result : goal.overflow_cast-result
 overflow_cast-result c =
-    let l = program_within c.requires in
+    let l = program_within c.args.k.drawable in
     record { fits = omega (arith, c.write_program.ensures.moved) }
 
 pub returns : goal.returns
-returns c = let l = program_within c.requires in omega (arith, c.write_program.ensures.moved)
+returns c = let l = program_within c.args.k.drawable in omega (arith, c.write_program.ensures.moved)

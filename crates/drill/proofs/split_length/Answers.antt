@@ -5,8 +5,8 @@ use Rattle.drill.proofs.split_length.Goals as goal
 
 pub overflow_cast-result : goal.overflow_cast-result
 overflow_cast-result c =
-    let l = split_within c.requires in
+    let l = split_within c.args.k.drawable in
     record { fits = omega (arith, c.write_split.ensures.moved) }
 
 pub returns : goal.returns
-returns c = let l = split_within c.requires in omega (arith, c.write_split.ensures.moved)
+returns c = let l = split_within c.args.k.drawable in omega (arith, c.write_split.ensures.moved)
