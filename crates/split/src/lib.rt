@@ -22,7 +22,6 @@ use type_lines::read_types;
 use workspace::SIZE;
 
 // A line after the last is spare.
-#[tactic(auto, using(split_fields::proofs::LineLaws::end_reached, split_fields::proofs::LineLaws::line_spare))]
 fn finish(text: &[u8], cursor: Cursor) -> Result<(), Refusal>
     requires { SplitCursor text.now cursor }
     ensures { result ≡ end split_sheet (place_at text.now cursor) }

@@ -1,5 +1,5 @@
 -- What the field at a cursor says of the text; fields that are empty, and fields that are not.
-use Rattle.std.proofs.Common.{None}
+use Rattle.std.proofs.Common.{None, Some}
 use mathlib.Core.Path.{◌≡◌, refl, sym, ap, ◌∙◌}
 use mathlib.Core.Logic.{inl, inr, ⊎_elim}
 use mathlib.Core.List.{List, [], ◌∷◌}
@@ -14,11 +14,12 @@ use Rattle.spec.specs.Split.{post_field}
 use Rattle.spec.specs.declared.Purpose.TheVariants.{Fill}
 use Rattle.lexer.specs.Views.{first_field}
 use Rattle.lexer.specs.Cursors.{Placed, rest, span_at}
+use Rattle.lexer.specs.Numbers.{Spells}
 use Rattle.lexer.specs.declared.Cursor.{Cursor}
 use Rattle.lexer.specs.declared.Span.{Span}
 use Rattle.lexer.proofs.Places.{span_field, span_le}
 use Rattle.lexer.proofs.Walks.{span_end, span_next}
-use Rattle.split_fields.specs.Answers.{LeadingAnswer, PostAnswer}
+use Rattle.split_fields.specs.Answers.{LeadingAnswer, PostSpells, PostAnswer}
 
 -- a field is empty where it ends where it begins, and nowhere else
 module _ (text : List ℕ) (c : Cursor) (s : Span) (is : s ≡ span_at text c) where
@@ -40,9 +41,17 @@ unfolding post_field
 as_it_stands [] h = absurd (h refl)
 as_it_stands (b ∷ m) h = refl
 
--- neither empty nor a numeral
-pub post_neither : (text : List ℕ) (c : Cursor) {field : Field} → field ≡ first_field (rest text c) → false ≡ eqb (length field) 0
-    → LeadingAnswer text c None → PostAnswer Fill text c None
-post_neither text c is full h =
-    let some : first_field (rest text c) ≡ [] → ⊥ = λ z. let none = rw (is ∙ z) at full in cc in
-    ⊎_elim (λ e. inl (ap numeral (as_it_stands (first_field (rest text c)) some) ∙ e)) (λ e. inr e) h
+-- what is not empty: a numeral, or something else
+module _ (text : List ℕ) (c : Cursor) {field : Field} (is : field ≡ first_field (rest text c)) (full : false ≡ eqb (length field) 0) where
+  some : first_field (rest text c) ≡ [] → ⊥
+  some z = let none = rw (is ∙ z) at full in cc
+
+  spelled : (m : Field) → (m ≡ [] → ⊥) → (n : ℕ) → Spells m n → PostSpells Fill m 4294967295
+  spelled [] h n e = absurd (h refl)
+  spelled (b ∷ m) h n e = (e.0, e.1, refl)
+
+  pub post_number : {n : ℕ} {d : Cursor} → LeadingAnswer text c (Some (n, d)) → PostAnswer Fill text c (Some (4294967295, d))
+  post_number {n} h = (spelled (first_field (rest text c)) some n h.0, h.1, h.2)
+
+  pub post_neither : LeadingAnswer text c None → PostAnswer Fill text c None
+  post_neither h = ⊎_elim (λ e. inl (ap numeral (as_it_stands (first_field (rest text c)) some) ∙ e)) (λ e. inr e) h

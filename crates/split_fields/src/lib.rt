@@ -46,7 +46,6 @@ pub fn leading_number(text: &[u8], cursor: Cursor) -> Option<(u32, Cursor)>
 }
 
 // The m of a row to fill: nothing, which is read as map 0, or a number, which is in no range.
-#[tactic(auto, using(crate::proofs::FieldLaws::post_neither))]
 fn empty_post(text: &[u8], cursor: Cursor) -> Option<(u32, Cursor)>
     requires { SplitCursor text.now cursor }
     ensures { PostAnswer Fill text.now cursor result }

@@ -47,7 +47,6 @@ pub fn may_be_empty(heading: Heading, word: Word) -> bool
 }
 
 // The refusal of an empty s that may not be: 50 on a call, 40 on a spawn.
-#[tactic(auto, unfolding(crate::specs::Starts::empty_refusal))]
 pub fn empty_refusal(word: Word, line: u32) -> Refusal
     ensures { result ≡ empty_refusal word line }
 {

@@ -13,7 +13,6 @@ use split_fields::{both_below, first_field};
 
 // The type that a word and two numbers make, if each number is in its range: the type, and how many things each number counts in.
 // Where a line shows 0, 0 is the one number.
-#[tactic(auto, unfolding(crate::specs::TypeLines::type_seen, crate::specs::TypeLines::type_ranges, crate::specs::TypeLines::type_made, spec::specs::Split::lock_of, spec::specs::Split::out_range, spec::specs::Reading::all_in_range, spec::specs::Reading::in_range))]
 fn type_of(
     kind: TypeWord,
     first: u32,
