@@ -1,6 +1,6 @@
 // A trace that comes through a buffer: its lines are handed on to the replay, and the front of a line that the buffer's end has cut is carried
 // over to the next filling.
-ghost use Rattle.std.specs.Prelude.{◌≡◌, true, List, ℕ, ◌+◌, ◌-◌, ◌<◌, ◌≤◌, length, take, drop};
+ghost use Rattle.std.specs.Prelude.{◌≡◌, true, List, ℕ, ◌+◌, ◌<◌, ◌≤◌, length, take};
 ghost use Rattle.replay.specs.Pieces.{ends_line, RunOf};
 ghost use Rattle.racereplay.specs.Buffered.{TakenIn};
 

@@ -2,9 +2,9 @@
 // out and counted all the same, so a writer over an empty buffer tells how long its text is.
 #![tactic(auto)]
 
-ghost use Rattle.std.specs.Prelude.{◌≡◌, [], ◌∷◌, ◌++◌, map, ◌+◌, ◌≤◌, ◌<◌, length, set};
+ghost use Rattle.std.specs.Prelude.{◌≡◌, [], ◌∷◌, ◌++◌, map, ◌+◌, ◌<◌, length, set};
 ghost use Rattle.text_theory.specs.Text.{digit as digit_of, decimal, line};
-ghost use Rattle.writer.specs.Buffer.{WrittenAt, overwrite, Writes};
+ghost use Rattle.writer.specs.Buffer.{overwrite, Writes};
 
 // A lent buffer, and the place in it where the next byte is put.
 #[derive(Drop)]
