@@ -1,6 +1,9 @@
 -- Type lines, by their word and their two numbers.
+use Rattle.std.specs.Bool.{then_some}
+use Rattle.std.proofs.lemmas.Grind.{common_steps}
 use Rattle.std.proofs.Common.{Option, None, Some, Result, Ok, Err}
 use mathlib.Core.Path.{◌≡◌, refl, sym, ap, ◌∙◌}
+use mathlib.Core.Logic.{◌⊎◌}
 use mathlib.Core.List.{List, [], ◌∷◌}
 use mathlib.Core.Bool.{Bool, true, false}
 use Prim.Native.Nat.{ℕ, ◌+◌, ◌<◌}
@@ -8,14 +11,15 @@ use native.Mathlib.Omega.{arith}
 use lib.ListN.{length, get_or}
 use Rattle.spec.specs.Choice.{when◌then◌else◌}
 use Rattle.spec.specs.Text.{Field, lines}
-use Rattle.spec.specs.Reading.{split_sheet, good, bad, bad_form, bad_range, seen, all_in_range, numerals, numbers, form, passed, read_line, or_bad_form}
-use Rattle.spec.specs.Split.{out_range, type_line}
+use Rattle.spec.specs.Reading.{split_sheet, good, bad, bad_form, bad_range, seen, below, in_range, all_in_range, numerals, numbers, form, passed, read_line, or_bad_form}
+use Rattle.spec.specs.Split.{lock_of, out_range, type_line}
 use Rattle.spec.specs.declared.Header.{Header}
 use Rattle.spec.specs.declared.Heading.{Heading}
 use Rattle.spec.specs.declared.Heading.TheVariants.{C, C2, C3}
 use Rattle.spec.specs.declared.Refusal.{Refusal}
 use Rattle.spec.specs.declared.Refusal.TheVariants.{SplitForm, SplitRange}
 use Rattle.spec.specs.declared.TypeLine.{TypeLine}
+use Rattle.spec.specs.declared.TypeLine.TheVariants.{Lock}
 use Rattle.lexer.specs.Views.{end_of, first_field, text_ended}
 use Rattle.lexer.specs.Cursors.{Placed, rest, behind_field, place_at}
 use Rattle.lexer.specs.Numbers.{NumbersRead}
@@ -81,6 +85,12 @@ module _ (H : Header) (own : ℕ) where
     kind_narrow kind.Tid = (omega arith, (omega arith, tt))
     kind_narrow kind.Sem = (omega arith, (omega arith, tt))
     kind_narrow kind.Rwlock = (omega arith, (omega arith, tt))
+
+-- `lock,k,0`: out is in
+pub older_lock : (H : Header) (own a b : ℕ) {k : TypeWord} → k ≡ kind.Lock → (H.heading ≡ C) ⊎ (H.heading ≡ C2)
+    → then_some (all_in_range (below H.maps ∷ below 1 ∷ []) (a ∷ b ∷ [])) (Lock (record { 0 = a }) (record { 0 = a })) ≡ type_seen k H own (a ∷ b ∷ [])
+unfolding type_seen type_ranges type_made lock_of out_range all_in_range in_range
+older_lock H own a b e h = grind (arith, common_steps)
 
 -- ------------------------------------------------------------------ the line
 
