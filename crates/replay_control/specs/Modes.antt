@@ -26,10 +26,7 @@ mode_of n =
 abbrev pub on_its_way : Mode → Bool
 on_its_way Enter = true
 on_its_way Return = true
-on_its_way Stopped = false
-on_its_way Ready = false
-on_its_way Unrolled = false
-on_its_way Done = false
+on_its_way m = false
 
 -- whether it is that one
 abbrev pub is : (m n : Mode) → Bool

@@ -8,15 +8,21 @@ use Rattle.replay_control.specs.declared.ControlPoint.{ControlPoint}
 use Rattle.replay_control.specs.declared.Mode.TheVariants.{Ready}
 use Rattle.replay_control.specs.Modes.{is}
 use Rattle.replay_control.specs.Control.{kept}
-use Rattle.replay_step.specs.Slots.{slot_at}
+use Rattle.replay_objects.specs.declared.Thing.{Thing}
+use Rattle.replay_objects.specs.declared.Thing.TheVariants.{Cell}
+use Rattle.replay_step.specs.Slots.{thing_at}
 use Rattle.replay_engine.specs.ControlPoints.{control_point_at}
 use Rattle.replay_engine.specs.declared.races.Access.{Access}
 use Rattle.replay_engine.specs.declared.races.Access.TheVariants.{Read, Write}
 
 -- ------------------------------------------------------------------ one thread
 
+abbrev pub is_cell : Thing → Bool
+is_cell (Cell v) = true
+is_cell x = false
+
 unfoldable pub names_cell : (s : List ℕ) (v : ℕ) → Bool
-names_cell s v = eqb (slot_at s v).kind 2
+names_cell s v = is_cell (thing_at s v)
 
 -- of a word that touches a cell so: `read` that which its value names, `write` that which its first part gave
 unfoldable pub access_by : Touch → (s : List ℕ) → ControlPoint → Option Access
@@ -33,19 +39,16 @@ access_of p s t = access_at p s (control_point_at s t)
 -- ------------------------------------------------------------------ two threads
 
 unfoldable pub reads : Option Access → (v : ℕ) → Bool
-reads None v = false
 reads (Some (Read u)) v = eqb u v
-reads (Some (Write u)) v = false
+reads a v = false
 
 unfoldable pub writes : Option Access → (v : ℕ) → Bool
-writes None v = false
-writes (Some (Read u)) v = false
 writes (Some (Write u)) v = eqb u v
+writes a v = false
 
 unfoldable pub is_write : Option Access → Bool
-is_write None = false
-is_write (Some (Read v)) = false
 is_write (Some (Write v)) = true
+is_write a = false
 
 unfoldable pub clash : Option Access → Option Access → Bool
 clash None b = false

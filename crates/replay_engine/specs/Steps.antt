@@ -31,9 +31,13 @@ recorded T t (done, s) = ((when done then finished T t else T), s)
 unfoldable pub proceeded : (p s : List ℕ) → Threads → (t : ℕ) → ControlPoint → Threads × List ℕ
 proceeded p s T t f = recorded T t (went_on p s t f)
 
--- a step of thread t is done; with more than 64 calls open it is past the limit
+-- whether more than 64 calls are open in thread t
+abbrev pub past_calls : (s : List ℕ) (t : ℕ) → Bool
+past_calls s t = ltb (66 * t + 64) (get_or s (control_point_rows_at + t) 0)
+
+-- a step of thread t is done, unless it is past the limit
 unfoldable pub outcome_of : (s : List ℕ) (t : ℕ) → Threads → Result Threads Halt
-outcome_of s t T = when ltb (66 * t + 64) (get_or s (control_point_rows_at + t) 0) then Err Past else Ok T
+outcome_of s t T = when past_calls s t then Err Past else Ok T
 
 unfoldable pub moved_to : (t : ℕ) → Threads × List ℕ → Result Threads Halt × List ℕ
 moved_to t (T, s) = (outcome_of s t T, s)

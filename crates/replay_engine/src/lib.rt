@@ -6,11 +6,12 @@ mod control_points;
 mod races;
 
 ghost use Rattle.std.specs.Prelude.{◌≡◌, ◌-◌, Ok};
-ghost use Rattle.replay_engine.specs.Steps.{may_choose as may_choose_of, proceeded, outcome_of, moved_to, copied, gives_zero, spawned_step, joined_step, act_step, stepped, zeroed, start_of};
+ghost use Rattle.replay_engine.specs.Steps.{may_choose as may_choose_of, proceeded, past_calls, moved_to, copied, gives_zero, spawned_step, joined_step, act_step, stepped, zeroed, start_of};
 
 use control_points::{control_point_at, go_on};
 pub use races::lowest_pair;
 use replay_control::{ControlPoint, Mode, layout, put, second, shape_at, variable};
+use replay_objects::{Slot, Thing};
 pub use replay_step::Halt;
 use replay_step::{Act, gives};
 use threads::Threads;
@@ -34,31 +35,24 @@ fn proceed(program: &[u32], space: &mut [u32], threads: Threads, t: u32, f: Cont
     ensures { proceeded program.now space.old threads t f ≡ (result, space.new) }
 {
     if go_on(program, space, t, f) {
-        threads.finished(index(t))
-    } else {
-        threads
+        return threads.finished(index(t));
     }
+    threads
 }
 
 // The most calls that may be open in one thread.
 const CALL_LIMIT: usize = 64;
 
-// A step of thread t is done, unless it is past the limit: more calls are open in the thread now.
-#[tactic(auto, unfolding(crate::specs::Steps::outcome_of))]
-fn outcome(space: &[u32], threads: Threads, t: u32) -> Result<Threads, Halt>
-    ensures { result ≡ outcome_of space.now t threads }
+// Whether more calls are open in thread t now.
+fn past_calls(space: &[u32], t: u32) -> bool
+    ensures { result ≡ past_calls space.now t }
 {
     let i = index(t);
-    let row = index(at(space, layout::CONTROL_POINT_ROWS + i));
-    if layout::LEVELS * i + CALL_LIMIT < row {
-        Err(Halt::Past)
-    } else {
-        Ok(threads)
-    }
+    layout::LEVELS * i + CALL_LIMIT < index(at(space, layout::CONTROL_POINT_ROWS + i))
 }
 
-// Thread t goes on from there, and its step is done.
-#[tactic(auto, unfolding(crate::specs::Steps::moved_to))]
+// Thread t goes on from there, and its step is done, unless it is past the limit.
+#[tactic(auto, unfolding(crate::specs::Steps::moved_to, crate::specs::Steps::outcome_of))]
 fn move_to(
     program: &[u32],
     space: &mut [u32],
@@ -69,7 +63,10 @@ fn move_to(
     ensures { moved_to t (proceeded program.now space.old threads t f) ≡ (result, space.new) }
 {
     let after = proceed(program, space, threads, t, f);
-    outcome(space, after, t)
+    if past_calls(space, t) {
+        return Err(Halt::Past);
+    }
+    Ok(after)
 }
 
 // The word of thread t at f becomes 0.
@@ -193,13 +190,17 @@ fn clear_part(space: &mut [u32], from: usize, to: usize)
 
 // The start: one thread, about to evaluate the root, and no thing but its identifier, whose value is 1. Of the space only what is looked at
 // before it is stored is cleared: the variables of the first row, and the counts and kinds of things.
-#[tactic(auto, unfolding(crate::specs::Steps::start_of, crate::specs::Steps::start_space))]
+#[tactic(auto, unfolding(crate::specs::Steps::start_of, crate::specs::Steps::start_space, replay_objects::specs::Stored::numbers_of))]
 pub fn start(program: &[u32], space: &mut [u32]) -> Threads
     ensures { start_of program.now space.old ≡ (result, space.new) }
 {
     clear_part(space, layout::ENVIRONMENTS, layout::ROW);
     clear_part(space, layout::THING_COUNTS, layout::THING_FIRSTS);
-    put(space, layout::THING_KINDS + 1, replay_objects::IDENTIFIER);
+    put(
+        space,
+        layout::THING_KINDS + 1,
+        Slot::of(Thing::Identifier).kind,
+    );
     put(space, layout::NEXT_VALUE, 2);
     let root = ControlPoint::entering(0, replay_control::root(program));
     proceed(program, space, Threads::start(1), 0, root)

@@ -4,8 +4,8 @@ ghost use Rattle.replay_engine.specs.Races.{names_cell, access_by, access_of, cl
 
 use crate::control_points::control_point_at;
 use replay_control::{ControlPoint, Mode, kept_value};
-use replay_objects::CELL;
-use replay_step::slot_at;
+use replay_objects::Thing;
+use replay_step::thing_at;
 use workspace::{Touch, at, index, rule_of, touch_of};
 
 // The cell that a thread is about to use, by the value that names it.
@@ -20,7 +20,7 @@ pub enum Access {
 fn names_cell(space: &[u32], v: u32) -> bool
     ensures { result ≡ names_cell space.now v }
 {
-    slot_at(space, v).kind == CELL
+    matches!(thing_at(space, v), Thing::Cell(_))
 }
 
 // What a word that touches a cell so is about to use: `read` the cell that its value names, `write` the one that its first part gave.

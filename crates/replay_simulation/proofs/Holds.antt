@@ -1,8 +1,8 @@
 -- What the lent space and the records hold of the machine, with the counts of what it has made.
 use Rattle.std.proofs.Common.{Some, slice_get}
-use Prim.Native.Nat.{ℕ, suc, ◌+◌, ◌*◌, ◌<◌, ◌≤◌}
+use Prim.Native.Nat.{ℕ, suc, ◌+◌, ◌<◌, ◌≤◌}
 use mathlib.Core.Path.{◌≡◌}
-use mathlib.Core.Bool.{true}
+use mathlib.Core.Bool.{true, false}
 use mathlib.Core.List.{List}
 use native.Mathlib.Omega.{arith}
 use lib.ListN.{length, get_or}
@@ -12,8 +12,9 @@ use Rattle.threads.specs.declared.Record.{Record}
 use Rattle.threads.specs.declared.Threads.{Threads}
 use Rattle.threads.specs.Records.{no_record}
 use Rattle.replay_control.specs.Layout.{thing_counts_at, next_value_at, space_size}
-use Rattle.replay_objects.specs.declared.Slot.{Slot}
-use Rattle.replay_step.specs.Slots.{slot_at}
+use Rattle.replay_objects.specs.declared.Thing.{Thing}
+use Rattle.replay_objects.specs.declared.Thing.TheVariants.{Unused, Identifier, Cell, Lock, Semaphore, Rwlock, Written}
+use Rattle.replay_step.specs.Slots.{thing_at}
 use Rattle.replay_engine.specs.ControlPoints.{control_point_at}
 use Rattle.replay_theory.specs.Run.{ObjectKind, cells, locks, rwlocks, semaphores, identifiers, next_name}
 use Rattle.replay_machine.specs.Control.{open_calls}
@@ -26,16 +27,16 @@ use Rattle.replay_simulation.proofs.Held.{code_value, BodiesStand, ControlAt}
 
 -- ------------------------------------------------------------------ names
 
--- what the three numbers of a name say
-abbrev pub SlotIs : Slot → calculus.Slot → Type 0
-SlotIs x unused = x.kind ≡ 0
-SlotIs x identifier = x.kind ≡ 1
-SlotIs x (cell v) = (x.kind ≡ 2) × (x.first ≡ code_value v)
-SlotIs x (a_lock opened) = (x.kind ≡ 3) × (x.first ≡ 0)
-SlotIs x (a_lock closed) = (x.kind ≡ 3) × (x.first ≡ 1)
-SlotIs x (semaphore c) = (x.kind ≡ 4) × (c ≡ x.first + 4294967296 * x.second) × (x.first < 4294967296)
-SlotIs x (rwlock N (readers k)) = (x.kind ≡ 5) × (x.first ≡ N) × (x.second ≡ k)
-SlotIs x (rwlock N writer) = (x.kind ≡ 6) × (x.first ≡ N)
+-- what the numbers of a name say
+abbrev pub coded : calculus.Slot → Thing
+coded unused = Unused
+coded identifier = Identifier
+coded (cell v) = Cell (code_value v)
+coded (a_lock opened) = Lock false
+coded (a_lock closed) = Lock true
+coded (semaphore n) = Semaphore n
+coded (rwlock N (readers k)) = Rwlock N k
+coded (rwlock N writer) = Written N
 
 -- the number of a kind of things
 abbrev pub kind_code : ObjectKind → ℕ
@@ -53,8 +54,8 @@ kind_low semaphores = omega arith
 kind_low rwlocks = omega arith
 
 pub record NamesHeld (s : List ℕ) (names : ℕ → calculus.Slot) (next : ℕ) (things : ObjectKind → ℕ) : Type 0 where
-  pub constant : (slot_at s 0).kind ≡ 0
-  pub slots : (n : ℕ) → suc n < 322 → SlotIs (slot_at s (suc n)) (names n)
+  pub constant : thing_at s 0 ≡ Unused
+  pub slots : (n : ℕ) → suc n < 322 → thing_at s (suc n) ≡ coded (names n)
   pub unused_from_lem : UnusedFrom names next
   pub next_stored : get_or s next_value_at 0 ≡ suc next
   pub counted : (k : ObjectKind) → get_or s (thing_counts_at + kind_code k) 0 ≡ things k

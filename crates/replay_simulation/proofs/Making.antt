@@ -26,13 +26,15 @@ use Rattle.threads.specs.declared.Threads.{Threads}
 use Rattle.replay_control.specs.Layout.{thing_counts_at, next_value_at, thing_kinds_at, thing_firsts_at, thing_seconds_at, space_size}
 use Rattle.replay_control.specs.Shapes.{shape_at, is_write}
 use Rattle.replay_control.specs.Control.{continuation, returning, stopped_at, ready_at}
-use Rattle.replay_objects.specs.declared.Slot.{Slot}
+use Rattle.replay_objects.specs.declared.Thing.{Thing}
+use Rattle.replay_objects.specs.declared.Thing.TheVariants.{Unused, Cell}
+use Rattle.replay_objects.specs.Stored.{slot, numbers_of, thing_of}
 use Rattle.replay_control.specs.declared.ControlPoint.{ControlPoint}
 use Rattle.replay_step.specs.declared.words.Act.{Act}
 use Rattle.replay_step.specs.declared.words.Act.TheVariants.{Go}
 use Rattle.replay_step.specs.declared.words.Halt.{Halt}
-use Rattle.replay_objects.specs.Uses.{slot, made_of, effect_of}
-use Rattle.replay_step.specs.Slots.{slot_at, slot_put}
+use Rattle.replay_objects.specs.Uses.{effect_of}
+use Rattle.replay_step.specs.Slots.{thing_at, thing_put}
 use Rattle.replay_step.specs.Words.{given, with_thing, new_thing, subject, operand, effected, word_used, acted_by, acted}
 use Rattle.replay_engine.specs.Steps.{act_step, after_act}
 use Rattle.replay_theory.specs.Run.{ObjectKind, cells, locks, rwlocks, semaphores, identifiers, same_kind, makes, same_effect, next_name, one_more_if, things_after, thread_limit, thing_limit, within_limits, kind_made}
@@ -44,10 +46,10 @@ use Rattle.replay_machine.specs.Control.{Frame, return}
 use Rattle.replay_machine.specs.State.{Machine, running}
 use Rattle.replay_machine.specs.Step.{creates}
 use Rattle.replay_machine.specs.Replay.{Replay, within}
-use Rattle.replay_simulation.proofs.Held.{code_value, no_part_word, NoPartNumber, RowOf, place_of}
+use Rattle.replay_simulation.proofs.Held.{no_part_word, NoPartNumber, RowOf, place_of}
 use Rattle.replay_simulation.proofs.Agreeing.{Agree, agree_then, agree_shared}
-use Rattle.replay_simulation.proofs.Holds.{SlotIs, kind_code, kind_low, NamesHeld}
-use Rattle.replay_simulation.proofs.Naming.{slot_put_length, put_elsewhere, slot_here, slot_there, slot_agree}
+use Rattle.replay_simulation.proofs.Holds.{coded, kind_code, kind_low, NamesHeld}
+use Rattle.replay_simulation.proofs.Naming.{thing_put_length, put_elsewhere, thing_here, thing_there, thing_agree}
 use Rattle.replay_simulation.proofs.Moving.{Answered}
 use Rattle.replay_simulation.proofs.AtWord.{AtWord, becomes}
 
@@ -92,22 +94,24 @@ past_limits n identifiers things h few p =
 
 -- ------------------------------------------------------------------ names
 
-slot_set : (s : List ℕ) (j y v : ℕ) → j < thing_kinds_at → slot_at (set s j y) v ≡ slot_at s v
-unfolding slot_at
-slot_set s j y v h = λ z. when ltb v 322 then slot
+thing_set : (s : List ℕ) (j y v : ℕ) → j < thing_kinds_at → thing_at (set s j y) v ≡ thing_at s v
+unfolding thing_at
+thing_set s j y v h = λ z. when ltb v 322 then thing_of (slot
     (get_or-set_other s j (thing_kinds_at + v) y 0 (λ e. omega (arith, e, h)) z)
     (get_or-set_other s j (thing_firsts_at + v) y 0 (λ e. omega (arith, e, h)) z)
-    (get_or-set_other s j (thing_seconds_at + v) y 0 (λ e. omega (arith, e, h)) z) else slot 0 0 0
+    (get_or-set_other s j (thing_seconds_at + v) y 0 (λ e. omega (arith, e, h)) z)) else Unused
 
--- the numbers x are those of a new thing of kind k
-pub record NewOf (k : ObjectKind) (x : Slot) (new : state.Slot) : Type 0 where
-  pub is_kind : x.kind ≡ kind_code k
-  pub is : SlotIs x new
+-- a new thing of kind k
+pub record NewOf (k : ObjectKind) (new : state.Slot) : Type 0 where
+  pub is_kind : (numbers_of (coded new)).kind ≡ kind_code k
 
 module _ {s : List ℕ} {names : ℕ → state.Slot} {next : ℕ} {things : ObjectKind → ℕ} (N : NamesHeld s names next things) (long : length s ≡ space_size)
-    {k : ObjectKind} {x : Slot} {new : state.Slot} (O : NewOf k x new) (room : things k < 64) where
+    {k : ObjectKind} {new : state.Slot} (O : NewOf k new) (room : things k < 64) where
+  abbrev x : Thing
+  x = coded new
+
   abbrev s₁ : List ℕ
-  s₁ = slot_put s (suc next) x
+  s₁ = thing_put s (suc next) x
 
   abbrev s₂ : List ℕ
   s₂ = set s₁ (thing_counts_at + kind_code k) (things k + 1)
@@ -134,7 +138,7 @@ module _ {s : List ℕ} {names : ℕ → state.Slot} {next : ℕ} {things : Obje
       less rwlocks h a b c d e f = omega arith
 
   long₁ : length s₁ ≡ space_size
-  long₁ = slot_put_length s (suc next) x ∙ long
+  long₁ = thing_put_length s (suc next) x ∙ long
 
   long₂ : length s₂ ≡ space_size
   long₂ = length-set s₁ (thing_counts_at + kind_code k) (things k + 1) ∙ long₁
@@ -142,13 +146,13 @@ module _ {s : List ℕ} {names : ℕ → state.Slot} {next : ℕ} {things : Obje
   pub long₃ : length s₃ ≡ space_size
   long₃ = length-set s₂ next_value_at (suc next + 1) ∙ long₂
 
-  slot_after : (v : ℕ) → slot_at s₃ v ≡ slot_at s₁ v
-  slot_after v = slot_set s₂ next_value_at (suc next + 1) v (omega arith) ∙ slot_set s₁ (thing_counts_at + kind_code k) (things k + 1) v (let l = kind_low k in omega arith)
+  thing_after : (v : ℕ) → thing_at s₃ v ≡ thing_at s₁ v
+  thing_after v = thing_set s₂ next_value_at (suc next + 1) v (omega arith) ∙ thing_set s₁ (thing_counts_at + kind_code k) (things k + 1) v (let l = kind_low k in omega arith)
 
   pub names_made : NamesHeld s₃ (update names next new) (suc next) (things_after (makes k) things)
   unfolding one_more_if things_after
   names_made = record {
-    constant = ap (λ (y : Slot). y.kind) (slot_after 0 ∙ slot_there s (suc next) x next_low 0 (λ e. omega (arith, e))) ∙ N.constant;
+    constant = thing_after 0 ∙ thing_there s (suc next) x next_low 0 (λ e. omega (arith, e)) ∙ N.constant;
     slots = λ m h. by_name m h (ℕ_discrete m next);
     unused_from_lem = λ m h. update_other names next m new (λ e. omega (arith, e, h)) ∙ N.unused_from_lem m (omega (arith, h));
     next_stored = get_or-set_same s₂ next_value_at (suc next + 1) 0 (omega (arith, long₂)) ∙ (let e : suc next + 1 ≡ suc (suc next) = omega arith in e);
@@ -157,9 +161,9 @@ module _ {s : List ℕ} {names : ℕ → state.Slot} {next : ℕ} {things : Obje
     all = ap suc N.all ∙ sym (name_more k things);
   }
     where
-      by_name : (m : ℕ) → suc m < 322 → (d : Dec (m ≡ next)) → SlotIs (slot_at s₃ (suc m)) (choose d new (names m))
-      by_name m h (yes e) = subst (λ (y : Slot). SlotIs y new) (sym (slot_after (suc m) ∙ ap (λ (j : ℕ). slot_at s₁ (suc j)) e ∙ slot_here s (suc next) x next_low long)) O.is
-      by_name m h (no f) = subst (λ (y : Slot). SlotIs y (names m)) (sym (slot_after (suc m) ∙ slot_there s (suc next) x next_low (suc m) (λ e. f (omega (arith, e))))) (N.slots m h)
+      by_name : (m : ℕ) → suc m < 322 → (d : Dec (m ≡ next)) → thing_at s₃ (suc m) ≡ coded (choose d new (names m))
+      by_name m h (yes e) = thing_after (suc m) ∙ ap (λ (j : ℕ). thing_at s₁ (suc j)) e ∙ thing_here s (suc next) x next_low long
+      by_name m h (no f) = thing_after (suc m) ∙ thing_there s (suc next) x next_low (suc m) (λ e. f (omega (arith, e))) ∙ N.slots m h
 
       by_kind : (l : ObjectKind) → (d : Dec (makes k ≡ makes l)) → get_or s₃ (thing_counts_at + kind_code l) 0 ≡ choose d (suc (things l)) (things l)
       by_kind l (yes e) =
@@ -176,7 +180,7 @@ module _ {s : List ℕ} {names : ℕ → state.Slot} {next : ℕ} {things : Obje
 
   pub agree_made : (i : ℕ) → i < 16 → Agree i s s₃
   agree_made i h =
-      agree_then (slot_agree i s (suc next) x h)
+      agree_then (thing_agree i s (suc next) x h)
       (agree_then (agree_shared i (thing_counts_at + kind_code k) (things k + 1) s₁ h (omega arith)) (agree_shared i next_value_at (suc next + 1) s₂ h (omega arith)))
 
   -- the space that the code leaves
@@ -187,7 +191,10 @@ module _ {s : List ℕ} {names : ℕ → state.Slot} {next : ℕ} {things : Obje
 -- ------------------------------------------------------------------ the machine's word
 
 module _ {p s : List ℕ} {T : Threads} {R : Replay} {t row tid : ℕ} {σ : Env} {w : machine.Word} {K : List Frame} (A : AtWord p s T R t row tid σ w K) (below : place_of p s w < 256)
-    {k : ObjectKind} {x : Slot} {new : state.Slot} (O : NewOf k x new) (f : ControlPoint) where
+    {k : ObjectKind} {new : state.Slot} (O : NewOf k new) (f : ControlPoint) where
+  abbrev thing : Thing
+  thing = coded new
+
   abbrev M : Machine
   M = R.machine
 
@@ -197,10 +204,10 @@ module _ {p s : List ℕ} {T : Threads} {R : Replay} {t row tid : ℕ} {σ : Env
   abbrev Makes : Result Act Halt × List ℕ → Type 0
   Makes a = Answered p (check_limits within (Some Created)) (after_act p T t f a)
 
-  counted_here : get_or s (thing_counts_at + x.kind) 0 ≡ R.things k
+  counted_here : get_or s (thing_counts_at + (numbers_of thing).kind) 0 ≡ R.things k
   counted_here = ap (λ (i : ℕ). get_or s (thing_counts_at + i) 0) O.is_kind ∙ A.holds.names.counted k
 
-  makes_room : R.things k < 64 → Makes (new_thing p s row (place_of p s w) x)
+  makes_room : R.things k < 64 → Makes (new_thing p s row (place_of p s w) thing)
   unfolding new_thing given
   makes_room room = subst Makes (sym made_here) (becomes A after (long₃ N long O room) (agree_made N long O room) (names_made N long O room) below f (name M.next))
     where
@@ -213,12 +220,12 @@ module _ {p s : List ℕ} {T : Threads} {R : Replay} {t row tid : ℕ} {σ : Env
       after : List ℕ
       after = s₃ N long O room
 
-      made_here : new_thing p s row (place_of p s w) x ≡ (Ok (Go (returning row (continuation p (place_of p s w)) (suc M.next))), after)
+      made_here : new_thing p s row (place_of p s w) thing ≡ (Ok (Go (returning row (continuation p (place_of p s w)) (suc M.next))), after)
       made_here =
           rw (counted_here, N.next_stored, lt-leb 64 (R.things k) room, lt-leb 322 (suc M.next) (next_low N long O room))
           (ap (λ (z : List ℕ). (Ok (Go (returning row (continuation p (place_of p s w)) (suc M.next))), z)) (thing_added N long O room))
 
-  makes_none : 64 ≤ R.things k → Makes (new_thing p s row (place_of p s w) x)
+  makes_none : 64 ≤ R.things k → Makes (new_thing p s row (place_of p s w) thing)
   unfolding check_limits within new_thing after_act act_step
   makes_none full =
       rw (
@@ -229,38 +236,34 @@ module _ {p s : List ℕ} {T : Threads} {R : Replay} {t row tid : ℕ} {σ : Env
       )
       refl
 
-  pub making_goes : Makes (new_thing p s row (place_of p s w) x)
+  pub making_goes : Makes (new_thing p s row (place_of p s w) thing)
   making_goes = go (dec_lt (R.things k) 64)
     where
-      go : Dec (R.things k < 64) → Makes (new_thing p s row (place_of p s w) x)
+      go : Dec (R.things k < 64) → Makes (new_thing p s row (place_of p s w) thing)
       go (yes room) = makes_room room
       go (no f) = makes_none (omega (arith, f))
 
 -- ------------------------------------------------------------------ what the code does
 
-abbrev pub maker_slot : calculus.Nullary → Slot
-maker_slot newtid = slot 1 0 0
-maker_slot newlock = slot 3 0 0
-maker_slot newsem = slot 4 0 0
-maker_slot (newrwlock N) = slot 5 N 0
-
 module _ (p s : List ℕ) (row c : ℕ) {q : Position} {v : ℕ} where
-  pub maker_acts : (o : calculus.Nullary) → NoPartNumber o v → RowOf p q (Leaf (no_part_word o)) v → acted p s (stopped_at row q.index) c ≡ new_thing p s row q.index (maker_slot o)
-  unfolding acted acted_by word_used effected subject operand effect_of made_of shape_at is_write rule_of printed
+  pub maker_acts : (o : calculus.Nullary) → NoPartNumber o v → RowOf p q (Leaf (no_part_word o)) v → acted p s (stopped_at row q.index) c ≡ new_thing p s row q.index (coded (made o))
+  unfolding acted acted_by word_used effected subject operand effect_of shape_at is_write rule_of printed
   maker_acts newtid n r = rw r.code (rw r.code)
   maker_acts newlock n r = rw r.code (rw r.code)
   maker_acts newsem n r = rw r.code (rw r.code)
   maker_acts (newrwlock N) n r = rw r.code (rw (r.code, r.number, n))
 
-  pub ref_acts : (w : ℕ) → RowOf p q (Unary Ref) v → acted p s (ready_at row q.index w) c ≡ new_thing p s row q.index (slot 2 w 0)
-  unfolding acted acted_by word_used effected subject operand effect_of made_of shape_at is_write rule_of printed
+  pub ref_acts : (w : ℕ) → RowOf p q (Unary Ref) v → acted p s (ready_at row q.index w) c ≡ new_thing p s row q.index (Cell w)
+  unfolding acted acted_by word_used effected subject operand effect_of shape_at is_write rule_of printed
   ref_acts w r = rw r.code (rw r.code)
 
-pub ref_new : (v : Value) → NewOf cells (slot 2 (code_value v) 0) (cell v)
-ref_new v = record { is_kind = refl; is = (refl, refl) }
+pub ref_new : (v : Value) → NewOf cells (cell v)
+unfolding numbers_of
+ref_new v = record { is_kind = refl }
 
-pub maker_new : (o : calculus.Nullary) → NewOf (kind_made o) (maker_slot o) (made o)
-maker_new newtid = record { is_kind = refl; is = refl }
-maker_new newlock = record { is_kind = refl; is = (refl, refl) }
-maker_new newsem = record { is_kind = refl; is = (refl, refl, omega arith) }
-maker_new (newrwlock N) = record { is_kind = refl; is = (refl, refl, refl) }
+pub maker_new : (o : calculus.Nullary) → NewOf (kind_made o) (made o)
+unfolding numbers_of
+maker_new newtid = record { is_kind = refl }
+maker_new newlock = record { is_kind = refl }
+maker_new newsem = record { is_kind = refl }
+maker_new (newrwlock N) = record { is_kind = refl }

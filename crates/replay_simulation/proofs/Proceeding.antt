@@ -25,8 +25,9 @@ use Rattle.replay_control.specs.declared.Mode.TheVariants.{Done}
 use Rattle.replay_control.specs.Modes.{is}
 use Rattle.replay_control.specs.declared.ControlPoint.{ControlPoint}
 use Rattle.replay_control.specs.Control.{found}
-use Rattle.replay_objects.specs.Uses.{slot}
-use Rattle.replay_step.specs.Slots.{slot_at}
+use Rattle.replay_objects.specs.declared.Thing.TheVariants.{Unused}
+use Rattle.replay_objects.specs.Stored.{slot, thing_of}
+use Rattle.replay_step.specs.Slots.{thing_at}
 use Rattle.replay_engine.specs.ControlPoints.{control_point_at, control_point_put, settled, went_on}
 use Rattle.replay_engine.specs.Steps.{recorded, proceeded}
 use Rattle.replay_theory.specs.Run.{ObjectKind}
@@ -39,18 +40,18 @@ use Rattle.replay_simulation.proofs.Held.{BodiesStand, ControlAt, WordAt}
 use Rattle.replay_simulation.proofs.Advancing.{SameBut}
 use Rattle.replay_simulation.proofs.Finding.{Finds}
 use Rattle.replay_simulation.proofs.Agreeing.{SharedSame, control_same, agree_then, agree_found, shared_found, control_point_here, control_point_length, control_point_other, control_point_shared, control_point_rows}
-use Rattle.replay_simulation.proofs.Holds.{NamesHeld, SlotIs, kind_code, record_of, ThreadHeld, Sized, ThreadsHeld, Holds}
+use Rattle.replay_simulation.proofs.Holds.{NamesHeld, kind_code, record_of, ThreadHeld, Sized, ThreadsHeld, Holds}
 
 -- ------------------------------------------------------------------ names
 
-pub slot_same : (s s' : List ℕ) (v : ℕ) → SharedSame s s' → slot_at s' v ≡ slot_at s v
-unfolding slot_at
-slot_same s s' v h = λ z. when ltb v 322 then slot (h (thing_kinds_at + v) (omega arith) z) (h (thing_firsts_at + v) (omega arith) z) (h (thing_seconds_at + v) (omega arith) z) else slot 0 0 0
+pub thing_same : (s s' : List ℕ) (v : ℕ) → SharedSame s s' → thing_at s' v ≡ thing_at s v
+unfolding thing_at
+thing_same s s' v h = λ z. when ltb v 322 then thing_of (slot (h (thing_kinds_at + v) (omega arith) z) (h (thing_firsts_at + v) (omega arith) z) (h (thing_seconds_at + v) (omega arith) z)) else Unused
 
 pub names_same : (s s' : List ℕ) {names : ℕ → calculus.Slot} {next : ℕ} {things : ObjectKind → ℕ} → SharedSame s s' → NamesHeld s names next things → NamesHeld s' names next things
 names_same s s' {names = names} h N = record {
-  constant = ap (λ x. x.kind) (slot_same s s' 0 h) ∙ N.constant;
-  slots = λ n l. subst (λ x. SlotIs x (names n)) (sym (slot_same s s' (suc n) h)) (N.slots n l);
+  constant = thing_same s s' 0 h ∙ N.constant;
+  slots = λ n l. thing_same s s' (suc n) h ∙ N.slots n l;
   unused_from_lem = N.unused_from_lem;
   next_stored = h next_value_at (omega arith) ∙ N.next_stored;
   counted = λ k. h (thing_counts_at + kind_code k) (omega arith) ∙ N.counted k;

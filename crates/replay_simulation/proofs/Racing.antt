@@ -25,12 +25,13 @@ use Rattle.workspace.specs.declared.Touch.TheVariants.{Nothing, Reads}
 use Rattle.threads.specs.declared.Threads.{Threads}
 use Rattle.replay_control.specs.declared.ControlPoint.{ControlPoint}
 use Rattle.replay_control.specs.Control.{kept, ready_at}
-use Rattle.replay_objects.specs.declared.Slot.{Slot}
+use Rattle.replay_objects.specs.declared.Thing.{Thing}
+use Rattle.replay_objects.specs.declared.Thing.TheVariants.{Unused}
 use Rattle.replay_engine.specs.declared.races.Access.{Access}
 use Rattle.replay_engine.specs.declared.races.Access.TheVariants.{Read, Write}
-use Rattle.replay_step.specs.Slots.{slot_at}
+use Rattle.replay_step.specs.Slots.{thing_at}
 use Rattle.replay_engine.specs.ControlPoints.{control_point_at}
-use Rattle.replay_engine.specs.Races.{names_cell, access_by, access_at, access_of, reads, writes, clash, partner_of, partner_from, pair_with, pair_of, lowest_pair}
+use Rattle.replay_engine.specs.Races.{is_cell, names_cell, access_by, access_at, access_of, reads, writes, clash, partner_of, partner_from, pair_with, pair_of, lowest_pair}
 use Rattle.replay_theory.specs.Run.{unary_traits, traits}
 use Rattle.replay_theory.proofs.Traits.{unary_plain}
 use Rattle.replay_theory.specs.LowestPair as uses
@@ -42,7 +43,7 @@ use Rattle.replay_machine.specs.Step.{is_done}
 use Rattle.replay_machine.specs.Replay as replay
 use Rattle.replay_machine.specs.Replay.{Replay, uses_in}
 use Rattle.replay_simulation.proofs.Held.{code_value, part_word, RowOf, WordAt, ControlAt}
-use Rattle.replay_simulation.proofs.Holds.{SlotIs, Holds}
+use Rattle.replay_simulation.proofs.Holds.{coded, Holds}
 use Rattle.replay_simulation.proofs.Naming.{slot_decodes}
 
 -- ------------------------------------------------------------------ two threads
@@ -172,29 +173,29 @@ module _ (p s : List ℕ) (uses_at : ℕ → MachineThread → ℕ × Uses) (num
 -- ------------------------------------------------------------------ one thread
 
 -- the cell that a value names is shown as the access f to it
-abbrev CellShown : Slot → (ℕ → Access) → (n : ℕ) → Uses → Type 0
-CellShown x f n u = AccessIs (when eqb x.kind 2 then Some (f (suc n)) else None) u
+abbrev CellShown : Thing → (ℕ → Access) → (n : ℕ) → Uses → Type 0
+CellShown x f n u = AccessIs (when is_cell x then Some (f (suc n)) else None) u
 
-module _ (n : ℕ) (x : Slot) where
-  reads_cell : (sl : state.Slot) → SlotIs x sl → CellShown x Read n (uses_both (cell_value sl >> Some n) None)
-  reads_cell unused h = rw h (refl, refl)
-  reads_cell identifier h = rw h (refl, refl)
-  reads_cell (cell v) h = rw h.0 (refl, refl)
-  reads_cell (a_lock opened) h = rw h.0 (refl, refl)
-  reads_cell (a_lock closed) h = rw h.0 (refl, refl)
-  reads_cell (semaphore c) h = rw h.0 (refl, refl)
-  reads_cell (rwlock N (readers k)) h = rw h.0 (refl, refl)
-  reads_cell (rwlock N writer) h = rw h.0 (refl, refl)
+module _ (n : ℕ) where
+  reads_cell : (sl : state.Slot) → CellShown (coded sl) Read n (uses_both (cell_value sl >> Some n) None)
+  reads_cell unused = (refl, refl)
+  reads_cell identifier = (refl, refl)
+  reads_cell (cell v) = (refl, refl)
+  reads_cell (a_lock opened) = (refl, refl)
+  reads_cell (a_lock closed) = (refl, refl)
+  reads_cell (semaphore c) = (refl, refl)
+  reads_cell (rwlock N (readers k)) = (refl, refl)
+  reads_cell (rwlock N writer) = (refl, refl)
 
-  writes_cell : (sl : state.Slot) → SlotIs x sl → CellShown x Write n (uses_both None (cell_value sl >> Some n))
-  writes_cell unused h = rw h (refl, refl)
-  writes_cell identifier h = rw h (refl, refl)
-  writes_cell (cell v) h = rw h.0 (refl, refl)
-  writes_cell (a_lock opened) h = rw h.0 (refl, refl)
-  writes_cell (a_lock closed) h = rw h.0 (refl, refl)
-  writes_cell (semaphore c) h = rw h.0 (refl, refl)
-  writes_cell (rwlock N (readers k)) h = rw h.0 (refl, refl)
-  writes_cell (rwlock N writer) h = rw h.0 (refl, refl)
+  writes_cell : (sl : state.Slot) → CellShown (coded sl) Write n (uses_both None (cell_value sl >> Some n))
+  writes_cell unused = (refl, refl)
+  writes_cell identifier = (refl, refl)
+  writes_cell (cell v) = (refl, refl)
+  writes_cell (a_lock opened) = (refl, refl)
+  writes_cell (a_lock closed) = (refl, refl)
+  writes_cell (semaphore c) = (refl, refl)
+  writes_cell (rwlock N (readers k)) = (refl, refl)
+  writes_cell (rwlock N writer) = (refl, refl)
 
 -- what a word does with a cell
 abbrev touched : Word → Touch
@@ -210,7 +211,7 @@ module _ (p s : List ℕ) (row : ℕ) {q : Position} {w : Word} {n : ℕ} (r : R
   unfolding access_by
   quiet x e = ready_access x ∙ ap (λ (u : Touch). access_by u s (ready_at row q.index x)) e
 
-module _ (p s : List ℕ) (row : ℕ) (names : ℕ → state.Slot) (slot_of : (n : ℕ) → SlotIs (slot_at s (suc n)) (names n)) (constant : (slot_at s 0).kind ≡ 0) where
+module _ (p s : List ℕ) (row : ℕ) (names : ℕ → state.Slot) (slot_of : (n : ℕ) → thing_at s (suc n) ≡ coded (names n)) (constant : thing_at s 0 ≡ Unused) where
   -- the thread shows what its word is about to use
   abbrev ShowsUse : ControlPoint → Redex → Type 0
   ShowsUse f w = AccessIs (access_at p s f) (uses_of names (Some w))
@@ -225,7 +226,7 @@ module _ (p s : List ℕ) (row : ℕ) (names : ℕ → state.Slot) (slot_of : (n
     where
       by_value : (v : Value) → AccessIs (access_by Reads s (ready_at row q.index (code_value v))) (uses_of names (Some (redex σ (machine.unary_word q read v))))
       by_value (int k) = rw constant (refl, refl)
-      by_value (name m) = reads_cell m (slot_at s (suc m)) (names m) (slot_of m)
+      by_value (name m) = rw (slot_of m) (reads_cell m (names m))
 
   write_shows : (σ : _) (q : Position) (v w : Value) {n : ℕ} → RowOf p q (Binary WriteWord) n → kept s row q.index ≡ code_value v → ShowsUse (ready_at row q.index (code_value w)) (redex σ (machine.write_word q v w))
   unfolding traits uses_of if_cell access_by names_cell rule_of printed
@@ -234,7 +235,7 @@ module _ (p s : List ℕ) (row : ℕ) (names : ℕ → state.Slot) (slot_of : (n
     where
       by_value : (v : Value) → AccessIs (when names_cell s (code_value v) then Some (Write (code_value v)) else None) (uses_of names (Some (redex σ (machine.write_word q v w))))
       by_value (int k) = rw constant (refl, refl)
-      by_value (name m) = writes_cell m (slot_at s (suc m)) (names m) (slot_of m)
+      by_value (name m) = rw (slot_of m) (writes_cell m (names m))
 
   -- any other word with one part
   part_silent : (σ : _) (q : Position) (o : calculus.Unary) (v : Value) {n : ℕ} → RowOf p q (Unary (part_word o)) n → touched (Unary (part_word o)) ≡ Nothing → ((x : Value) → (unary_traits o x).reading ≡ None) →

@@ -17,11 +17,11 @@ use Rattle.threads.specs.declared.Threads.{Threads}
 use Rattle.replay_control.specs.declared.ControlPoint.{ControlPoint}
 use Rattle.replay_control.specs.Shapes.{shape_at, is_write}
 use Rattle.replay_control.specs.Control.{kept, ready_at}
-use Rattle.replay_objects.specs.declared.Slot.{Slot}
+use Rattle.replay_objects.specs.declared.Thing.{Thing}
 use Rattle.replay_objects.specs.declared.StepEffect.{StepEffect}
 use Rattle.replay_step.specs.declared.words.Act.TheVariants.{Go}
-use Rattle.replay_objects.specs.Uses.{slot, written_of, effect_of}
-use Rattle.replay_step.specs.Slots.{slot_at, slot_put}
+use Rattle.replay_objects.specs.Uses.{written_of, effect_of}
+use Rattle.replay_step.specs.Slots.{thing_at, thing_put}
 use Rattle.replay_step.specs.Words.{given, subject, operand, effected, word_used, acted_by, acted}
 use Rattle.replay_engine.specs.Steps.{act_step, after_act}
 use Rattle.replay_theory.specs.Replay.{check_limits}
@@ -33,16 +33,16 @@ use Rattle.replay_machine.specs.Step.{zero_value, gives, leaves, step_word}
 use Rattle.replay_machine.specs.Replay.{Replay}
 use Rattle.replay_simulation.proofs.Held.{code_value, part_word, RowOf, place_of}
 use Rattle.replay_simulation.proofs.Agreeing.{agree_all}
-use Rattle.replay_simulation.proofs.Holds.{SlotIs}
-use Rattle.replay_simulation.proofs.Using.{Use, gave, left, Using, using_read, using_lock, using_unlock, using_post, using_wait, using_rdlock, using_rdunlock, using_wrlock, using_wrunlock, use_of, name_in, used_to, step_asks, UseIs, Roomy, uses_alike}
-use Rattle.replay_simulation.proofs.Naming.{slot_put_length, slot_agree, slot_of, slot_decodes, used_below, names_put}
+use Rattle.replay_simulation.proofs.Holds.{coded}
+use Rattle.replay_simulation.proofs.Using.{Use, gave, left, Using, using_read, using_lock, using_unlock, using_post, using_wait, using_rdlock, using_rdunlock, using_wrlock, using_wrunlock, use_of, name_in, used_to, step_asks, effect, Roomy, uses_alike}
+use Rattle.replay_simulation.proofs.Naming.{thing_put_length, thing_agree, slot_of, slot_decodes, used_below, names_put}
 use Rattle.replay_simulation.proofs.AtWord.{AtWord, Answers, Goes, by_act, becomes}
 
 -- ------------------------------------------------------------------ what the code does
 
 module _ (p s : List ℕ) (row c : ℕ) {q : Position} where
   part_acts : (o : calculus.Unary) → Using o → {n : ℕ} (v : ℕ) → RowOf p q (Unary (part_word o)) n →
-      acted p s (ready_at row q.index v) c ≡ effected p s row q.index v (effect_of (rule_of (code_of (Unary (part_word o)))) (slot_at s v) v)
+      acted p s (ready_at row q.index v) c ≡ effected p s row q.index v (effect_of (rule_of (code_of (Unary (part_word o)))) (thing_at s v) v)
   unfolding acted acted_by word_used subject operand shape_at is_write rule_of printed
   part_acts read using_read v r = rw r.code (rw r.code)
   part_acts lock using_lock v r = rw r.code (rw r.code)
@@ -58,9 +58,9 @@ module _ (p s : List ℕ) (row c : ℕ) {q : Position} where
   part_acts (calculus.call f) u v r = elim u [ ]
 
   write_acts : {n : ℕ} (v w : ℕ) → kept s row q.index ≡ v → RowOf p q (Binary Write) n →
-      acted p s (ready_at row q.index w) c ≡ effected p s row q.index v (written_of (slot_at s v) w)
+      acted p s (ready_at row q.index w) c ≡ effected p s row q.index v (written_of (thing_at s v) w)
   unfolding acted acted_by word_used subject operand effect_of shape_at is_write rule_of printed
-  write_acts v w e r = rw r.code (rw r.code (ap (λ (u : ℕ). effected p s row q.index u (written_of (slot_at s u) w)) e))
+  write_acts v w e r = rw r.code (rw r.code (ap (λ (u : ℕ). effected p s row q.index u (written_of (thing_at s u) w)) e))
 
 -- a value that names nothing is of no use
 unused_useless : (o : calculus.Unary) → Using o → use_of o unused ≡ None
@@ -81,16 +81,16 @@ unused_useless (calculus.call f) u = elim u [ ]
 abbrev write_use : state.Slot → Value → Option Use
 write_use sl w = cell_value sl >>= λ v. Some (left (cell w))
 
-write_used : (x : Slot) (sl : state.Slot) (w : Value) → SlotIs x sl → UseIs (write_use sl w) (written_of x (code_value w))
+write_used : (sl : state.Slot) (w : Value) → written_of (coded sl) (code_value w) ≡ effect (write_use sl w)
 unfolding written_of
-write_used x unused w h = rw h
-write_used x identifier w h = rw h
-write_used x (cell v) w h = (slot 2 (code_value w) 0, rw h.0, (refl, refl))
-write_used x (a_lock opened) w h = rw h.0
-write_used x (a_lock closed) w h = rw h.0
-write_used x (semaphore c) w h = rw h.0
-write_used x (rwlock N (readers k)) w h = rw h.0
-write_used x (rwlock N writer) w h = rw h.0
+write_used unused w = refl
+write_used identifier w = refl
+write_used (cell v) w = refl
+write_used (a_lock opened) w = refl
+write_used (a_lock closed) w = refl
+write_used (semaphore c) w = refl
+write_used (rwlock N (readers k)) w = refl
+write_used (rwlock N writer) w = refl
 
 -- ------------------------------------------------------------------ the machine's word
 
@@ -105,23 +105,25 @@ module _ {p s : List ℕ} {T : Threads} {R : Replay} {t row tid : ℕ} {σ : Env
   gives_value f x = becomes A s A.holds.long (λ i h. agree_all i s) A.holds.names below f x
 
   -- the word leaves something else where it was
-  leaves_slot : (f : ControlPoint) (n : ℕ) (sl : state.Slot) (y : Slot) → n < M.next → SlotIs y sl →
-      Answers A f (Some (leaves M t tid σ K n sl)) (Ok (Go (given p row (place_of p s w) 0)), slot_put s (suc n) y)
-  leaves_slot f n sl y l is =
-      becomes A (slot_put s (suc n) y) (slot_put_length s (suc n) y ∙ A.holds.long) (λ i h. slot_agree i s (suc n) y h)
-      (names_put A.holds.names n sl y A.holds.long l is) below f zero_value
+  leaves_slot : (f : ControlPoint) (n : ℕ) (sl : state.Slot) → n < M.next →
+      Answers A f (Some (leaves M t tid σ K n sl)) (Ok (Go (given p row (place_of p s w) 0)), thing_put s (suc n) (coded sl))
+  leaves_slot f n sl l =
+      becomes A (thing_put s (suc n) (coded sl)) (thing_put_length s (suc n) (coded sl) ∙ A.holds.long) (λ i h. thing_agree i s (suc n) (coded sl) h)
+      (names_put A.holds.names n sl A.holds.long l) below f zero_value
 
   -- the word asks for the use of what a value names
-  asks : (f : ControlPoint) (v : Value) (u : Option Use) (x : Option StepEffect) → (slot_of M.names v ≡ unused → u ≡ None) → UseIs u x →
+  asks : (f : ControlPoint) (v : Value) (u : Option Use) (x : Option StepEffect) → (slot_of M.names v ≡ unused → u ≡ None) → x ≡ effect u →
       Answers A f (u >>= λ y. Some (used_to M t tid σ K (name_in v) y)) (effected p s row (place_of p s w) (code_value v) x)
   unfolding effected after_act act_step check_limits
-  asks f v None x useless is = subst (λ (z : Option StepEffect). Answers A f None (effected p s row (place_of p s w) (code_value v) z)) (sym is) refl
-  asks f v (Some (gave y)) x useless is =
-      subst (λ (z : Option StepEffect). Answers A f (Some (gives M t tid σ K M.names y)) (effected p s row (place_of p s w) (code_value v) z)) (sym is) (gives_value f y)
-  asks f (int n) (Some (left sl)) x useless is = some_is_not_none (useless refl)
-  asks f (name n) (Some (left sl)) x useless (y, e, held) =
-      subst (λ (z : Option StepEffect). Answers A f (Some (leaves M t tid σ K n sl)) (effected p s row (place_of p s w) (suc n) z)) (sym e)
-      (leaves_slot f n sl y (used_below A.holds.names n (λ z. some_is_not_none (useless z))) held)
+  asks f v u x useless is =
+      subst (λ (z : Option StepEffect). Answers A f (u >>= λ y. Some (used_to M t tid σ K (name_in v) y)) (effected p s row (place_of p s w) (code_value v) z)) (sym is) (by_use v u useless)
+    where
+      by_use : (v : Value) (u : Option Use) → (slot_of M.names v ≡ unused → u ≡ None) →
+          Answers A f (u >>= λ y. Some (used_to M t tid σ K (name_in v) y)) (effected p s row (place_of p s w) (code_value v) (effect u))
+      by_use v None useless = refl
+      by_use v (Some (gave y)) useless = gives_value f y
+      by_use (int n) (Some (left sl)) useless = some_is_not_none (useless refl)
+      by_use (name n) (Some (left sl)) useless = leaves_slot f n sl (used_below A.holds.names n (λ z. some_is_not_none (useless z)))
 
 write_asks : (M : Machine) (t tid : ℕ) (σ : Env) (K : List Frame) (q : Position) (v w : Value) →
     step_word M t tid σ K state.first (write_word q v w) ≡ (write_use (slot_of M.names v) w >>= λ y. Some (used_to M t tid σ K (name_in v) y))
@@ -143,7 +145,7 @@ module _ {p s : List ℕ} {T : Threads} {R : Replay} {t row tid : ℕ} {σ : Env
       by_act A state.first word 0 (part_acts p s row 0 o u (code_value v) r)
       (subst (λ (m : Option Machine). Answers A word m (effected p s row q.index (code_value v) x)) (sym (step_asks R.machine t tid σ K o u v))
       (asks A r.below word v (use_of o sl) x (λ e. ap (use_of o) e ∙ unused_useless o u)
-      (uses_alike (slot_at s (code_value v)) o u sl (slot_decodes A.holds.names v) roomy (code_value v))))
+      (ap (λ (y : Thing). effect_of (rule_of (code_of (Unary (part_word o)))) y (code_value v)) (slot_decodes A.holds.names v) ∙ uses_alike o u sl roomy (code_value v))))
     where
       word : ControlPoint
       word = ready_at row q.index (code_value v)
@@ -152,7 +154,7 @@ module _ {p s : List ℕ} {T : Threads} {R : Replay} {t row tid : ℕ} {σ : Env
       sl = slot_of R.machine.names v
 
       x : Option StepEffect
-      x = effect_of (rule_of (code_of (Unary (part_word o)))) (slot_at s (code_value v)) (code_value v)
+      x = effect_of (rule_of (code_of (Unary (part_word o)))) (thing_at s (code_value v)) (code_value v)
 
   pub write_goes : {v w : Value} (A : AtWord p s T R t row tid σ (write_word q v w) K) → RowOf p q (Binary Write) n → kept s row q.index ≡ code_value v →
       Goes A state.first (ready_at row q.index (code_value w)) 0
@@ -160,7 +162,7 @@ module _ {p s : List ℕ} {T : Threads} {R : Replay} {t row tid : ℕ} {σ : Env
       by_act A state.first word 0 (write_acts p s row 0 (code_value v) (code_value w) held r)
       (subst (λ (m : Option Machine). Answers A word m (effected p s row q.index (code_value v) x)) (sym (write_asks R.machine t tid σ K q v w))
       (asks A r.below word v (write_use sl w) x (λ e. ap (λ (y : state.Slot). write_use y w) e)
-      (write_used (slot_at s (code_value v)) sl w (slot_decodes A.holds.names v))))
+      (ap (λ (y : Thing). written_of y (code_value w)) (slot_decodes A.holds.names v) ∙ write_used sl w)))
     where
       word : ControlPoint
       word = ready_at row q.index (code_value w)
@@ -169,4 +171,4 @@ module _ {p s : List ℕ} {T : Threads} {R : Replay} {t row tid : ℕ} {σ : Env
       sl = slot_of R.machine.names v
 
       x : Option StepEffect
-      x = written_of (slot_at s (code_value v)) (code_value w)
+      x = written_of (thing_at s (code_value v)) (code_value w)

@@ -19,7 +19,9 @@ use Rattle.threads.specs.Records.{no_record}
 use Rattle.threads.specs.Threads.{started}
 use Rattle.replay_control.specs.Layout.{finish, environments_at, thing_counts_at, next_value_at, thing_kinds_at, space_size}
 use Rattle.replay_control.specs.Control.{root_of, variable, entering}
-use Rattle.replay_step.specs.Slots.{slot_at}
+use Rattle.replay_objects.specs.declared.Thing.TheVariants.{Unused, Identifier}
+use Rattle.replay_objects.specs.Stored.{thing_of}
+use Rattle.replay_step.specs.Slots.{thing_at}
 use Rattle.replay_engine.specs.Steps.{zeroed, start_space, start_of}
 use Rattle.replay_engine.proofs.Clearing.{zeroed_length, zeroed_before, zeroed_in}
 use Rattle.replay_theory.specs.Run.{next_name, still_open}
@@ -30,7 +32,7 @@ use Rattle.replay_machine.specs.Replay.{Replay, start_replay}
 use Rattle.replay_simulation.proofs.Bodies.{ProgramStands}
 use Rattle.replay_simulation.proofs.Advancing.{same_all}
 use Rattle.replay_simulation.proofs.Finding.{enters_word}
-use Rattle.replay_simulation.proofs.Holds.{SlotIs, kind_code, kind_low, NamesHeld, ThreadHeld, Holds}
+use Rattle.replay_simulation.proofs.Holds.{coded, kind_code, kind_low, NamesHeld, ThreadHeld, Holds}
 use Rattle.replay_simulation.proofs.Proceeding.{Paused, proceeds}
 
 record_behind : (n i : ℕ) (r : Record) → r.state ≡ Running → (get_or (replicate n r) i no_record).state ≡ Running
@@ -67,18 +69,18 @@ module _ (p s : List ℕ) (long : length s ≡ space_size) where
   elsewhere : (j : ℕ) → j ≢ thing_kinds_at + 1 → j ≢ next_value_at → get_or s₁ j 0 ≡ get_or s₀ j 0
   elsewhere j a b = get_or-set_other (set s₀ (thing_kinds_at + 1) 1) next_value_at j 2 0 b ∙ get_or-set_other s₀ (thing_kinds_at + 1) j 1 0 a
 
-  kind_elsewhere : (v : ℕ) → v ≢ 1 → v < 322 → (slot_at s₁ v).kind ≡ 0
-  unfolding slot_at
-  kind_elsewhere v n l = rw (lt-ltb v 322 l) (elsewhere (thing_kinds_at + v) (λ e. n (omega (arith, e))) (λ e. omega (arith, e)) ∙ thing_clear (thing_kinds_at + v) (omega arith) (omega (arith, l)))
+  unused_elsewhere : (v : ℕ) → v ≢ 1 → v < 322 → thing_at s₁ v ≡ Unused
+  unfolding thing_at thing_of
+  unused_elsewhere v n l = rw (lt-ltb v 322 l, elsewhere (thing_kinds_at + v) (λ e. n (omega (arith, e))) (λ e. omega (arith, e)) ∙ thing_clear (thing_kinds_at + v) (omega arith) (omega (arith, l)))
 
-  kind_here : (slot_at s₁ 1).kind ≡ 1
-  unfolding slot_at
-  kind_here = get_or-set_other (set s₀ (thing_kinds_at + 1) 1) next_value_at (thing_kinds_at + 1) 2 0 (λ e. omega (arith, e)) ∙ get_or-set_same s₀ (thing_kinds_at + 1) 1 0 (omega (arith, long₀))
+  identifier_here : thing_at s₁ 1 ≡ Identifier
+  unfolding thing_at thing_of
+  identifier_here = rw (get_or-set_other (set s₀ (thing_kinds_at + 1) 1) next_value_at (thing_kinds_at + 1) 2 0 (λ e. omega (arith, e)) ∙ get_or-set_same s₀ (thing_kinds_at + 1) 1 0 (omega (arith, long₀)))
 
   names_start : NamesHeld s₁ (update (λ n. unused) 0 identifier) 1 (λ k. 0)
   unfolding next_name
   names_start = record {
-    constant = kind_elsewhere 0 (λ e. omega (arith, e)) (omega arith);
+    constant = unused_elsewhere 0 (λ e. omega (arith, e)) (omega arith);
     slots = λ n l. by_name n l (ℕ_discrete n 0);
     unused_from_lem = λ n l. update_other (λ m. unused) 0 n identifier (λ e. omega (arith, e, l));
     next_stored = get_or-set_same (set s₀ (thing_kinds_at + 1) 1) next_value_at 2 0 (let l = length-set s₀ (thing_kinds_at + 1) 1 in omega (arith, l, long₀));
@@ -87,9 +89,9 @@ module _ (p s : List ℕ) (long : length s ≡ space_size) where
     all = refl;
   }
     where
-      by_name : (n : ℕ) → suc n < 322 → (d : Dec (n ≡ 0)) → SlotIs (slot_at s₁ (suc n)) (choose d identifier unused)
-      by_name n l (yes e) = ap (λ (m : ℕ). (slot_at s₁ (suc m)).kind) e ∙ kind_here
-      by_name n l (no f) = kind_elsewhere (suc n) (λ e. f (omega (arith, e))) l
+      by_name : (n : ℕ) → suc n < 322 → (d : Dec (n ≡ 0)) → thing_at s₁ (suc n) ≡ coded (choose d identifier unused)
+      by_name n l (yes e) = ap (λ (m : ℕ). thing_at s₁ (suc m)) e ∙ identifier_here
+      by_name n l (no f) = unused_elsewhere (suc n) (λ e. f (omega (arith, e))) l
 
   module _ (P : Program) (A : ProgramStands p P.procedures P.root) where
     abbrev ph : MachineThread

@@ -30,11 +30,11 @@ use Rattle.replay_control.specs.Modes.{is}
 use Rattle.replay_control.specs.declared.ControlPoint.{ControlPoint}
 use Rattle.replay_control.specs.Shapes.{shape_at, is_write, is_if}
 use Rattle.replay_control.specs.Control.{second as second_at, ready_at, stopped_at, unrolled_at}
-use Rattle.replay_objects.specs.declared.Slot.{Slot}
+use Rattle.replay_objects.specs.declared.Thing.{Thing}
 use Rattle.replay_objects.specs.declared.StepEffect.TheVariants.{Spawns, Joins}
 use Rattle.replay_step.specs.declared.words.Halt.TheVariants.{Stuck}
 use Rattle.replay_objects.specs.Uses.{spawned_of, joined_of, effect_of}
-use Rattle.replay_step.specs.Slots.{slot_at}
+use Rattle.replay_step.specs.Slots.{thing_at}
 use Rattle.replay_engine.specs.ControlPoints.{control_point_at}
 use Rattle.replay_step.specs.Words.{subject, operand, effected, word_used, acted_by, acted}
 use Rattle.replay_engine.specs.Steps.{may_choose, act_step, after_act, stepped_from, stepped}
@@ -49,7 +49,7 @@ use Rattle.replay_machine.specs.State.{MachineThread, running}
 use Rattle.replay_machine.specs.Step.{step, step_unary, step_word}
 use Rattle.replay_machine.specs.Replay.{Replay, status_of, word_of, within, stepped as stepped_on}
 use Rattle.replay_simulation.proofs.Held.{code_value, part_word, no_part_word, RowOf, Stands, WordAt}
-use Rattle.replay_simulation.proofs.Holds.{SlotIs, Holds}
+use Rattle.replay_simulation.proofs.Holds.{coded, Holds}
 use Rattle.replay_simulation.proofs.Proceeding.{place_below}
 use Rattle.replay_simulation.proofs.Using.{Using, using_read, using_lock, using_unlock, using_post, using_wait, using_rdlock, using_rdunlock, using_wrlock, using_wrunlock, Roomy}
 use Rattle.replay_simulation.proofs.Naming.{slot_of, slot_decodes}
@@ -65,27 +65,30 @@ use Rattle.replay_simulation.proofs.Called.{call_goes}
 -- ------------------------------------------------------------------ identifiers
 
 -- what is asked of a slot before a thread is spawned or joined
-pub data Identified (x : Slot) (sl : state.Slot) : Type 0 where
+pub data Identified (x : Thing) (sl : state.Slot) : Type 0 where
   is_one : if_identifier sl ≡ Some tt → joined_of x ≡ Some Joins → spawned_of x ≡ Some Spawns → Identified x sl
   is_none : if_identifier sl ≡ None → joined_of x ≡ None → spawned_of x ≡ None → Identified x sl
 
-identified : (x : Slot) (sl : state.Slot) → SlotIs x sl → Identified x sl
+coded_identified : (sl : state.Slot) → Identified (coded sl) sl
 unfolding joined_of spawned_of
-identified x unused h = is_none refl (rw h) (rw h)
-identified x identifier h = is_one refl (rw h) (rw h)
-identified x (cell v) h = is_none refl (rw h.0) (rw h.0)
-identified x (a_lock opened) h = is_none refl (rw h.0) (rw h.0)
-identified x (a_lock closed) h = is_none refl (rw h.0) (rw h.0)
-identified x (semaphore c) h = is_none refl (rw h.0) (rw h.0)
-identified x (rwlock N (readers k)) h = is_none refl (rw h.0) (rw h.0)
-identified x (rwlock N writer) h = is_none refl (rw h.0) (rw h.0)
+coded_identified unused = is_none refl refl refl
+coded_identified identifier = is_one refl refl refl
+coded_identified (cell v) = is_none refl refl refl
+coded_identified (a_lock opened) = is_none refl refl refl
+coded_identified (a_lock closed) = is_none refl refl refl
+coded_identified (semaphore c) = is_none refl refl refl
+coded_identified (rwlock N (readers k)) = is_none refl refl refl
+coded_identified (rwlock N writer) = is_none refl refl refl
+
+identified : (x : Thing) (sl : state.Slot) → x ≡ coded sl → Identified x sl
+identified x sl h = subst (λ (y : Thing). Identified y sl) (sym h) (coded_identified sl)
 
 module _ (p s : List ℕ) (row c : ℕ) {q : Position} {n : ℕ} (v : ℕ) where
-  join_acts : RowOf p q (Unary Join) n → acted p s (ready_at row q.index v) c ≡ effected p s row q.index v (joined_of (slot_at s v))
+  join_acts : RowOf p q (Unary Join) n → acted p s (ready_at row q.index v) c ≡ effected p s row q.index v (joined_of (thing_at s v))
   unfolding acted acted_by word_used subject operand effect_of shape_at is_write rule_of printed
   join_acts r = rw r.code (rw r.code)
 
-  spawn_acts : RowOf p q (Binary Spawn) n → acted p s (ready_at row q.index v) c ≡ effected p s row q.index v (spawned_of (slot_at s v))
+  spawn_acts : RowOf p q (Binary Spawn) n → acted p s (ready_at row q.index v) c ≡ effected p s row q.index v (spawned_of (thing_at s v))
   unfolding acted acted_by word_used subject operand effect_of shape_at is_write rule_of printed
   spawn_acts r = rw r.code (rw r.code)
 
@@ -190,16 +193,16 @@ module _ {p s : List ℕ} {T : Threads} {R : Replay} {t row tid : ℕ} {σ : Env
       Goes A first (ready_at row q.index (code_value v)) 0
   unfolding after_act effected act_step
   join_goes {q} (int k) A r =
-      rw (join_acts p s row 0 0 r) (constant (identified (slot_at s 0) unused (slot_decodes A.holds.names (int k))))
+      rw (join_acts p s row 0 0 r) (constant (identified (thing_at s 0) unused (slot_decodes A.holds.names (int k))))
     where
-      constant : Identified (slot_at s 0) unused → Answers A (ready_at row q.index 0) None (effected p s row q.index 0 (joined_of (slot_at s 0)))
+      constant : Identified (thing_at s 0) unused → Answers A (ready_at row q.index 0) None (effected p s row q.index 0 (joined_of (thing_at s 0)))
       constant (is_one a b c) = none_is_not_some a
       constant (is_none a b c) = rw b (no_identifier A (ready_at row q.index 0) q.index 0)
   join_goes {q} (name n) A r =
-      rw (join_acts p s row 0 (suc n) r) (by_slot (identified (slot_at s (suc n)) (R.machine.names n) (slot_decodes A.holds.names (name n))))
+      rw (join_acts p s row 0 (suc n) r) (by_slot (identified (thing_at s (suc n)) (R.machine.names n) (slot_decodes A.holds.names (name n))))
     where
-      by_slot : Identified (slot_at s (suc n)) (R.machine.names n) →
-          Answers A (ready_at row q.index (suc n)) (step_unary R.machine t tid σ K join (name n)) (effected p s row q.index (suc n) (joined_of (slot_at s (suc n))))
+      by_slot : Identified (thing_at s (suc n)) (R.machine.names n) →
+          Answers A (ready_at row q.index (suc n)) (step_unary R.machine t tid σ K join (name n)) (effected p s row q.index (suc n) (joined_of (thing_at s (suc n))))
       by_slot (is_one a b c) = rw (a, b) (joining_goes A)
       by_slot (is_none a b c) = rw (a, b) (no_identifier A (ready_at row q.index (suc n)) q.index (suc n))
 
@@ -207,16 +210,16 @@ module _ {p s : List ℕ} {T : Threads} {R : Replay} {t row tid : ℕ} {σ : Env
       Stands p finish (second_at p q.index) e → Goes A first (ready_at row q.index (code_value v)) 0
   unfolding after_act effected act_step
   spawn_goes {q} (int k) A r S =
-      rw (spawn_acts p s row 0 0 r) (constant (identified (slot_at s 0) unused (slot_decodes A.holds.names (int k))))
+      rw (spawn_acts p s row 0 0 r) (constant (identified (thing_at s 0) unused (slot_decodes A.holds.names (int k))))
     where
-      constant : Identified (slot_at s 0) unused → Answers A (ready_at row q.index 0) None (effected p s row q.index 0 (spawned_of (slot_at s 0)))
+      constant : Identified (thing_at s 0) unused → Answers A (ready_at row q.index 0) None (effected p s row q.index 0 (spawned_of (thing_at s 0)))
       constant (is_one a b c) = none_is_not_some a
       constant (is_none a b c) = rw c (no_identifier A (ready_at row q.index 0) q.index 0)
   spawn_goes {q} (name n) {e} A r S =
-      rw (spawn_acts p s row 0 (suc n) r) (by_slot (identified (slot_at s (suc n)) (R.machine.names n) (slot_decodes A.holds.names (name n))))
+      rw (spawn_acts p s row 0 (suc n) r) (by_slot (identified (thing_at s (suc n)) (R.machine.names n) (slot_decodes A.holds.names (name n))))
     where
-      by_slot : Identified (slot_at s (suc n)) (R.machine.names n) →
-          Answers A (ready_at row q.index (suc n)) (step_word R.machine t tid σ K first (spawn_word q (name n) e)) (effected p s row q.index (suc n) (spawned_of (slot_at s (suc n))))
+      by_slot : Identified (thing_at s (suc n)) (R.machine.names n) →
+          Answers A (ready_at row q.index (suc n)) (step_word R.machine t tid σ K first (spawn_word q (name n) e)) (effected p s row q.index (suc n) (spawned_of (thing_at s (suc n))))
       by_slot (is_one a b c) = rw (a, c) (spawning_goes A r S)
       by_slot (is_none a b c) = rw (a, c) (no_identifier A (ready_at row q.index (suc n)) q.index (suc n))
 

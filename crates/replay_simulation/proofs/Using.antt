@@ -1,12 +1,12 @@
--- A word that uses what its part names: in the machine a question about the slot, on numbers a function of the slot's three numbers. Word by
--- word and slot by slot they give the same.
+-- A word that uses what its part names: in the machine a question about the slot, on numbers a function of the thing that the slot is there. Word by word and
+-- slot by slot they give the same.
 use Rattle.std.proofs.Common.{Option, None, Some}
 use Prim.Native.Nat.{ℕ, zero, suc, ◌+◌, ◌-◌, ◌<◌}
-use mathlib.Core.Path.{◌≡◌, refl, ap}
+use mathlib.Core.Path.{◌≡◌, refl}
 use mathlib.Core.List.{List}
 use native.Mathlib.Omega.{arith}
 use native.Mathlib.Decide.{dec_lt}
-use borrow.Author.Tests.{lt-ltb, le-ltb, eq-eqb, ne_eqb}
+use borrow.Author.Tests.{lt-ltb, le-ltb, ne_eqb}
 use Rattle.spec.specs.declared.Word.TheVariants.{Unary}
 use Rattle.calculus.specs.Expression as calculus
 use Rattle.calculus.specs.Expression.{Value, int, name, read, lock, unlock, post, wait, hold, rdlock, rdunlock, wrlock, wrunlock, choose}
@@ -14,16 +14,16 @@ use Rattle.calculus.specs.State as state
 use Rattle.calculus.specs.State.{opened, closed, readers, writer, unused, identifier, cell, a_lock, semaphore, rwlock}
 use Rattle.calculus.specs.Reduction.{◌>>=◌, ◌>>◌, cell_value, lock_state, if_opened, count, one_less, rw_state, inside_after}
 use Rattle.workspace.specs.Layout.{rule_of, code_of, printed}
-use Rattle.replay_objects.specs.declared.Slot.{Slot}
+use Rattle.replay_objects.specs.declared.Thing.TheVariants.{Rwlock}
 use Rattle.replay_objects.specs.declared.StepEffect.{StepEffect}
 use Rattle.replay_objects.specs.declared.StepEffect.TheVariants.{Returns, Updates}
-use Rattle.replay_objects.specs.Uses.{slot, read_of, locked_of, unlocked_of, posted_of, waited_of, rdlocked_of, rdunlocked_of, wrlocked_of, wrunlocked_of, effect_of}
+use Rattle.replay_objects.specs.Uses.{read_of, locked_of, unlocked_of, posted_of, waited_of, rdlocked_of, rdunlocked_of, wrlocked_of, wrunlocked_of, effect_of}
 use Rattle.replay_machine.specs.Environment.{Env}
 use Rattle.replay_machine.specs.Control.{Frame}
 use Rattle.replay_machine.specs.State.{Machine}
 use Rattle.replay_machine.specs.Step.{gives, leaves, step_unary}
 use Rattle.replay_simulation.proofs.Held.{code_value, part_word}
-use Rattle.replay_simulation.proofs.Holds.{SlotIs}
+use Rattle.replay_simulation.proofs.Holds.{coded}
 use Rattle.replay_simulation.proofs.Naming.{slot_of}
 
 -- ------------------------------------------------------------------ in the machine
@@ -148,10 +148,10 @@ module _ (M : Machine) (i tid : ℕ) (σ : Env) (K : List Frame) where
 -- ------------------------------------------------------------------ on numbers
 
 -- what the code makes of it
-abbrev pub UseIs : Option Use → Option StepEffect → Type 0
-UseIs None u = u ≡ None
-UseIs (Some (gave v)) u = u ≡ Some (Returns (code_value v))
-UseIs (Some (left sl)) u = (y : Slot) × (u ≡ Some (Updates y)) × SlotIs y sl
+abbrev pub effect : Option Use → Option StepEffect
+effect None = None
+effect (Some (gave v)) = Some (Returns (code_value v))
+effect (Some (left sl)) = Some (Updates (coded sl))
 
 -- a count that can still be raised
 abbrev pub Roomy : state.Slot → Type 0
@@ -162,144 +162,125 @@ Roomy (a_lock l) = Unit {0}
 Roomy (semaphore c) = suc c < 18446744073709551616
 Roomy (rwlock N x) = Unit {0}
 
-module _ (x : Slot) where
-  read_used : (sl : state.Slot) → SlotIs x sl → UseIs (use_of read sl) (read_of x)
-  unfolding read_of
-  read_used unused h = rw h
-  read_used identifier h = rw h
-  read_used (cell v) h = rw h.0 (ap (λ (v : ℕ). Some (Returns v)) h.1)
-  read_used (a_lock opened) h = rw h.0
-  read_used (a_lock closed) h = rw h.0
-  read_used (semaphore c) h = rw h.0
-  read_used (rwlock N (readers k)) h = rw h.0
-  read_used (rwlock N writer) h = rw h.0
+read_used : (sl : state.Slot) → read_of (coded sl) ≡ effect (use_of read sl)
+unfolding read_of
+read_used unused = refl
+read_used identifier = refl
+read_used (cell v) = refl
+read_used (a_lock opened) = refl
+read_used (a_lock closed) = refl
+read_used (semaphore c) = refl
+read_used (rwlock N (readers k)) = refl
+read_used (rwlock N writer) = refl
 
-  lock_used : (sl : state.Slot) → SlotIs x sl → UseIs (use_of lock sl) (locked_of x)
-  unfolding locked_of
-  lock_used unused h = rw h
-  lock_used identifier h = rw h
-  lock_used (cell v) h = rw h.0
-  lock_used (a_lock opened) h = (slot 3 1 0, rw (h.0, h.1), (refl, refl))
-  lock_used (a_lock closed) h = rw (h.0, h.1)
-  lock_used (semaphore c) h = rw h.0
-  lock_used (rwlock N (readers k)) h = rw h.0
-  lock_used (rwlock N writer) h = rw h.0
+lock_used : (sl : state.Slot) → locked_of (coded sl) ≡ effect (use_of lock sl)
+unfolding locked_of
+lock_used unused = refl
+lock_used identifier = refl
+lock_used (cell v) = refl
+lock_used (a_lock opened) = refl
+lock_used (a_lock closed) = refl
+lock_used (semaphore c) = refl
+lock_used (rwlock N (readers k)) = refl
+lock_used (rwlock N writer) = refl
 
-  unlock_used : (sl : state.Slot) → SlotIs x sl → UseIs (use_of unlock sl) (unlocked_of x)
-  unfolding unlocked_of
-  unlock_used unused h = rw h
-  unlock_used identifier h = rw h
-  unlock_used (cell v) h = rw h.0
-  unlock_used (a_lock opened) h = (slot 3 0 0, rw h.0, (refl, refl))
-  unlock_used (a_lock closed) h = (slot 3 0 0, rw h.0, (refl, refl))
-  unlock_used (semaphore c) h = rw h.0
-  unlock_used (rwlock N (readers k)) h = rw h.0
-  unlock_used (rwlock N writer) h = rw h.0
+unlock_used : (sl : state.Slot) → unlocked_of (coded sl) ≡ effect (use_of unlock sl)
+unfolding unlocked_of
+unlock_used unused = refl
+unlock_used identifier = refl
+unlock_used (cell v) = refl
+unlock_used (a_lock opened) = refl
+unlock_used (a_lock closed) = refl
+unlock_used (semaphore c) = refl
+unlock_used (rwlock N (readers k)) = refl
+unlock_used (rwlock N writer) = refl
 
-  -- one more: the first number goes up, or, where it is full, the second
-  posts : (c : ℕ) → SlotIs x (semaphore c) → suc c < 18446744073709551616 → Dec (x.first < 4294967295) → UseIs (Some (left (semaphore (suc c)))) (posted_of x)
-  unfolding posted_of
-  posts c h r (yes l) = (slot 4 (x.first + 1) x.second, rw (h.0, lt-ltb x.first 4294967295 l), (refl, omega (arith, h.1), omega (arith, l)))
-  posts c h r (no f) =
-      let e : x.first ≡ 4294967295 = omega (arith, f, h.2) in
-      let m : x.second < 4294967295 = omega (arith, r, h.1, e) in
-      (slot 4 0 (x.second + 1), rw (h.0, le-ltb x.first 4294967295 (omega (arith, e)), lt-ltb x.second 4294967295 m), (refl, omega (arith, h.1, e), omega arith))
+post_used : (sl : state.Slot) → Roomy sl → posted_of (coded sl) ≡ effect (use_of post sl)
+unfolding posted_of
+post_used unused r = refl
+post_used identifier r = refl
+post_used (cell v) r = refl
+post_used (a_lock opened) r = refl
+post_used (a_lock closed) r = refl
+post_used (semaphore c) r = let e : c + 1 ≡ suc c = omega arith in rw (lt-ltb c 18446744073709551615 (omega (arith, r)), e)
+post_used (rwlock N (readers k)) r = refl
+post_used (rwlock N writer) r = refl
 
-  -- one less
-  waits : (c : ℕ) → SlotIs x (semaphore c) → Dec (0 < x.first) → Dec (0 < x.second) → UseIs (one_less c >>= λ d. Some (left (semaphore d))) (waited_of x)
-  unfolding waited_of
-  waits zero h (yes l) d = absurd (omega (arith, l, h.1))
-  waits (suc c) h (yes l) d = (slot 4 (x.first - 1) x.second, rw (h.0, lt-ltb 0 x.first l), (refl, omega (arith, l, h.1), omega (arith, h.2)))
-  waits zero h (no f) (yes l) = absurd (omega (arith, l, h.1))
-  waits (suc c) h (no f) (yes l) =
-      (slot 4 4294967295 (x.second - 1), rw (h.0, le-ltb 0 x.first (omega (arith, f)), lt-ltb 0 x.second l), (refl, omega (arith, l, f, h.1), omega arith))
-  waits zero h (no f) (no g) = rw (h.0, le-ltb 0 x.first (omega (arith, f)), le-ltb 0 x.second (omega (arith, g)))
-  waits (suc c) h (no f) (no g) = absurd (omega (arith, f, g, h.1))
+wait_used : (sl : state.Slot) → waited_of (coded sl) ≡ effect (use_of wait sl)
+unfolding waited_of
+wait_used unused = refl
+wait_used identifier = refl
+wait_used (cell v) = refl
+wait_used (a_lock opened) = refl
+wait_used (a_lock closed) = refl
+wait_used (semaphore zero) = refl
+wait_used (semaphore (suc c)) = let e : suc c - 1 ≡ c = omega arith in rw (lt-ltb 0 (suc c) (omega arith), e)
+wait_used (rwlock N (readers k)) = refl
+wait_used (rwlock N writer) = refl
 
-  reads_in : (N k : ℕ) → SlotIs x (rwlock N (readers k)) → (d : Dec (k < N)) → UseIs (choose d (Some (readers (suc k))) None >>= λ after. Some (left (rwlock N after))) (rdlocked_of x)
-  unfolding rdlocked_of
-  reads_in N k h (yes l) = (slot 5 x.first (x.second + 1), rw (h.0, lt-ltb x.second x.first (omega (arith, l, h.1, h.2))), (refl, h.1, omega (arith, h.2)))
-  reads_in N k h (no f) = rw (h.0, le-ltb x.second x.first (omega (arith, f, h.1, h.2)))
+-- one reader more, if there is a place
+reads_in : (N k : ℕ) (d : Dec (k < N)) → rdlocked_of (Rwlock N k) ≡ effect (choose d (Some (readers (suc k))) None >>= λ after. Some (left (rwlock N after)))
+unfolding rdlocked_of
+reads_in N k (yes l) = let e : k + 1 ≡ suc k = omega arith in rw (lt-ltb k N l, e)
+reads_in N k (no f) = rw (le-ltb k N (omega (arith, f)))
 
-  post_used : (sl : state.Slot) → SlotIs x sl → Roomy sl → UseIs (use_of post sl) (posted_of x)
-  unfolding posted_of
-  post_used unused h r = rw h
-  post_used identifier h r = rw h
-  post_used (cell v) h r = rw h.0
-  post_used (a_lock opened) h r = rw h.0
-  post_used (a_lock closed) h r = rw h.0
-  post_used (semaphore c) h r = posts c h r (dec_lt x.first 4294967295)
-  post_used (rwlock N (readers k)) h r = rw h.0
-  post_used (rwlock N writer) h r = rw h.0
+rdlock_used : (sl : state.Slot) → rdlocked_of (coded sl) ≡ effect (use_of (hold rdlock) sl)
+unfolding rdlocked_of
+rdlock_used unused = refl
+rdlock_used identifier = refl
+rdlock_used (cell v) = refl
+rdlock_used (a_lock opened) = refl
+rdlock_used (a_lock closed) = refl
+rdlock_used (semaphore c) = refl
+rdlock_used (rwlock N (readers k)) = reads_in N k (dec_lt k N)
+rdlock_used (rwlock N writer) = refl
 
-  wait_used : (sl : state.Slot) → SlotIs x sl → UseIs (use_of wait sl) (waited_of x)
-  unfolding waited_of
-  wait_used unused h = rw h
-  wait_used identifier h = rw h
-  wait_used (cell v) h = rw h.0
-  wait_used (a_lock opened) h = rw h.0
-  wait_used (a_lock closed) h = rw h.0
-  wait_used (semaphore c) h = waits c h (dec_lt 0 x.first) (dec_lt 0 x.second)
-  wait_used (rwlock N (readers k)) h = rw h.0
-  wait_used (rwlock N writer) h = rw h.0
+rdunlock_used : (sl : state.Slot) → rdunlocked_of (coded sl) ≡ effect (use_of (hold rdunlock) sl)
+unfolding rdunlocked_of
+rdunlock_used unused = refl
+rdunlock_used identifier = refl
+rdunlock_used (cell v) = refl
+rdunlock_used (a_lock opened) = refl
+rdunlock_used (a_lock closed) = refl
+rdunlock_used (semaphore c) = refl
+rdunlock_used (rwlock N (readers zero)) = refl
+rdunlock_used (rwlock N (readers (suc k))) = let e : suc k - 1 ≡ k = omega arith in rw (lt-ltb 0 (suc k) (omega arith), e)
+rdunlock_used (rwlock N writer) = refl
 
-  rdlock_used : (sl : state.Slot) → SlotIs x sl → UseIs (use_of (hold rdlock) sl) (rdlocked_of x)
-  unfolding rdlocked_of
-  rdlock_used unused h = rw h
-  rdlock_used identifier h = rw h
-  rdlock_used (cell v) h = rw h.0
-  rdlock_used (a_lock opened) h = rw h.0
-  rdlock_used (a_lock closed) h = rw h.0
-  rdlock_used (semaphore c) h = rw h.0
-  rdlock_used (rwlock N (readers k)) h = reads_in N k h (dec_lt k N)
-  rdlock_used (rwlock N writer) h = rw h.0
+wrlock_used : (sl : state.Slot) → wrlocked_of (coded sl) ≡ effect (use_of (hold wrlock) sl)
+unfolding wrlocked_of
+wrlock_used unused = refl
+wrlock_used identifier = refl
+wrlock_used (cell v) = refl
+wrlock_used (a_lock opened) = refl
+wrlock_used (a_lock closed) = refl
+wrlock_used (semaphore c) = refl
+wrlock_used (rwlock N (readers zero)) = refl
+wrlock_used (rwlock N (readers (suc k))) = rw (ne_eqb (suc k) 0 (λ e. omega (arith, e)))
+wrlock_used (rwlock N writer) = refl
 
-  rdunlock_used : (sl : state.Slot) → SlotIs x sl → UseIs (use_of (hold rdunlock) sl) (rdunlocked_of x)
-  unfolding rdunlocked_of
-  rdunlock_used unused h = rw h
-  rdunlock_used identifier h = rw h
-  rdunlock_used (cell v) h = rw h.0
-  rdunlock_used (a_lock opened) h = rw h.0
-  rdunlock_used (a_lock closed) h = rw h.0
-  rdunlock_used (semaphore c) h = rw h.0
-  rdunlock_used (rwlock N (readers zero)) h = rw (h.0, le-ltb 0 x.second (omega (arith, h.2)))
-  rdunlock_used (rwlock N (readers (suc k))) h = (slot 5 x.first (x.second - 1), rw (h.0, lt-ltb 0 x.second (omega (arith, h.2))), (refl, h.1, omega (arith, h.2)))
-  rdunlock_used (rwlock N writer) h = rw h.0
+wrunlock_used : (sl : state.Slot) → wrunlocked_of (coded sl) ≡ effect (use_of (hold wrunlock) sl)
+unfolding wrunlocked_of
+wrunlock_used unused = refl
+wrunlock_used identifier = refl
+wrunlock_used (cell v) = refl
+wrunlock_used (a_lock opened) = refl
+wrunlock_used (a_lock closed) = refl
+wrunlock_used (semaphore c) = refl
+wrunlock_used (rwlock N (readers k)) = refl
+wrunlock_used (rwlock N writer) = refl
 
-  wrlock_used : (sl : state.Slot) → SlotIs x sl → UseIs (use_of (hold wrlock) sl) (wrlocked_of x)
-  unfolding wrlocked_of
-  wrlock_used unused h = rw h
-  wrlock_used identifier h = rw h
-  wrlock_used (cell v) h = rw h.0
-  wrlock_used (a_lock opened) h = rw h.0
-  wrlock_used (a_lock closed) h = rw h.0
-  wrlock_used (semaphore c) h = rw h.0
-  wrlock_used (rwlock N (readers zero)) h = (slot 6 x.first 0, rw (h.0, eq-eqb x.second 0 h.2), (refl, h.1))
-  wrlock_used (rwlock N (readers (suc k))) h = rw (h.0, ne_eqb x.second 0 (λ e. omega (arith, e, h.2)))
-  wrlock_used (rwlock N writer) h = rw h.0
-
-  wrunlock_used : (sl : state.Slot) → SlotIs x sl → UseIs (use_of (hold wrunlock) sl) (wrunlocked_of x)
-  unfolding wrunlocked_of
-  wrunlock_used unused h = rw h
-  wrunlock_used identifier h = rw h
-  wrunlock_used (cell v) h = rw h.0
-  wrunlock_used (a_lock opened) h = rw h.0
-  wrunlock_used (a_lock closed) h = rw h.0
-  wrunlock_used (semaphore c) h = rw h.0
-  wrunlock_used (rwlock N (readers k)) h = rw h.0
-  wrunlock_used (rwlock N writer) h = (slot 5 x.first 0, rw h.0, (refl, h.1, refl))
-
-  pub uses_alike : (o : calculus.Unary) → Using o → (sl : state.Slot) → SlotIs x sl → Roomy sl → (v : ℕ) → UseIs (use_of o sl) (effect_of (rule_of (code_of (Unary (part_word o)))) x v)
-  unfolding effect_of rule_of printed
-  uses_alike read using_read sl h r v = read_used sl h
-  uses_alike lock using_lock sl h r v = lock_used sl h
-  uses_alike unlock using_unlock sl h r v = unlock_used sl h
-  uses_alike post using_post sl h r v = post_used sl h r
-  uses_alike wait using_wait sl h r v = wait_used sl h
-  uses_alike (hold rdlock) using_rdlock sl h r v = rdlock_used sl h
-  uses_alike (hold rdunlock) using_rdunlock sl h r v = rdunlock_used sl h
-  uses_alike (hold wrlock) using_wrlock sl h r v = wrlock_used sl h
-  uses_alike (hold wrunlock) using_wrunlock sl h r v = wrunlock_used sl h
-  uses_alike calculus.join u sl h r v = elim u [ ]
-  uses_alike calculus.ref u sl h r v = elim u [ ]
-  uses_alike (calculus.call f) u sl h r v = elim u [ ]
+pub uses_alike : (o : calculus.Unary) → Using o → (sl : state.Slot) → Roomy sl → (v : ℕ) → effect_of (rule_of (code_of (Unary (part_word o)))) (coded sl) v ≡ effect (use_of o sl)
+unfolding effect_of rule_of printed
+uses_alike read using_read sl r v = read_used sl
+uses_alike lock using_lock sl r v = lock_used sl
+uses_alike unlock using_unlock sl r v = unlock_used sl
+uses_alike post using_post sl r v = post_used sl r
+uses_alike wait using_wait sl r v = wait_used sl
+uses_alike (hold rdlock) using_rdlock sl r v = rdlock_used sl
+uses_alike (hold rdunlock) using_rdunlock sl r v = rdunlock_used sl
+uses_alike (hold wrlock) using_wrlock sl r v = wrlock_used sl
+uses_alike (hold wrunlock) using_wrunlock sl r v = wrunlock_used sl
+uses_alike calculus.join u sl r v = elim u [ ]
+uses_alike calculus.ref u sl r v = elim u [ ]
+uses_alike (calculus.call f) u sl r v = elim u [ ]

@@ -10,12 +10,13 @@ use Rattle.replay_control.specs.declared.Mode.TheVariants.{Stopped, Ready}
 use Rattle.replay_control.specs.Modes.{is}
 use Rattle.replay_control.specs.Shapes.{shape_at, is_write}
 use Rattle.replay_control.specs.Control.{kept, continuation, second, behind, entering, returning, stopped_at, unrolled_at}
-use Rattle.replay_objects.specs.declared.Slot.{Slot}
+use Rattle.replay_objects.specs.declared.Thing.{Thing}
+use Rattle.replay_objects.specs.Stored.{numbers_of}
 use Rattle.replay_objects.specs.declared.StepEffect.{StepEffect}
 use Rattle.replay_objects.specs.declared.StepEffect.TheVariants.{Returns, Updates, Makes, Spawns, Joins}
 use Rattle.replay_objects.specs.Uses.{effect_of}
 use Rattle.replay_step.specs.Calls.{call_entered, called_space}
-use Rattle.replay_step.specs.Slots.{slot_at, slot_put}
+use Rattle.replay_step.specs.Slots.{thing_at, thing_put}
 use Rattle.replay_step.specs.declared.words.Act.{Act}
 use Rattle.replay_step.specs.declared.words.Act.TheVariants.{Go, Spawn, Join}
 use Rattle.replay_step.specs.declared.words.Halt.{Halt}
@@ -42,12 +43,12 @@ bound p s f = (Ok (Go (entering f.row (second p f.at))), set s (environments_at 
 -- ------------------------------------------------------------------ words that use what a value names
 
 -- one thing more of its kind, with the next name
-unfoldable pub with_thing : (s : List ℕ) → Slot → List ℕ
-with_thing s x = set (set (slot_put s (get_or s next_value_at 0) x) (thing_counts_at + x.kind) (get_or s (thing_counts_at + x.kind) 0 + 1)) next_value_at (get_or s next_value_at 0 + 1)
+unfoldable pub with_thing : (s : List ℕ) → Thing → List ℕ
+with_thing s x = set (set (thing_put s (get_or s next_value_at 0) x) (thing_counts_at + (numbers_of x).kind) (get_or s (thing_counts_at + (numbers_of x).kind) 0 + 1)) next_value_at (get_or s next_value_at 0 + 1)
 
-unfoldable pub new_thing : (p s : List ℕ) (r k : ℕ) → Slot → Result Act Halt × List ℕ
+unfoldable pub new_thing : (p s : List ℕ) (r k : ℕ) → Thing → Result Act Halt × List ℕ
 new_thing p s r k x =
-    when leb 64 (get_or s (thing_counts_at + x.kind) 0) then (Err Past, s)
+    when leb 64 (get_or s (thing_counts_at + (numbers_of x).kind) 0) then (Err Past, s)
     else when leb 322 (get_or s next_value_at 0) then (Err Past, s)
     else (Ok (Go (given p r k (get_or s next_value_at 0))), with_thing s x)
 
@@ -59,7 +60,7 @@ operand p f = when is f.mode Stopped then get_or p (values_at + f.at) 0 else f.v
 
 unfoldable pub effected : (p s : List ℕ) (r k v : ℕ) → Option StepEffect → Result Act Halt × List ℕ
 effected p s r k v (Some (Returns w)) = (Ok (Go (given p r k w)), s)
-effected p s r k v (Some (Updates x)) = (Ok (Go (given p r k 0)), slot_put s v x)
+effected p s r k v (Some (Updates x)) = (Ok (Go (given p r k 0)), thing_put s v x)
 effected p s r k v (Some (Makes x)) = new_thing p s r k x
 effected p s r k v (Some Spawns) = (Ok (Spawn v), s)
 effected p s r k v (Some Joins) = (Ok (Join v), s)
@@ -67,7 +68,7 @@ effected p s r k v None = (Err Stuck, s)
 
 unfoldable pub word_used : (p s : List ℕ) → ControlPoint → Result Act Halt × List ℕ
 word_used p s f =
-    effected p s f.row f.at (subject p s f) (effect_of (rule_of (get_or p (words_at + f.at) 0)) (slot_at s (subject p s f)) (operand p f))
+    effected p s f.row f.at (subject p s f) (effect_of (rule_of (get_or p (words_at + f.at) 0)) (thing_at s (subject p s f)) (operand p f))
 
 -- ------------------------------------------------------------------ any word
 

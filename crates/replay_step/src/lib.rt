@@ -6,5 +6,5 @@ mod calls;
 mod slots;
 mod words;
 
-pub use slots::slot_at;
+pub use slots::thing_at;
 pub use words::{Act, Halt, gives, reduce};

@@ -4,9 +4,9 @@ ghost use Rattle.replay_step.specs.Words.{given, branched, looped, bound, new_th
 ghost use Rattle.replay_step.specs.declared.words.Act.TheVariants.{Go};
 
 use crate::calls::call;
-use crate::slots::{put_slot, slot_at};
+use crate::slots::{put_thing, thing_at};
 use replay_control::{ControlPoint, Mode, behind, layout, put, second};
-use replay_objects::{Slot, StepEffect, effect_of};
+use replay_objects::{Slot, StepEffect, Thing, effect_of};
 use workspace::{Shape, at, index, rule_of};
 
 // The most things of a kind.
@@ -81,16 +81,16 @@ fn bind(program: &[u32], space: &mut [u32], f: ControlPoint) -> ControlPoint
 
 // The word at f becomes the name of a new thing, if there is room for one more of its kind.
 #[tactic(auto, unfolding(crate::specs::Words::new_thing, crate::specs::Words::with_thing))]
-fn make(program: &[u32], space: &mut [u32], f: ControlPoint, x: Slot) -> Result<Act, Halt>
+fn make(program: &[u32], space: &mut [u32], f: ControlPoint, x: Thing) -> Result<Act, Halt>
     ensures { new_thing program.now space.old f.row f.at x ≡ (result, space.new) }
 {
-    let kind = index(x.kind);
+    let kind = index(Slot::of(x).kind);
     let count = at(space, layout::THING_COUNTS + kind);
     let next = at(space, layout::NEXT_VALUE);
     if LIMIT <= count || layout::VALUE_LIMIT <= next {
         return Err(Halt::Past);
     }
-    put_slot(space, next, x);
+    put_thing(space, next, x);
     put(space, layout::THING_COUNTS + kind, count + 1);
     put(space, layout::NEXT_VALUE, next + 1);
     Ok(Act::Go(gives(program, f, next)))
@@ -134,7 +134,7 @@ fn effect(
     match u {
         StepEffect::Returns(w) => Ok(Act::Go(gives(program, f, w))),
         StepEffect::Updates(x) => {
-            put_slot(space, v, x);
+            put_thing(space, v, x);
             Ok(Act::Go(gives(program, f, 0)))
         }
         StepEffect::Makes(x) => make(program, space, f, x),
@@ -150,7 +150,7 @@ fn use_word(program: &[u32], space: &mut [u32], f: ControlPoint) -> Result<Act, 
 {
     let r = rule_of(at(program, workspace::WORDS + index(f.at)));
     let v = subject(program, space, f);
-    let x = slot_at(space, v);
+    let x = thing_at(space, v);
     let u = effect_of(r, x, operand(program, f)).ok_or(Halt::Stuck)?;
     effect(program, space, f, v, u)
 }

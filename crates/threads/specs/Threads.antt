@@ -31,8 +31,7 @@ joined = turned Joined
 
 unfoldable pub is_running : Status → Bool
 is_running Running = true
-is_running Finished = false
-is_running Joined = false
+is_running s = false
 
 unfoldable pub runs : Threads → (t : ℕ) → Bool
 runs T t = when leb T.count t then false else when leb 16 t then false else is_running (get_or T.records t no_record).state
