@@ -1,5 +1,5 @@
 -- Laws of judging one step: the scopes of lets and procedures, and that what is stored of lets does not count.
-use Rattle.std.proofs.Common.{Option, None, Some}
+use Rattle.std.proofs.Common.{Option, None, Some, Ok}
 use mathlib.Core.Path.{◌≡◌, refl, ap}
 use mathlib.Core.Logic.{inl, inr}
 use mathlib.Core.List.{List}
@@ -7,7 +7,7 @@ use Prim.Native.Nat.{ℕ, ◌+◌, ◌-◌, ◌<◌, ◌≤◌}
 use native.Mathlib.Omega.{arith}
 use native.Mathlib.Decide.{dec_lt}
 use lib.ListN.{get_or}
-use borrow.Author.Tests.{le-ltb, lt-ltb}
+use borrow.Author.Tests.{le-leb, le-ltb, lt-ltb}
 use Rattle.spec.specs.Words.{role}
 use Rattle.spec.specs.declared.Role.{Role}
 use Rattle.spec.specs.declared.Role.TheVariants.{Binds, Uses, Calls, Neither}
@@ -15,6 +15,7 @@ use Rattle.workspace.specs.Layout.{words_at, values_at, ends_at, lets_at, lines_
 use Rattle.workspace.specs.Region.{ChangedWithin}
 use Rattle.workspace.specs.Steps.{word_at, value_at, step_line_at}
 use Rattle.program_scopes.specs.Scopes.{first_at}
+use Rattle.program_scopes.specs.declared.binders.Judged.TheVariants.{Store}
 use Rattle.program_scopes.specs.Judging.{judge_let, scope_from, scope_till, judge_var, judge_call, judge_by, judge_of}
 
 -- the scope of a let, by its index, and of a procedure, by its number
@@ -34,6 +35,11 @@ module _ (w : List ℕ) where
   pub till_proc : (f : ℕ) → scope_till w (proc_mark + f) ≡ first_at w (f + 1)
   unfolding scope_till
   till_proc f = let e : proc_mark + f - proc_mark + 1 ≡ f + 1 = omega arith in rw (le-ltb (proc_mark + f) 256 (omega arith), e) refl
+
+-- a use within the scope of what is bound at b
+pub used_inside : (w : List ℕ) (k b : ℕ) {from till : ℕ} → from ≡ scope_from w b → till ≡ scope_till w b → from ≤ k → k < till → Ok (Store b) ≡ judge_var w k (Some b)
+unfolding judge_var
+used_inside w k b begins ends l h = rw (← begins, ← ends, le-leb _ _ l, lt-ltb _ _ h) refl
 
 -- what is judged does not depend on what is stored of lets
 module _ (w w' : List ℕ) (a z : ℕ) (few : z ≤ 256) (x : ChangedWithin (lets_at + a) (lets_at + z) w w') where
