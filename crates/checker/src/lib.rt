@@ -2,38 +2,39 @@
 #![tactic(auto)]
 
 ghost use Rattle.std.specs.Prelude.{◌≡◌, true, ◌↔◌, ◌≤◌, length};
-ghost use Rattle.spec.specs.Verdict.{verdict, returned, numbers4, on_conditions};
+ghost use Rattle.spec.specs.Verdict.{checked, answer, verdict, returned, numbers4, on_conditions};
 ghost use Rattle.spec.specs.Workspace.{workspace_size, workspace_after};
 ghost use Rattle.spec.specs.Accepted.{Right};
 ghost use Rattle.soundness.specs.SafeText.{SafeText};
 ghost use Rattle.soundness.specs.EitherOrderText.{EitherOrderText};
 ghost use Rattle.workspace.specs.Layout.{work_size};
 ghost use Rattle.checker.specs.Promise.{RefutedBy};
-ghost use Rattle.checker.specs.Stages.{RulesAsked, RulesAnswered};
 
-use sheets::Reading;
-use spec::{Answer, Header, Purpose, Refusal};
-use workspace::Ruling;
+use spec::{Answer, Purpose, Refusal};
 
-// 44 and 30 to 33, for the sheets that the work space holds.
-fn check_rules(work: &mut [u32], steps: usize, procedures: usize, header: Header) -> Answer
-    requires { RulesAsked work.old steps procedures header }
-    ensures { RulesAnswered work.old steps procedures header result }
+// The first reason to refuse a pair of texts, in a work space that is as long as document 01 wants.
+fn check_texts(program: &[u8], split: &[u8], work: &mut [u32]) -> Result<(), Refusal>
+    requires { length work.old ≡ work_size }
+    ensures { result ≡ checked workspace_size program.now split.now }
 {
-    match walk::check(work, Purpose::Check, steps, procedures, header) {
-        Ruling::Holds => Answer::Accept,
-        Ruling::Refused(r) => Answer::Refuse(r),
-    }
+    let held = sheets::read(program, split, Purpose::Check, work)?;
+    walk::check(
+        work,
+        Purpose::Check,
+        held.steps,
+        held.procedures,
+        held.header,
+    )
 }
 
-// The answer to a pair of texts, in a work space that is as long as document 01 wants.
-fn check_texts(program: &[u8], split: &[u8], work: &mut [u32]) -> Answer
-    requires { length work.old ≡ work_size }
-    ensures { result ≡ verdict workspace_size program.now split.now }
+// The answer by what a check found.
+#[tactic(auto, unfolding(spec::specs::Verdict::answer))]
+fn answer(checked: Result<(), Refusal>) -> Answer
+    ensures { result ≡ answer checked }
 {
-    match sheets::read(program, split, Purpose::Check, work) {
-        Reading::Refused(r) => Answer::Refuse(r),
-        Reading::Held(steps, procedures, header) => check_rules(work, steps, procedures, header),
+    match checked {
+        Ok(()) => Answer::Accept,
+        Err(refusal) => Answer::Refuse(refusal),
     }
 }
 
@@ -59,7 +60,8 @@ pub fn check(program: &[u8], split: &[u8], work: &mut [u32]) -> Answer
     if work.len() < workspace::SIZE {
         return Answer::Refuse(Refusal::ShortWorkspace);
     }
-    let a = check_texts(program, split, &mut work[..16384]);
-    workspace::clear(&mut work[..16384]);
-    a
+    let space = &mut work[..workspace::SIZE];
+    let checked = check_texts(program, split, space);
+    workspace::clear(space);
+    answer(checked)
 }

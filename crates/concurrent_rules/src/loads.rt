@@ -1,145 +1,34 @@
 // Words with a part whose type has a load: the step takes it, or gives it back.
+#![tactic(auto, unfolding(conditions::specs::Outcome::first_false_from, spec::specs::StepContexts::judge, spec::specs::Kinds::is, spec::specs::Kinds::same_kind, spec::specs::Kinds::first_map, spec::specs::Kinds::second_map))]
+
 ghost use Rattle.std.specs.Prelude.{◌≡◌};
-ghost use Rattle.spec.specs.StepContexts.{judge};
 ghost use Rattle.spec.specs.declared.Word.TheVariants.{Unary};
-ghost use Rattle.spec.specs.declared.UnaryWord.TheVariants.{Join, Lock, Unlock, Post, Wait, Rdlock, Rdunlock, Wrlock, Wrunlock};
-ghost use Rattle.conditions.specs.declared.Relation.TheVariants.{Sum};
-ghost use Rattle.conditions.specs.Outcome.{outcome, first_false_from};
-ghost use Rattle.rule_rows.specs.Table.{flows, row_in};
+ghost use Rattle.conditions.specs.Outcome.{first_false_from};
+ghost use Rattle.rule_rows.specs.Table.{row_in};
+ghost use Rattle.concurrent_rules.specs.Loads.{HasLoad};
 
 use conditions::type_false;
-use rule_rows::{StepView, sum};
-use spec::{MapNumber, TypeLine};
-use workspace::Ruling;
+use rule_rows::StepView;
+use spec::{Refusal, TypeLine, UnaryWord};
 use workspace::type_at;
 
-// The last condition of a word that takes: post = post of part + load.
-fn takes(work: &[u32], s: StepView, load: MapNumber) -> Ruling
-    ensures { outcome result ≡ judge s.line 3 (flows work.now s (Sum s.post1 load s.post)) }
+// 1 type int; 2 part a tid, a lock, a sem or a rwlock, as the word needs; 3 post = post of part + load for a word that takes,
+// post + load = post of part for one that gives back.
+pub fn check_load(word: UnaryWord, work: &[u32], s: StepView) -> Result<(), Refusal>
+    requires { HasLoad word }
+    ensures { result ≡ first_false_from s.line 1 (row_in (Unary word) work.now s) }
 {
-    sum(work, s, 3, s.post1, load, s.post)
-}
-
-// The last condition of a word that gives back: post + load = post of part.
-fn gives(work: &[u32], s: StepView, load: MapNumber) -> Ruling
-    ensures { outcome result ≡ judge s.line 3 (flows work.now s (Sum s.post load s.post1)) }
-{
-    sum(work, s, 3, s.post, load, s.post1)
-}
-
-// JOIN: 1 type int; 2 part a tid; 3 post = post of part + K.
-pub fn check_join(work: &[u32], s: StepView) -> Ruling
-    ensures { outcome result ≡ first_false_from s.line 1 (row_in (Unary Join) work.now s) }
-{
-    let TypeLine::Int = type_at(work, s.typed) else {
-        return type_false(s.line, 1);
-    };
-    let TypeLine::Tid(load) = type_at(work, s.type1) else {
-        return type_false(s.line, 2);
-    };
-    takes(work, s, load)
-}
-
-// LCK: 1 type int; 2 part a lock; 3 post = post of part + in.
-pub fn check_lock(work: &[u32], s: StepView) -> Ruling
-    ensures { outcome result ≡ first_false_from s.line 1 (row_in (Unary Lock) work.now s) }
-{
-    let TypeLine::Int = type_at(work, s.typed) else {
-        return type_false(s.line, 1);
-    };
-    let TypeLine::Lock(taken, _) = type_at(work, s.type1) else {
-        return type_false(s.line, 2);
-    };
-    takes(work, s, taken)
-}
-
-// ULCK: 1 type int; 2 part a lock; 3 post + out = post of part.
-pub fn check_unlock(work: &[u32], s: StepView) -> Ruling
-    ensures { outcome result ≡ first_false_from s.line 1 (row_in (Unary Unlock) work.now s) }
-{
-    let TypeLine::Int = type_at(work, s.typed) else {
-        return type_false(s.line, 1);
-    };
-    let TypeLine::Lock(_, given) = type_at(work, s.type1) else {
-        return type_false(s.line, 2);
-    };
-    gives(work, s, given)
-}
-
-// POST: 1 type int; 2 part a sem; 3 post + K = post of part.
-pub fn check_post(work: &[u32], s: StepView) -> Ruling
-    ensures { outcome result ≡ first_false_from s.line 1 (row_in (Unary Post) work.now s) }
-{
-    let TypeLine::Int = type_at(work, s.typed) else {
-        return type_false(s.line, 1);
-    };
-    let TypeLine::Sem(load) = type_at(work, s.type1) else {
-        return type_false(s.line, 2);
-    };
-    gives(work, s, load)
-}
-
-// WAIT: 1 type int; 2 part a sem; 3 post = post of part + K.
-pub fn check_wait(work: &[u32], s: StepView) -> Ruling
-    ensures { outcome result ≡ first_false_from s.line 1 (row_in (Unary Wait) work.now s) }
-{
-    let TypeLine::Int = type_at(work, s.typed) else {
-        return type_false(s.line, 1);
-    };
-    let TypeLine::Sem(load) = type_at(work, s.type1) else {
-        return type_false(s.line, 2);
-    };
-    takes(work, s, load)
-}
-
-// RDLOCK: 1 type int; 2 part a rwlock; 3 post = post of part + r.
-pub fn check_rdlock(work: &[u32], s: StepView) -> Ruling
-    ensures { outcome result ≡ first_false_from s.line 1 (row_in (Unary Rdlock) work.now s) }
-{
-    let TypeLine::Int = type_at(work, s.typed) else {
-        return type_false(s.line, 1);
-    };
-    let TypeLine::Rwlock(read, _) = type_at(work, s.type1) else {
-        return type_false(s.line, 2);
-    };
-    takes(work, s, read)
-}
-
-// RDUNLOCK: 1 type int; 2 part a rwlock; 3 post + r = post of part.
-pub fn check_rdunlock(work: &[u32], s: StepView) -> Ruling
-    ensures { outcome result ≡ first_false_from s.line 1 (row_in (Unary Rdunlock) work.now s) }
-{
-    let TypeLine::Int = type_at(work, s.typed) else {
-        return type_false(s.line, 1);
-    };
-    let TypeLine::Rwlock(read, _) = type_at(work, s.type1) else {
-        return type_false(s.line, 2);
-    };
-    gives(work, s, read)
-}
-
-// WRLOCK: 1 type int; 2 part a rwlock; 3 post = post of part + w.
-pub fn check_wrlock(work: &[u32], s: StepView) -> Ruling
-    ensures { outcome result ≡ first_false_from s.line 1 (row_in (Unary Wrlock) work.now s) }
-{
-    let TypeLine::Int = type_at(work, s.typed) else {
-        return type_false(s.line, 1);
-    };
-    let TypeLine::Rwlock(_, write) = type_at(work, s.type1) else {
-        return type_false(s.line, 2);
-    };
-    takes(work, s, write)
-}
-
-// WRUNLOCK: 1 type int; 2 part a rwlock; 3 post + w = post of part.
-pub fn check_wrunlock(work: &[u32], s: StepView) -> Ruling
-    ensures { outcome result ≡ first_false_from s.line 1 (row_in (Unary Wrunlock) work.now s) }
-{
-    let TypeLine::Int = type_at(work, s.typed) else {
-        return type_false(s.line, 1);
-    };
-    let TypeLine::Rwlock(_, write) = type_at(work, s.type1) else {
-        return type_false(s.line, 2);
-    };
-    gives(work, s, write)
+    s.is_int(work, 1)?;
+    match (word, type_at(work, s.type1)) {
+        (UnaryWord::Join, TypeLine::Tid(load))
+        | (UnaryWord::Lock, TypeLine::Lock(load, _))
+        | (UnaryWord::Wait, TypeLine::Sem(load))
+        | (UnaryWord::Rdlock, TypeLine::Rwlock(load, _))
+        | (UnaryWord::Wrlock, TypeLine::Rwlock(_, load)) => s.sum(work, 3, s.post1, load, s.post),
+        (UnaryWord::Unlock, TypeLine::Lock(_, load))
+        | (UnaryWord::Post, TypeLine::Sem(load))
+        | (UnaryWord::Rdunlock, TypeLine::Rwlock(load, _))
+        | (UnaryWord::Wrunlock, TypeLine::Rwlock(_, load)) => s.sum(work, 3, s.post, load, s.post1),
+        _ => type_false(s.line, 2),
+    }
 }

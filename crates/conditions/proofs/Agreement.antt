@@ -2,7 +2,7 @@
 -- work space holds.
 use mathlib.Core.Path.{◌≡◌, refl, sym}
 use mathlib.Core.List.{List, [], ◌∷◌, map}
-use mathlib.Core.Bool.{Bool, true, false, ◌&&◌, and-false}
+use mathlib.Core.Bool.{Bool, true, false, ◌&&◌}
 use Prim.Native.Nat.{ℕ, zero, suc, ◌<◌, ◌≤◌}
 use native.Mathlib.Omega.{arith}
 use lib.Dec.{eqb, ltb}
@@ -13,7 +13,7 @@ use Rattle.spec.specs.Program.{Program}
 use Rattle.spec.specs.Split.{Split, type_at, map_at}
 use Rattle.spec.specs.Maps.{holds_everywhere, same_numbers, ◌≥ᵐ◌}
 use Rattle.spec.specs.Agreement.{Tree, plain, ref_to, same_maps, same_tree, tree_of, trees, tree, agree}
-use Rattle.spec.specs.Kinds.{int, ref, lock, kind_of, same_kind, is, ref_location, content, maps, first_map, second_map}
+use Rattle.spec.specs.Kinds.{int, ref, kind_of, same_kind, is, ref_location, content, maps}
 use Rattle.spec.specs.Conditions.{contains, looser_lock, may_show}
 use Rattle.spec.specs.Verdict.{takes_enough}
 use Rattle.spec.specs.Ranges.{AllBelow, InRange}
@@ -21,7 +21,7 @@ use Rattle.spec.specs.declared.Location.{Location}
 use Rattle.spec.specs.declared.MapNumber.{MapNumber}
 use Rattle.spec.specs.declared.TypeNumber.{TypeNumber}
 use Rattle.spec.specs.declared.TypeLine.{TypeLine}
-use Rattle.spec.specs.declared.TypeLine.TheVariants.{Ref, Lock}
+use Rattle.spec.specs.declared.TypeLine.TheVariants.{Ref}
 use Rattle.spec.proofs.Fits.{maps_fit, first_fits, second_fits}
 use Rattle.spec.proofs.TypeKinds.{is_same, kind_is, is_turned, is_of}
 use Rattle.spec.proofs.Agreement.{content_smaller, tree_of_type, agree_reflexive}
@@ -41,19 +41,16 @@ module _ (w : List ℕ) (n : ℕ) where
   unfolding lines_agree
   lines_same f g h x y = rw (h (content x) (content y))
 
-  -- where no contents agree, no refs do
-  pub no_contents : (x y : TypeLine) → is ref x ≡ true → lines_agree w n (λ c d. false) x y ≡ false
+  -- contents are compared in two refs alone
+  plain_lines : (f g : TypeNumber → TypeNumber → Bool) (x y : TypeLine) → (is ref x && is ref y) ≡ false → lines_agree w n f x y ≡ lines_agree w n g x y
   unfolding lines_agree
-  no_contents x y h = rw h (either (is (kind_of x) y) (eqb (ref_location x).0 (ref_location y).0))
+  plain_lines f g x y = either (is ref x) refl
     where
-      either : (a b : Bool) → (a && (b && false)) ≡ false
-      either true true = refl
-      either true false = refl
-      either false b = refl
-
-  plain_lines : (f g : TypeNumber → TypeNumber → Bool) (x y : TypeLine) → is ref x ≡ false → lines_agree w n f x y ≡ lines_agree w n g x y
-  unfolding lines_agree
-  plain_lines f g x y h = rw h
+      either : (b : Bool) → is ref x ≡ b → (b && is ref y) ≡ false
+          → (is (kind_of x) y && (when b then eqb (ref_location x).0 (ref_location y).0 && f (content x) (content y) else maps_agree w n (maps x) (maps y)))
+          ≡ (is (kind_of x) y && (when b then eqb (ref_location x).0 (ref_location y).0 && g (content x) (content y) else maps_agree w n (maps x) (maps y)))
+      either true e h = rw (kind_is ref x e, h)
+      either false e h = refl
 
   -- any bound above the first type's number will do
   any_bound : (b b' : ℕ) (t u : TypeNumber) → t.0 < b → t.0 < b' → agree_below w n b t u ≡ agree_below w n b' t u
@@ -73,49 +70,26 @@ module _ (w : List ℕ) (n : ℕ) where
   unfolding agree_in agree_below
   itself_agrees t u h = rw (eq-eqb _ _ h)
 
-  -- two types
-  module _ (t u : TypeNumber) (two : t.0 ≡ u.0 → ⊥) {x y : TypeLine} (e : x ≡ layout.type_at w t) (g : y ≡ layout.type_at w u) where
-    -- a type that is no ref
-    pub plain_agree : is ref x ≡ false → lines_agree w n (λ c d. false) x y ≡ agree_in w n t u
-    unfolding agree_in agree_below
-    plain_agree h = rw (ne_eqb _ _ two, ← e, ← g) (plain_lines _ _ x y h)
+  -- two types that are not both refs
+  pub plain_agree : (t u : TypeNumber) → (t.0 ≡ u.0 → ⊥) → (is ref (layout.type_at w t) && is ref (layout.type_at w u)) ≡ false
+      → agree_in w n t u ≡ lines_agree w n (λ c d. false) (layout.type_at w t) (layout.type_at w u)
+  unfolding agree_in agree_below
+  plain_agree t u two h = rw (ne_eqb _ _ two) (plain_lines _ _ (layout.type_at w t) (layout.type_at w u) h)
 
-    -- a ref: with a type that is none, at another location, with a content that is not smaller, with contents to compare
-    module _ {p : Location} {c : TypeNumber} (is_ref : x ≡ Ref p c) where
-      pub ref_alone : is ref y ≡ false → agree_in w n t u ≡ false
-      unfolding agree_in agree_below lines_agree
-      ref_alone h = rw (ne_eqb _ _ two, ← e, ← g, is_ref, h)
+  -- two refs: at another location, with a content that is not smaller, with contents to compare
+  module _ (t u : TypeNumber) {p q : Location} {c d : TypeNumber} (two : t.0 ≡ u.0 → ⊥) (e : layout.type_at w t ≡ Ref p c) (g : layout.type_at w u ≡ Ref q d) where
+    pub refs_apart : (p.0 ≡ q.0 → ⊥) → agree_in w n t u ≡ false
+    unfolding agree_in agree_below lines_agree is same_kind ref_location
+    refs_apart h = rw (ne_eqb _ _ two, e, g, ne_eqb _ _ h)
 
-      module _ {q : Location} {d : TypeNumber} (is_ref' : y ≡ Ref q d) where
-        pub refs_apart : (p.0 ≡ q.0 → ⊥) → agree_in w n t u ≡ false
-        unfolding agree_in agree_below lines_agree is same_kind ref_location
-        refs_apart h = rw (ne_eqb _ _ two, ← e, ← g, is_ref, is_ref', ne_eqb _ _ h)
+    pub refs_not_smaller : p.0 ≡ q.0 → t.0 ≤ c.0 → agree_in w n t u ≡ false
+    unfolding agree_in agree_below lines_agree is same_kind ref_location content
+    refs_not_smaller h l = rw (ne_eqb _ _ two, e, g, eq-eqb _ _ h, le-ltb _ _ l)
 
-        pub refs_not_smaller : p.0 ≡ q.0 → t.0 ≤ c.0 → agree_in w n t u ≡ false
-        unfolding agree_in agree_below lines_agree is same_kind ref_location content
-        refs_not_smaller h l = rw (ne_eqb _ _ two, ← e, ← g, is_ref, is_ref', eq-eqb _ _ h, le-ltb _ _ l)
-
-        pub refs_by_contents : p.0 ≡ q.0 → c.0 < t.0 → agree_in w n c d ≡ agree_in w n t u
-        unfolding agree_in agree_below lines_agree is same_kind ref_location content
-        refs_by_contents h l =
-            rw (ne_eqb _ _ two, ← e, ← g, is_ref, is_ref', eq-eqb _ _ h, lt-ltb _ _ l) (any_bound (suc c.0) t.0 c d (omega arith) l)
-
--- ------------------------------------------------------------------ what a var line may show
-
-module _ (w : List ℕ) (n : ℕ) (t u : TypeNumber) where
-  -- the shown type is no lock, the let's value is none, both are
-  pub shown_no_lock : {x : TypeLine} → x ≡ layout.type_at w t → is lock x ≡ false → agree_in w n t u ≡ may_show_in w n t u
-  unfolding may_show_in
-  shown_no_lock e h = rw (← e, h)
-
-  pub own_no_lock : {y : TypeLine} → y ≡ layout.type_at w u → is lock y ≡ false → agree_in w n t u ≡ may_show_in w n t u
-  unfolding may_show_in
-  own_no_lock e h = rw (← e, h, and-false (is lock (layout.type_at w t)))
-
-  pub both_locks : {x y : TypeLine} {i o j p : MapNumber} → x ≡ layout.type_at w t → y ≡ layout.type_at w u → x ≡ Lock i o → y ≡ Lock j p
-      → (everywhere w n (AtLeast j i) && everywhere w n (AtLeast o p)) ≡ may_show_in w n t u
-  unfolding may_show_in is same_kind first_map second_map
-  both_locks e g h k = rw (← e, ← g, h, k)
+    pub refs_by_contents : p.0 ≡ q.0 → c.0 < t.0 → agree_in w n t u ≡ agree_in w n c d
+    unfolding agree_in agree_below lines_agree is same_kind ref_location content
+    refs_by_contents h l =
+        rw (ne_eqb _ _ two, e, g, eq-eqb _ _ h, lt-ltb _ _ l) (any_bound t.0 (suc c.0) c d l (omega arith))
 
 -- ------------------------------------------------------------------ the split that the work space holds
 

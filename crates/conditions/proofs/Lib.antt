@@ -1,6 +1,5 @@
 pub mod FirstFalse
 pub mod LockLines
-pub mod TypeKinds
 pub mod Relations
 pub mod Shown
 pub mod Agreement

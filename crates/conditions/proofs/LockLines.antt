@@ -1,48 +1,26 @@
--- 44 at a type line and over the type lines, as the code goes through them, and for the split that the work space holds.
-use Rattle.std.proofs.Common.{Ok}
+-- 44 over the type lines, as the code goes through them, and for the split that the work space holds.
+use Rattle.std.proofs.Common.{Ok, Err}
 use mathlib.Core.Path.{◌≡◌, sym, ap, ◌∙◌}
-use mathlib.Core.Bool.{Bool, false}
+use mathlib.Core.Bool.{true, false}
 use mathlib.Core.List.{List}
 use Prim.Native.Nat.{ℕ, zero, suc, ◌+◌, ◌-◌, ◌<◌, ◌≤◌}
 use native.Mathlib.Omega.{arith}
 use native.Mathlib.Numerals.{add-one}
 use lib.ListN.{length, get_or, drop, drop_of_length-le}
 use lib.Seq.{drop-cons}
-use Rattle.spec.specs.Reading.{require}
+use Rattle.spec.specs.Reading.{◌>>=◌, require}
 use Rattle.spec.specs.Program.{Program}
 use Rattle.spec.specs.Split.{Split, type_at}
-use Rattle.spec.specs.Kinds.{lock, same_kind, is, first_map, second_map}
 use Rattle.spec.specs.Ranges.{InRange}
 use Rattle.spec.specs.Verdict.{takes_enough, all_take_enough, locks_take_enough}
-use Rattle.spec.specs.declared.MapNumber.{MapNumber}
-use Rattle.spec.specs.declared.TypeNumber.{TypeNumber}
-use Rattle.spec.specs.declared.Refusal.{Refusal}
 use Rattle.spec.specs.declared.Refusal.TheVariants.{LockTakesLess}
-use Rattle.spec.specs.declared.TypeLine.{TypeLine}
-use Rattle.spec.specs.declared.TypeLine.TheVariants.{Int, Lock}
+use Rattle.spec.specs.declared.TypeLine.TheVariants.{Int}
 use Rattle.workspace.specs.Layout as layout
 use Rattle.workspace.specs.Holds.{HoldsSplit}
-use Rattle.conditions.specs.Outcome.{outcome, both}
-use Rattle.conditions.specs.Relation.{everywhere}
+use Rattle.conditions.specs.Outcome.{both}
 use Rattle.conditions.specs.Agreement.{takes_enough_in}
 use Rattle.conditions.specs.SheetOutcomes.{lock_outcome, locks_outcome}
-use Rattle.conditions.specs.declared.Relation.TheVariants.{AtLeast}
-use Rattle.workspace.specs.declared.Ruling.{Ruling}
-use Rattle.workspace.specs.declared.Ruling.TheVariants.{Holds, Refused}
-use Rattle.conditions.proofs.FirstFalse.{refused_stops, met_goes_on}
 use Rattle.conditions.proofs.Agreement.{takes_enough_shown}
-
--- ------------------------------------------------------------------ a line
-
-module _ (w : List ℕ) (n : ℕ) (t : TypeNumber) {x : TypeLine} (e : x ≡ layout.type_at w t) where
-  pub no_lock_line : is lock x ≡ false → Ok tt ≡ lock_outcome w n t
-  unfolding lock_outcome require takes_enough_in
-  no_lock_line h = rw (← e, h)
-
-  pub lock_line : {i o : MapNumber} → x ≡ Lock i o → (b : Bool) → b ≡ everywhere w n (AtLeast o i)
-      → lock_outcome w n t ≡ require b (LockTakesLess (t.0 + 2))
-  unfolding lock_outcome takes_enough_in is same_kind first_map second_map
-  lock_line is_lock b q = rw (← e, is_lock, q)
 
 -- ------------------------------------------------------------------ the lines
 
@@ -53,21 +31,20 @@ module _ (w : List ℕ) (n t types : ℕ) where
       let one : types - t ≡ suc (types - (t + 1)) = omega arith in
       ap (locks_outcome w n t) one
 
-  module _ (h : t < types) (r : Ruling) (ruled : outcome r ≡ lock_outcome w n (record { 0 = t })) where
-    here : both (outcome r) (locks_outcome w n (t + 1) (types - (t + 1))) ≡ locks_outcome w n t (types - t)
-    here = ap (λ o. both o (locks_outcome w n (t + 1) (types - (t + 1)))) ruled ∙ sym (locks_next h)
+  pub locks_refused : t < types → takes_enough_in w n (layout.type_at w (record { 0 = t })) ≡ false → locks_outcome w n t (types - t) ≡ Err (LockTakesLess (t + 2))
+  unfolding lock_outcome require both ◌>>=◌
+  locks_refused h e = rw (locks_next h, e)
 
-    pub locks_refused : {z : Refusal} → r ≡ Refused z → outcome r ≡ locks_outcome w n t (types - t)
-    locks_refused e = sym (refused_stops r _ e) ∙ here
+  pub locks_later : t < types → takes_enough_in w n (layout.type_at w (record { 0 = t })) ≡ true
+      → locks_outcome w n t (types - t) ≡ locks_outcome w n (t + 1) (types - (t + 1))
+  unfolding lock_outcome require both ◌>>=◌
+  locks_later h e = rw (locks_next h, e)
 
-    pub locks_later : r ≡ Holds → locks_outcome w n t (types - t) ≡ locks_outcome w n (t + 1) (types - (t + 1))
-    locks_later e = sym here ∙ met_goes_on r _ e
-
-  pub locks_done : types ≤ t → Ok tt ≡ locks_outcome w n t (types - t)
+  pub locks_done : types ≤ t → locks_outcome w n t (types - t) ≡ Ok tt
   unfolding locks_outcome
   locks_done h =
       let none_left : types - t ≡ 0 = omega arith in
-      sym (ap (locks_outcome w n t) none_left)
+      ap (locks_outcome w n t) none_left
 
 -- ------------------------------------------------------------------ the split that the work space holds
 

@@ -1,22 +1,19 @@
 -- A relation between maps, one location at a time, as the loops over locations go through them.
-use Rattle.std.proofs.Common.{None, Some, Ok}
+use Rattle.std.proofs.Common.{None, Some}
 use mathlib.Core.Path.{◌≡◌, refl, sym}
 use mathlib.Core.Bool.{Bool, true, false}
 use mathlib.Core.List.{List}
 use Prim.Native.Nat.{ℕ, zero, suc, ◌+◌, ◌*◌, ◌-◌, ◌<◌, ◌≤◌}
 use native.Mathlib.Omega.{arith}
-use lib.Dec.{leb, ltb}
+use lib.Dec.{leb}
 use lib.ListN.{length}
-use borrow.Author.Tests.{eqb-true, eq-eqb, ltb-true, ltb-false, lt-ltb, le-ltb, lt-leb, le-leb, leb-true}
+use borrow.Author.Tests.{eqb-true, eq-eqb, le-leb, leb-true}
 use Rattle.spec.specs.Choice.{when◌then◌else◌}
-use Rattle.spec.specs.Maps.{lowest, at_least, ◌+ᵐ◌, ◌×ᵐ◌, over_whole, holds_everywhere}
-use Rattle.spec.specs.Conditions.{F}
-use Rattle.spec.specs.StepContexts.{judge}
-use Rattle.spec.specs.declared.Location.{Location}
+use Rattle.spec.specs.Maps.{lowest, at_least, ◌+ᵐ◌, ◌×ᵐ◌, over_whole}
 use Rattle.spec.specs.declared.MapNumber.{MapNumber}
 use Rattle.spec.proofs.Clashes.{true_is_not_false}
 use Rattle.workspace.specs.Layout.{maps_at, stride, map_cell, map_from}
-use Rattle.conditions.specs.Relation.{HasCell, HasCells, holds_at, held, asked, of_itself, fails_from, fails, below, everywhere}
+use Rattle.conditions.specs.Relation.{HasCell, HasCells, holds_at, held, asked, of_itself, fails_from, fails}
 use Rattle.conditions.specs.declared.Relation.{Relation}
 use Rattle.conditions.specs.declared.Relation.TheVariants.{Equal, AtLeast, Covers, Sum, Within}
 
@@ -69,28 +66,19 @@ module _ (w : List ℕ) where
   itself_holds (Sum a b c) e l = true_is_not_false (sym e)
   itself_holds (Within a d) e l = true_is_not_false (sym e)
 
-  pub itself_nowhere : (r : Relation) → of_itself r ≡ true → (l n : ℕ) → fails_from w r l n ≡ None
+  itself_nowhere : (r : Relation) → of_itself r ≡ true → (l n : ℕ) → fails_from w r l n ≡ None
   itself_nowhere r e l zero = at_end_lem r l
   itself_nowhere r e l (suc n) = rw (one_more r l n, itself_holds r e l) (itself_nowhere r e (l + 1) n)
 
-  pub itself_everywhere : (r : Relation) → of_itself r ≡ true → (n : ℕ) → everywhere w n r ≡ true
-  unfolding everywhere fails holds_everywhere
-  itself_everywhere r e n = rw (itself_nowhere r e 0 (asked w r n))
-
-  -- a flow condition on a map and itself
-  pub itself_flows : (line i : ℕ) (r : Relation) → of_itself r ≡ true → (n : ℕ) → Ok tt ≡ judge line i (F (fails w n r))
-  unfolding judge fails
-  itself_flows line i r e n = rw (itself_nowhere r e 0 (asked w r n))
+  pub itself_fails_nowhere : (r : Relation) → of_itself r ≡ true → (n : ℕ) → fails w n r ≡ None
+  unfolding fails
+  itself_fails_nowhere r e n = itself_nowhere r e 0 (asked w r n)
 
   -- ---------------------------------------------------------------- what the work space has of the maps
 
   pub held_whole : (m : MapNumber) (n : ℕ) → maps_at + stride * m.0 + n ≤ length w → n ≡ held w m n
   unfolding held
   held_whole m n h = rw (le-leb _ _ h)
-
-  pub held_none : (m : MapNumber) (n : ℕ) → length w < maps_at + stride * m.0 + n → 0 ≡ held w m n
-  unfolding held
-  held_none m n h = rw (lt-leb _ _ h)
 
   held_within : (m : MapNumber) (l n : ℕ) → l < held w m n → (l < n) × HasCell w m l
   unfolding held
@@ -121,23 +109,5 @@ module _ (w : List ℕ) where
       (y.0, (x.1, y.1.0, y.1.1))
   within (Within a d) l n h = held_within a l n h
 
-  pub asked_within : (r : Relation) (l n k : ℕ) → k ≡ asked w r n → l < k → (l < n) × HasCells w r l
-  asked_within r l n k e h = within r l n (omega (arith, e, h))
-
--- ------------------------------------------------------------------ the location that the code hands back
-
-pub below_here : (n : ℕ) (p : Location) → p.0 < n → below n p ≡ Some p.0
-unfolding below
-below_here n p h = rw (lt-ltb p.0 n h)
-
-pub below_none : (n : ℕ) (p : Location) → n ≤ p.0 → below n p ≡ None
-unfolding below
-below_none n p h = rw (le-ltb p.0 n h)
-
-pub told_everywhere : (w : List ℕ) (r : Relation) (n : ℕ) (p : Location) → below n p ≡ fails w n r → leb n p.0 ≡ everywhere w n r
-unfolding everywhere
-told_everywhere w r n p e = rw (← e) (either (ltb p.0 n) refl)
-  where
-    either : (s : Bool) → ltb p.0 n ≡ s → leb n p.0 ≡ holds_everywhere (below n p)
-    either true h = unfold holds_everywhere in rw (below_here n p (ltb-true p.0 n h)) (lt-leb n p.0 (ltb-true p.0 n h))
-    either false h = unfold holds_everywhere in rw (below_none n p (ltb-false p.0 n h)) (le-leb n p.0 (ltb-false p.0 n h))
+  pub asked_within : (r : Relation) (l n k : ℕ) → k ≡ asked w r n → l < k → HasCells w r l
+  asked_within r l n k e h = (within r l n (omega (arith, e, h))).1

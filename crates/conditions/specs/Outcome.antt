@@ -1,20 +1,16 @@
--- A ruling as an outcome of document 01's definitions, and conditions judged in order.
-use Rattle.std.specs.Prelude.{List, ℕ, Result, Ok, Err}
+-- Conditions judged in order.
+use Rattle.std.specs.Prelude.{List, ℕ, Result}
 use Rattle.spec.specs.declared.Refusal.{Refusal}
 use Rattle.spec.specs.Reading.{◌>>=◌}
 use Rattle.spec.specs.Conditions.{Condition}
 use Rattle.spec.specs.StepContexts.{numbered, first_false}
-use Rattle.workspace.specs.declared.Ruling.{Ruling}
-use Rattle.workspace.specs.declared.Ruling.TheVariants.{Holds, Refused}
-
-unfoldable pub outcome : Ruling → Result (Unit {0}) Refusal
-outcome Holds = Ok tt
-outcome (Refused r) = Err r
 
 -- the first refusal of two outcomes
 unfoldable pub both : Result (Unit {0}) Refusal → Result (Unit {0}) Refusal → Result (Unit {0}) Refusal
+unfolding ◌>>=◌
 both a b = a >>= λ holds. b
 
 -- the first false one of a step's conditions, which are numbered from i on
 unfoldable pub first_false_from : (line i : ℕ) → List Condition → Result (Unit {0}) Refusal
+unfolding numbered first_false ◌>>=◌
 first_false_from line i cs = first_false (numbered line i cs)

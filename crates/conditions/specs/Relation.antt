@@ -1,5 +1,5 @@
 -- Relations between maps that stand in the work space, location by location, and access to one location.
-use Rattle.std.specs.Prelude.{Bool, false, List, ℕ, ◌+◌, ◌*◌, ◌<◌, eqb, leb, ltb, length, Option, None, Some}
+use Rattle.std.specs.Prelude.{Bool, false, List, ℕ, ◌+◌, ◌*◌, ◌<◌, eqb, leb, length, Option}
 use Rattle.spec.specs.Choice.{when◌then◌else◌}
 use Rattle.spec.specs.Maps.{lowest, at_least, ◌+ᵐ◌, ◌×ᵐ◌, over_whole, holds_everywhere}
 use Rattle.spec.specs.Conditions.{Condition, A}
@@ -51,10 +51,6 @@ asked w (Within a d) n = held w a n
 -- the lowest of n locations at which a relation fails
 unfoldable pub fails : (w : List ℕ) (n : ℕ) → Relation → Option ℕ
 fails w n r = fails_from w r 0 (asked w r n)
-
--- that location as the code hands it back: one of n, or none
-unfoldable pub below : (n : ℕ) → Location → Option ℕ
-below n p = when ltb p.0 n then Some p.0 else None
 
 -- whether a relation that each map has to itself is asked of a map and itself
 unfoldable pub of_itself : Relation → Bool

@@ -8,99 +8,46 @@ use super::{Relation, everywhere};
 use spec::{MapNumber, TypeLine, TypeNumber};
 use workspace::type_at;
 
-// Whether two relations hold at every location.
-fn both_everywhere(work: &[u32], locations: u32, first: Relation, second: Relation) -> bool
-    ensures { result ≡ (everywhere work.now locations first && everywhere work.now locations second) }
+// Whether two maps hold equal numbers.
+fn same(work: &[u32], locations: u32, a: MapNumber, b: MapNumber) -> bool
+    ensures { result ≡ everywhere work.now locations (Equal a b) }
 {
-    if everywhere(work, locations, first) {
-        everywhere(work, locations, second)
-    } else {
-        false
-    }
-}
-
-// Two maps hold equal numbers, and so do two others.
-fn same_pairs(
-    work: &[u32],
-    locations: u32,
-    a: MapNumber,
-    b: MapNumber,
-    c: MapNumber,
-    d: MapNumber,
-) -> bool
-    ensures { result ≡ (everywhere work.now locations (Equal a b) && everywhere work.now locations (Equal c d)) }
-{
-    both_everywhere(
-        work,
-        locations,
-        Relation::Equal(a, b),
-        Relation::Equal(c, d),
-    )
+    everywhere(work, locations, Relation::Equal(a, b))
 }
 
 // Two types that hold no content agree when their kinds agree and their maps hold equal numbers.
+#[tactic(auto, unfolding(crate::specs::Agreement::lines_agree, crate::specs::Agreement::maps_agree, spec::specs::Kinds::is, spec::specs::Kinds::same_kind))]
 fn agree_plain(work: &[u32], locations: u32, kind: TypeLine, other: TypeLine) -> bool
     ensures { result ≡ lines_agree work.now locations (λ c d. false) kind other }
 {
-    match kind {
-        TypeLine::Int => {
-            let TypeLine::Int = other else {
-                return false;
-            };
-            true
+    match (kind, other) {
+        (TypeLine::Int, TypeLine::Int) => true,
+        (TypeLine::Tid(k), TypeLine::Tid(h)) | (TypeLine::Sem(k), TypeLine::Sem(h)) => {
+            same(work, locations, k, h)
         }
-        TypeLine::Ref(_, _) => false,
-        TypeLine::Lock(i, o) => {
-            let TypeLine::Lock(j, p) = other else {
-                return false;
-            };
-            same_pairs(work, locations, i, j, o, p)
+        (TypeLine::Lock(a, b), TypeLine::Lock(c, d))
+        | (TypeLine::Rwlock(a, b), TypeLine::Rwlock(c, d)) => {
+            same(work, locations, a, c) && same(work, locations, b, d)
         }
-        TypeLine::Tid(k) => {
-            let TypeLine::Tid(h) = other else {
-                return false;
-            };
-            everywhere(work, locations, Relation::Equal(k, h))
-        }
-        TypeLine::Sem(k) => {
-            let TypeLine::Sem(h) = other else {
-                return false;
-            };
-            everywhere(work, locations, Relation::Equal(k, h))
-        }
-        TypeLine::Rwlock(r, w) => {
-            let TypeLine::Rwlock(q, v) = other else {
-                return false;
-            };
-            same_pairs(work, locations, r, q, w, v)
-        }
+        _ => false,
     }
 }
 
 // Two types agree when their kinds agree and their maps hold equal numbers; refs have the same location, and their contents
 // are compared the same way. A type agrees with itself at once, which is what most that are asked come to. A content's number
 // is smaller than its ref's in every sheet; where it is not, nothing agrees.
+#[tactic(auto, using(crate::proofs::Agreement::itself_agrees, crate::proofs::Agreement::refs_apart, crate::proofs::Agreement::refs_not_smaller))]
 fn agree(work: &&[u32], locations: u32, a: TypeNumber, b: TypeNumber) -> bool
     ensures { result ≡ agree_in work.now.now locations a b }
 {
-    if a.0 == b.0 {
+    if a == b {
         return true;
     }
-    let kind = type_at(*work, a);
-    let TypeLine::Ref(p, c) = kind else {
-        return agree_plain(*work, locations, kind, type_at(*work, b));
+    let (kind, other) = (type_at(*work, a), type_at(*work, b));
+    let (TypeLine::Ref(p, c), TypeLine::Ref(q, d)) = (kind, other) else {
+        return agree_plain(*work, locations, kind, other);
     };
-    let other = type_at(*work, b);
-    let TypeLine::Ref(q, d) = other else {
-        return false;
-    };
-    if p.0 != q.0 {
-        return false;
-    }
-    if a.0 <= c.0 {
-        return false;
-    }
-    agree(work, locations, c, d)
+    p == q && c.0 < a.0 && agree(work, locations, c, d)
 }
 
 // Whether two types agree. The work space is lent once more, by its address, so that a level hands on no copy.
@@ -112,19 +59,15 @@ pub fn agrees(work: &[u32], locations: u32, a: TypeNumber, b: TypeNumber) -> boo
 
 // What a var line may show of the type of its let's value: a lock type whose in is nowhere above and whose out is nowhere below; else
 // a type that agrees.
+#[tactic(auto, unfolding(crate::specs::Agreement::may_show_in, spec::specs::Kinds::is, spec::specs::Kinds::same_kind, spec::specs::Kinds::first_map, spec::specs::Kinds::second_map))]
 pub fn may_show(work: &[u32], locations: u32, shown: TypeNumber, own: TypeNumber) -> bool
     ensures { result ≡ may_show_in work.now locations shown own }
 {
-    let TypeLine::Lock(i, o) = type_at(work, shown) else {
-        return agrees(work, locations, shown, own);
-    };
-    let TypeLine::Lock(j, p) = type_at(work, own) else {
-        return agrees(work, locations, shown, own);
-    };
-    both_everywhere(
-        work,
-        locations,
-        Relation::AtLeast(j, i),
-        Relation::AtLeast(o, p),
-    )
+    if let TypeLine::Lock(i, o) = type_at(work, shown)
+        && let TypeLine::Lock(j, p) = type_at(work, own)
+    {
+        return everywhere(work, locations, Relation::AtLeast(j, i))
+            && everywhere(work, locations, Relation::AtLeast(o, p));
+    }
+    agrees(work, locations, shown, own)
 }

@@ -1,12 +1,12 @@
-// The fixed words of both sheets, looked up in tables; in `numbers` what the word of a step says of its number v.
+// The fixed words of both sheets, as fields spell them; in `numbers` what the word of a step says of its number v.
 #![tactic(auto)]
 
 mod numbers;
 
-ghost use Rattle.std.specs.Prelude.{◌≡◌};
+ghost use Rattle.std.specs.Prelude.{◌≡◌, [], ◌∷◌};
 ghost use Rattle.spec.specs.Text.{same as same_bytes, look_up};
-ghost use Rattle.spec.specs.Words.{words_under, calls as calls_of};
-ghost use Rattle.keywords.specs.Words.{entries, type_word_of};
+ghost use Rattle.spec.specs.Words.{leaf_words, cell_words, lock_words, hold_words, unary_words, binary_words, words, words_under, calls as calls_of};
+ghost use Rattle.keywords.specs.Words.{type_word_of};
 
 pub use numbers::{least_of, limit_of, role_of};
 use spec::{BinaryWord, LeafWord, ProgramHeading, UnaryWord, Word};
@@ -22,72 +22,98 @@ pub enum TypeWord {
     Rwlock,
 }
 
-// The words of steps: `call`, which `P2` sheets alone have, and those with no part, with one, with two.
-static WORDS: [(&[u8], Word); 23] = [
-    (b"call", Word::Unary(UnaryWord::Call)),
-    (b"var", Word::Leaf(LeafWord::Var)),
-    (b"int", Word::Leaf(LeafWord::Int)),
-    (b"newtid", Word::Leaf(LeafWord::Newtid)),
-    (b"newlock", Word::Leaf(LeafWord::Newlock)),
-    (b"newsem", Word::Leaf(LeafWord::Newsem)),
-    (b"newrwlock", Word::Leaf(LeafWord::Newrwlock)),
-    (b"while", Word::Unary(UnaryWord::While)),
-    (b"join", Word::Unary(UnaryWord::Join)),
-    (b"ref", Word::Unary(UnaryWord::Ref)),
-    (b"read", Word::Unary(UnaryWord::Read)),
-    (b"lock", Word::Unary(UnaryWord::Lock)),
-    (b"unlock", Word::Unary(UnaryWord::Unlock)),
-    (b"post", Word::Unary(UnaryWord::Post)),
-    (b"wait", Word::Unary(UnaryWord::Wait)),
-    (b"rdlock", Word::Unary(UnaryWord::Rdlock)),
-    (b"rdunlock", Word::Unary(UnaryWord::Rdunlock)),
-    (b"wrlock", Word::Unary(UnaryWord::Wrlock)),
-    (b"wrunlock", Word::Unary(UnaryWord::Wrunlock)),
-    (b"let", Word::Binary(BinaryWord::Let)),
-    (b"if", Word::Binary(BinaryWord::If)),
-    (b"spawn", Word::Binary(BinaryWord::Spawn)),
-    (b"write", Word::Binary(BinaryWord::Write)),
-];
-
-static TYPE_WORDS: [(&[u8], TypeWord); 6] = [
-    (b"int", TypeWord::Int),
-    (b"ref", TypeWord::Ref),
-    (b"lock", TypeWord::Lock),
-    (b"tid", TypeWord::Tid),
-    (b"sem", TypeWord::Sem),
-    (b"rwlock", TypeWord::Rwlock),
-];
-
-// What a table has for a field.
-pub fn look_up<T: Copy>(table: &[(&[u8], T)], field: &[u8]) -> Option<T>
-    ensures { result ≡ look_up (entries table.now) field.now }
-{
-    let (_, found) = table.iter().find(|(spelling, _)| *spelling == field)?;
-    Some(*found)
-}
-
-// Whether two slices hold the same bytes.
+// Whether two slices hold the same bytes. `==` says so too, by a call that costs several times as much at words as short as these.
 pub fn same(a: &[u8], b: &[u8]) -> bool
     ensures { result ≡ same_bytes a.now b.now }
 {
-    a == b
+    a.len() == b.len() && a.iter().zip(b).all(|(x, y)| x == y)
 }
 
-// The words of steps under a heading.
-fn words_of(heading: ProgramHeading) -> &'static [(&'static [u8], Word)]
-    ensures { entries result.now ≡ words_under heading }
+// What is found for a word, if a field spells it.
+pub fn spelled<T: Copy>(field: &[u8], word: &[u8], found: T) -> Option<T>
+    ensures { result ≡ look_up ((word.now, found) ∷ []) field.now }
 {
-    match heading {
-        ProgramHeading::P => &WORDS[1..],
-        ProgramHeading::P2 => &WORDS,
-    }
+    same(word, field).then_some(found)
+}
+
+// The word without parts that a field spells.
+fn leaf_word(field: &[u8]) -> Option<Word>
+    ensures { result ≡ look_up leaf_words field.now }
+{
+    spelled(field, b"var", Word::Leaf(LeafWord::Var))
+        .or(spelled(field, b"int", Word::Leaf(LeafWord::Int)))
+        .or(spelled(field, b"newtid", Word::Leaf(LeafWord::Newtid)))
+        .or(spelled(field, b"newlock", Word::Leaf(LeafWord::Newlock)))
+        .or(spelled(field, b"newsem", Word::Leaf(LeafWord::Newsem)))
+        .or(spelled(field, b"newrwlock", Word::Leaf(LeafWord::Newrwlock)))
+}
+
+// The word with one part, of loops, threads and cells, that a field spells.
+fn cell_word(field: &[u8]) -> Option<Word>
+    ensures { result ≡ look_up cell_words field.now }
+{
+    spelled(field, b"while", Word::Unary(UnaryWord::While))
+        .or(spelled(field, b"join", Word::Unary(UnaryWord::Join)))
+        .or(spelled(field, b"ref", Word::Unary(UnaryWord::Ref)))
+        .or(spelled(field, b"read", Word::Unary(UnaryWord::Read)))
+}
+
+// The word with one part, of locks and semaphores, that a field spells.
+fn lock_word(field: &[u8]) -> Option<Word>
+    ensures { result ≡ look_up lock_words field.now }
+{
+    spelled(field, b"lock", Word::Unary(UnaryWord::Lock))
+        .or(spelled(field, b"unlock", Word::Unary(UnaryWord::Unlock)))
+        .or(spelled(field, b"post", Word::Unary(UnaryWord::Post)))
+        .or(spelled(field, b"wait", Word::Unary(UnaryWord::Wait)))
+}
+
+// The word with one part, of read-write locks, that a field spells.
+fn hold_word(field: &[u8]) -> Option<Word>
+    ensures { result ≡ look_up hold_words field.now }
+{
+    spelled(field, b"rdlock", Word::Unary(UnaryWord::Rdlock))
+        .or(spelled(field, b"rdunlock", Word::Unary(UnaryWord::Rdunlock)))
+        .or(spelled(field, b"wrlock", Word::Unary(UnaryWord::Wrlock)))
+        .or(spelled(field, b"wrunlock", Word::Unary(UnaryWord::Wrunlock)))
+}
+
+// The word with two parts that a field spells.
+fn binary_word(field: &[u8]) -> Option<Word>
+    ensures { result ≡ look_up binary_words field.now }
+{
+    spelled(field, b"let", Word::Binary(BinaryWord::Let))
+        .or(spelled(field, b"if", Word::Binary(BinaryWord::If)))
+        .or(spelled(field, b"spawn", Word::Binary(BinaryWord::Spawn)))
+        .or(spelled(field, b"write", Word::Binary(BinaryWord::Write)))
+}
+
+// The word with one part that a field spells.
+fn unary_word(field: &[u8]) -> Option<Word>
+    ensures { result ≡ look_up unary_words field.now }
+{
+    cell_word(field).or(lock_word(field)).or(hold_word(field))
+}
+
+// The word of a step that a field spells.
+fn word_of(field: &[u8]) -> Option<Word>
+    ensures { result ≡ look_up words field.now }
+{
+    leaf_word(field)
+        .or(unary_word(field))
+        .or(binary_word(field))
 }
 
 // The word of a step that a field spells under a heading: `call` too in a `P2` sheet.
 pub fn word_under(field: &[u8], heading: ProgramHeading) -> Option<Word>
     ensures { result ≡ look_up (words_under heading) field.now }
 {
-    look_up(words_of(heading), field)
+    match heading {
+        ProgramHeading::P => word_of(field),
+        ProgramHeading::P2 => {
+            spelled(field, b"call", Word::Unary(UnaryWord::Call)).or(word_of(field))
+        }
+    }
 }
 
 // Whether the number of a step with this word is that of a procedure.
@@ -102,5 +128,10 @@ pub fn calls(w: UnaryWord) -> bool
 pub fn type_word(field: &[u8]) -> Option<TypeWord>
     ensures { result ≡ type_word_of field.now }
 {
-    look_up(&TYPE_WORDS, field)
+    spelled(field, b"int", TypeWord::Int)
+        .or(spelled(field, b"ref", TypeWord::Ref))
+        .or(spelled(field, b"lock", TypeWord::Lock))
+        .or(spelled(field, b"tid", TypeWord::Tid))
+        .or(spelled(field, b"sem", TypeWord::Sem))
+        .or(spelled(field, b"rwlock", TypeWord::Rwlock))
 }

@@ -1,4 +1,6 @@
 // What the word of a step says of its number v: what the step does with it, and its range.
+#![tactic(auto, unfolding(spec::specs::Words::role, spec::specs::Words::least_value, spec::specs::Words::largest_value))]
+
 ghost use Rattle.std.specs.Prelude.{◌≡◌};
 ghost use Rattle.spec.specs.Words.{role, least_value, largest_value};
 ghost use Rattle.spec.specs.declared.Word.TheVariants.{Leaf, Unary, Binary};
@@ -28,7 +30,6 @@ fn numbered(role: Role, least: u32, largest: u32) -> Number
     }
 }
 
-#[tactic(auto, unfolding(spec::specs::Words::role, spec::specs::Words::least_value, spec::specs::Words::largest_value))]
 fn leaf_number(w: LeafWord) -> Number
     ensures { result ≡ number_of (Leaf w) }
 {
@@ -42,17 +43,16 @@ fn leaf_number(w: LeafWord) -> Number
     }
 }
 
-#[tactic(auto, unfolding(spec::specs::Words::role, spec::specs::Words::least_value, spec::specs::Words::largest_value))]
 fn unary_number(w: UnaryWord) -> Number
     ensures { result ≡ number_of (Unary w) }
 {
     if calls(w) {
-        return numbered(Role::Calls, 0, CALL_LIMIT);
+        numbered(Role::Calls, 0, CALL_LIMIT)
+    } else {
+        numbered(Role::Neither, 0, 0)
     }
-    numbered(Role::Neither, 0, 0)
 }
 
-#[tactic(auto, unfolding(spec::specs::Words::role, spec::specs::Words::least_value, spec::specs::Words::largest_value))]
 fn binary_number(w: BinaryWord) -> Number
     ensures { result ≡ number_of (Binary w) }
 {

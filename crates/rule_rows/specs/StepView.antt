@@ -46,9 +46,27 @@ view_of w locations denominator k = record {
   signature = signature_of w (cell w values_at k);
 }
 
--- what a step without parts, with one part and with two shows of its view; at the rest its conditions do not look
-abbrev pub no_signature : Signature
+-- what every step shows of its view, what one without parts, with one part and with two; at the rest its conditions do not look
+abbrev no_signature : Signature
 no_signature = record { before = record { 0 = 0 }; argument = record { 0 = 0 }; after = record { 0 = 0 }; result = record { 0 = 0 } }
+
+abbrev pub own_view : StepView → StepView
+own_view s = record {
+  line = s.line;
+  value = 0;
+  locations = s.locations;
+  denominator = s.denominator;
+  typed = s.typed;
+  type1 = record { 0 = 0 };
+  type2 = record { 0 = 0 };
+  bound = record { 0 = 0 };
+  pre = record { 0 = 0 };
+  post = s.post;
+  start = record { 0 = 0 };
+  post1 = record { 0 = 0 };
+  post2 = record { 0 = 0 };
+  signature = no_signature;
+}
 
 abbrev pub leaf_view : StepView → StepView
 leaf_view s = record {

@@ -1,7 +1,7 @@
 // What the columns of the work space say of a step: what its conditions look at, by the number of its parts.
 ghost use Rattle.std.specs.Prelude.{◌≡◌, ◌<◌};
 ghost use Rattle.workspace.specs.Layout.{work_size};
-ghost use Rattle.rule_rows.specs.StepView.{cell, signature_of, no_signature, bound_of, view_of, leaf_view, unary_view, binary_view};
+ghost use Rattle.rule_rows.specs.StepView.{cell, signature_of, bound_of, view_of, own_view, leaf_view, unary_view, binary_view};
 
 use super::StepView;
 use spec::{MapNumber, Signature, TypeNumber};
@@ -31,6 +31,7 @@ pub fn signature_of(work: &[u32], f: u32) -> Signature
 }
 
 // The type of the variable that the let at this index binds, or the procedure with this mark.
+#[tactic(auto, unfolding(crate::specs::StepView::bound_of))]
 fn bound_of(work: &[u32], binder: u32) -> TypeNumber
     ensures { result ≡ bound_of work.now binder }
 {
@@ -41,39 +42,43 @@ fn bound_of(work: &[u32], binder: u32) -> TypeNumber
     }
 }
 
-// The signature of a step that calls nothing.
-fn no_signature() -> Signature
-    ensures { result ≡ no_signature }
+// What every step shows: its line, its type and its post. Here and below what the conditions do not look at is not read, and
+// is 0.
+fn own_view(work: &[u32], locations: u32, denominator: u32, k: u32) -> StepView
+    ensures { result ≡ own_view (view_of work.now locations denominator k) }
 {
-    Signature {
-        before: MapNumber(0),
-        argument: TypeNumber(0),
-        after: MapNumber(0),
-        result: TypeNumber(0),
-    }
-}
-
-// What the conditions of step k look at, where it has no parts; here and below what they do not look at is not read, and is 0. The
-// e1 of a let stands just behind the let.
-pub fn leaf_view(work: &[u32], locations: u32, denominator: u32, k: u32) -> StepView
-    ensures { result ≡ leaf_view (view_of work.now locations denominator k) }
-{
-    let binder = cell(work, LETS, k);
     StepView {
         line: cell(work, LINES, k),
-        value: cell(work, VALUES, k),
-        locations: locations,
-        denominator: denominator,
+        value: 0,
+        locations,
+        denominator,
         typed: TypeNumber(cell(work, ROW_TYPES, k)),
         type1: TypeNumber(0),
         type2: TypeNumber(0),
-        bound: bound_of(work, binder),
-        pre: MapNumber(cell(work, PRES, k)),
+        bound: TypeNumber(0),
+        pre: MapNumber(0),
         post: MapNumber(cell(work, POSTS, k)),
         start: MapNumber(0),
         post1: MapNumber(0),
         post2: MapNumber(0),
-        signature: no_signature(),
+        signature: Signature {
+            before: MapNumber(0),
+            argument: TypeNumber(0),
+            after: MapNumber(0),
+            result: TypeNumber(0),
+        },
+    }
+}
+
+// What the conditions of step k look at, where it has no parts. The e1 of a let stands just behind the let.
+pub fn leaf_view(work: &[u32], locations: u32, denominator: u32, k: u32) -> StepView
+    ensures { result ≡ leaf_view (view_of work.now locations denominator k) }
+{
+    StepView {
+        value: cell(work, VALUES, k),
+        bound: bound_of(work, cell(work, LETS, k)),
+        pre: MapNumber(cell(work, PRES, k)),
+        ..own_view(work, locations, denominator, k)
     }
 }
 
@@ -82,22 +87,14 @@ pub fn unary_view(work: &[u32], locations: u32, denominator: u32, k: u32) -> Ste
     ensures { result ≡ unary_view (view_of work.now locations denominator k) }
 {
     let value = cell(work, VALUES, k);
-    let kept = cell(work, STARTS, k);
     StepView {
-        line: cell(work, LINES, k),
-        value: value,
-        locations: locations,
-        denominator: denominator,
-        typed: TypeNumber(cell(work, ROW_TYPES, k)),
+        value,
         type1: TypeNumber(cell(work, ROW_TYPES + 1, k)),
-        type2: TypeNumber(0),
-        bound: TypeNumber(0),
         pre: MapNumber(cell(work, PRES, k)),
-        post: MapNumber(cell(work, POSTS, k)),
-        start: MapNumber(kept),
+        start: MapNumber(cell(work, STARTS, k)),
         post1: MapNumber(cell(work, POSTS + 1, k)),
-        post2: MapNumber(0),
         signature: signature_of(work, value),
+        ..own_view(work, locations, denominator, k)
     }
 }
 
@@ -107,19 +104,11 @@ pub fn binary_view(work: &[u32], locations: u32, denominator: u32, k: u32) -> St
 {
     let second = cell(work, ENDS + 1, k);
     StepView {
-        line: cell(work, LINES, k),
-        value: 0,
-        locations: locations,
-        denominator: denominator,
-        typed: TypeNumber(cell(work, ROW_TYPES, k)),
         type1: TypeNumber(cell(work, ROW_TYPES + 1, k)),
         type2: TypeNumber(cell(work, ROW_TYPES, second)),
-        bound: TypeNumber(0),
-        pre: MapNumber(0),
-        post: MapNumber(cell(work, POSTS, k)),
         start: MapNumber(cell(work, STARTS, k)),
         post1: MapNumber(cell(work, POSTS + 1, k)),
         post2: MapNumber(cell(work, POSTS, second)),
-        signature: no_signature(),
+        ..own_view(work, locations, denominator, k)
     }
 }

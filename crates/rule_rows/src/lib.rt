@@ -6,7 +6,6 @@ mod columns;
 mod relations;
 
 pub use columns::{binary_view, cell, leaf_view, signature_of, unary_view};
-pub use relations::{at_least, equal, sum};
 use spec::{MapNumber, Signature, TypeNumber};
 
 // What the conditions of a step look at: the sheet's locations and denominator, the step's line and number, the types and

@@ -1,6 +1,5 @@
 -- What the conditions of one step come to, from what the work space shows of it.
 use Rattle.std.specs.Prelude.{List, ℕ, Result}
-
 use Rattle.workspace.specs.declared.Rule.{Rule}
 use Rattle.workspace.specs.Layout.{words_at, rule_of}
 use Rattle.conditions.specs.Outcome.{first_false_from}

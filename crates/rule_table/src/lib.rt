@@ -4,18 +4,21 @@
 mod table;
 
 ghost use Rattle.std.specs.Prelude.{◌≡◌};
-ghost use Rattle.conditions.specs.Outcome.{outcome};
 ghost use Rattle.rule_table.specs.Outcome.{step_outcome};
 
-use rule_rows::cell;
-use workspace::Ruling;
-use table::check_rule;
-use workspace::{WORDS, rule_of};
+use rule_rows::{binary_view, cell, leaf_view, unary_view};
+use spec::{Refusal, Word};
+use table::{check_binary, check_leaf, check_unary};
+use workspace::{WORDS, word_of};
 
 // The conditions of step k.
-pub fn check_step(work: &[u32], locations: u32, denominator: u32, k: u32) -> Ruling
-    ensures { outcome result ≡ step_outcome work.now locations denominator k }
+#[tactic(auto, unfolding(crate::specs::Outcome::step_outcome, crate::specs::Outcome::rule_outcome, rule_rows::specs::Table::rule_row, workspace::specs::Layout::word_of))]
+pub fn check_step(work: &[u32], locations: u32, denominator: u32, k: u32) -> Result<(), Refusal>
+    ensures { result ≡ step_outcome work.now locations denominator k }
 {
-    let r = rule_of(cell(work, WORDS, k));
-    check_rule(r, work, locations, denominator, k)
+    match word_of(cell(work, WORDS, k)) {
+        Word::Leaf(w) => check_leaf(w, work, leaf_view(work, locations, denominator, k)),
+        Word::Unary(w) => check_unary(w, work, unary_view(work, locations, denominator, k)),
+        Word::Binary(w) => check_binary(w, work, binary_view(work, locations, denominator, k)),
+    }
 }

@@ -1,12 +1,11 @@
 -- What the readers of the two sheets found, put together.
-use Rattle.std.proofs.Common.{Ok, Err}
+use Rattle.std.proofs.Common.{Result, Ok, Err}
 use mathlib.Core.Path.{◌≡◌}
 use mathlib.Core.Path.{subst as along}
 use mathlib.Core.List.{List}
 use Prim.Native.Nat.{ℕ, ◌≤◌, ◌<◌}
 use native.Mathlib.Omega.{arith}
 use lib.ListN.{length}
-
 use Rattle.spec.specs.Program.{Program, program_limit}
 use Rattle.spec.specs.Split.{Split, split_limit, split}
 use Rattle.spec.specs.WellFormed.{WellFormedProgram}
@@ -25,8 +24,7 @@ use Rattle.spec.specs.declared.Header.{Header}
 use Rattle.workspace.specs.Sheets.{Small}
 use Rattle.split.proofs.Found.{denominator_decodes, locations_decodes, start_decodes}
 use Rattle.sheets.specs.Answers.{SheetsHeld, SheetsAnswered}
-use Rattle.sheets.specs.declared.Reading.{Reading}
-use Rattle.sheets.specs.declared.Reading.TheVariants.{Held, Refused}
+use Rattle.sheets.specs.declared.Held.{Held}
 
 -- a program that is well formed, and the split's text
 module _ (purpose : Purpose) (p s : List ℕ) {P : Program} (F : WellFormedProgram p P) where
@@ -71,9 +69,9 @@ module _ (purpose : Purpose) (p s : List ℕ) {P : Program} (F : WellFormedProgr
 
 -- ------------------------------------------------------------------ what an answer says
 
-module _ (purpose : Purpose) (p s w : List ℕ) (answer : Reading) (told : SheetsAnswered purpose p s w answer) where
-  pub refused_by : {r : Refusal} → answer ≡ Refused r → sheets purpose p s ≡ Err r
+module _ (purpose : Purpose) (p s w : List ℕ) (answer : Result Held Refusal) (told : SheetsAnswered purpose p s w answer) where
+  pub refused_by : {r : Refusal} → answer ≡ Err r → sheets purpose p s ≡ Err r
   refused_by e = along (SheetsAnswered purpose p s w) e told
 
-  pub held_by : {n k : ℕ} {header : Header} → answer ≡ Held n k header → SheetsHeld purpose p s w n k header
+  pub held_by : {held : Held} → answer ≡ Ok held → SheetsHeld purpose p s w held.steps held.procedures held.header
   held_by e = along (SheetsAnswered purpose p s w) e told

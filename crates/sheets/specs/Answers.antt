@@ -1,6 +1,5 @@
 -- What the answer to both sheets means: a refusal is that of the definition; else the work space holds what they say.
-use Rattle.std.specs.Prelude.{◌≡◌, List, ℕ, ◌≤◌, length, Ok, Err}
-
+use Rattle.std.specs.Prelude.{◌≡◌, List, ℕ, ◌≤◌, length, Result, Ok, Err}
 use Rattle.spec.specs.Program.{Program}
 use Rattle.spec.specs.Split.{Split}
 use Rattle.spec.specs.WellFormed.{WellFormedProgram}
@@ -11,8 +10,8 @@ use Rattle.workspace.specs.Holds.{HoldsProgram}
 use Rattle.workspace.specs.Sheets.{HoldsSheets}
 use Rattle.spec.specs.declared.Header.{Header}
 use Rattle.workspace.specs.Sheets.{Small}
-use Rattle.sheets.specs.declared.Reading.{Reading}
-use Rattle.sheets.specs.declared.Reading.TheVariants.{Held, Refused}
+use Rattle.spec.specs.declared.Refusal.{Refusal}
+use Rattle.sheets.specs.declared.Held.{Held}
 
 -- the work space holds both sheets, and the split has this header
 pub record HoldsBoth (w : List ℕ) (header : Header) (steps procedures : ℕ) (P : Program) (S : Split) : Type 0 where
@@ -29,9 +28,9 @@ pub record SheetsHeld (purpose : Purpose) (program_text split_text w : List ℕ)
   pub few_procedures : procedures ≤ 16
   pub small : Small header
 
-abbrev pub SheetsAnswered : Purpose → (program_text split_text w : List ℕ) → Reading → Type 0
-SheetsAnswered purpose program_text split_text w (Held steps procedures header) = SheetsHeld purpose program_text split_text w steps procedures header
-SheetsAnswered purpose program_text split_text w (Refused r) = sheets purpose program_text split_text ≡ Err r
+abbrev pub SheetsAnswered : Purpose → (program_text split_text w : List ℕ) → Result Held Refusal → Type 0
+SheetsAnswered purpose program_text split_text w (Ok held) = SheetsHeld purpose program_text split_text w held.steps held.procedures held.header
+SheetsAnswered purpose program_text split_text w (Err r) = sheets purpose program_text split_text ≡ Err r
 
 -- ------------------------------------------------------------------ the split, for a program that is held
 
@@ -46,7 +45,7 @@ pub record ProgramHeld (w : List ℕ) (steps procedures : ℕ) : Type 0 where
   pub procedures_counted : procedures ≡ length P.procedures
 
 -- for whichever program of so many steps and procedures the work space w holds
-abbrev pub SplitAnswered : Purpose → (split_text : List ℕ) (steps procedures : ℕ) (w w' : List ℕ) → Reading → Type 0
+abbrev pub SplitAnswered : Purpose → (split_text : List ℕ) (steps procedures : ℕ) (w w' : List ℕ) → Result Held Refusal → Type 0
 SplitAnswered purpose split_text steps procedures w w' answer =
     (program_text : List ℕ) (P : Program) → WellFormedProgram program_text P → HoldsProgram w P → steps ≡ length P.steps → procedures ≡ length P.procedures
     → SheetsAnswered purpose program_text split_text w' answer

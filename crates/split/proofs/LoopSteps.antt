@@ -19,7 +19,6 @@ use Rattle.workspace.specs.Steps.{step_at, steps_from}
 use Rattle.workspace.proofs.Region.{changed_nothing, changed_then}
 use Rattle.split_lines.specs.TypeLines.{cells, cell_line}
 use Rattle.split_lines.specs.RowLines.{word_line}
-use Rattle.split_fields.specs.declared.LinesRead.TheVariants as lines_read
 use Rattle.split.specs.Stored.{LinesStored}
 
 -- ------------------------------------------------------------------ ways of reading, by number
@@ -78,11 +77,11 @@ module _
     module _ {reads : List (List Field → LineResult A)} (q : reads ≡ numbered read 0 n) where
       -- a line is refused, whatever was stored of it
       pub stage_stops : i < n → {r : Refusal} → read_line split_sheet (read i) (place_at text c) ≡ Err r → {w' : List ℕ} → ChangedWithin a b w w'
-          → LinesStored a b n Stored text (read_lines split_sheet reads from) w₀ w' (lines_read.Refused r)
+          → LinesStored a b n Stored text (read_lines split_sheet reads from) w₀ w' (Err r)
       stage_stops h e x = record { answered = rw q (loop_step_stops s.loop_step h e); changed = changed_then a b s.changed x }
 
       -- all of them are read
-      pub stages_done : n ≤ i → LinesStored a b n Stored text (read_lines split_sheet reads from) w₀ w (lines_read.Read c)
+      pub stages_done : n ≤ i → LinesStored a b n Stored text (read_lines split_sheet reads from) w₀ w (Ok c)
       stages_done h = record {
         answered = (s.entries, rw q (loop_steps_done s.loop_step h), loop_steps_counted s.loop_step h, s.stored, s.loop_step.placed);
         changed = s.changed;

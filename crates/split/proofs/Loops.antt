@@ -23,7 +23,6 @@ use Rattle.workspace.specs.Region.{ChangedWithin}
 use Rattle.workspace.specs.Steps.{word_at, step_at}
 use Rattle.split_lines.specs.TypeLines.{cell_line}
 use Rattle.split_lines.specs.RowLines.{word_line}
-use Rattle.split_fields.specs.declared.LinesRead.TheVariants as lines_read
 use Rattle.split.specs.Stored.{Columns, HoldsSignatures, signed, HoldsMaps, LinesStored}
 use Rattle.split.proofs.LoopSteps.{Stage, stage_on, stage_stops}
 use Rattle.split.proofs.Stores.{columns_push, columns_changed, signatures_push, signatures_changed, filled_changed, filled_region, maps_push}
@@ -104,7 +103,7 @@ module _
 
       pub map_stops : {reads : List (List Field → LineResult Map)} → reads ≡ numbered (λ m. cell_line locations) 0 n → {r : Refusal}
           → read_line split_sheet (cell_line (length part)) (place_at text c) ≡ Err r
-          → LinesStored maps_at work_size n (HoldsMaps locations) text (read_lines split_sheet reads from) w₀ (put ys) (lines_read.Refused r)
+          → LinesStored maps_at work_size n (HoldsMaps locations) text (read_lines split_sheet reads from) w₀ (put ys) (Err r)
       map_stops q e = stage_stops s q less (rw (← part_long) e) put_changed
 
       pub map_on : {d : Cursor} → read_line split_sheet (cell_line (length part)) (place_at text c) ≡ Ok (ys, place_at text d) → Placed text d

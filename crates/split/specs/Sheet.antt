@@ -12,11 +12,7 @@ use Rattle.workspace.specs.Region.{ChangedWithin}
 use Rattle.workspace.specs.Holds.{HoldsSteps, HoldsSplit}
 use Rattle.workspace.specs.Steps.{steps_from}
 use Rattle.lexer.specs.declared.Cursor.{Cursor}
-use Rattle.split_fields.specs.declared.LinesRead.{LinesRead}
-use Rattle.split_fields.specs.declared.LinesRead.TheVariants as lines_read
 use Rattle.split.specs.Stored.{Storing}
-use Rattle.split.specs.declared.Sheet.{Sheet}
-use Rattle.split.specs.declared.Sheet.TheVariants as sheet
 use Rattle.workspace.specs.Sheets.{Small}
 
 -- a text that the limit lets through, as many steps and procedures as a program may have, and a work space to store a sheet in
@@ -26,14 +22,14 @@ pub record Readable (text : List ℕ) (steps procedures : ℕ) (w : List ℕ) : 
   pub few_procedures : procedures ≤ 16
   pub whole : length w ≡ work_size
 
--- a cursor behind a header, and a work space to store the lines behind it in, with rows of so many steps and signatures of so many
+-- a cursor after a header, and a work space to store the lines after it in, with rows of so many steps and signatures of so many
 -- procedures among them
 pub record StoringBody (text : List ℕ) (c : Cursor) (h : Header) (steps procedures : ℕ) (w : List ℕ) : Type 0 where
   pub storing : Storing text c h w
   pub few_steps : steps ≤ 256
   pub few_procedures : procedures ≤ 16
 
--- the lines behind the header, for k procedures and these steps
+-- the lines after the header, for k procedures and these steps
 unfoldable pub body : Purpose → Header → (k : ℕ) → List Step → Place → Result Split Refusal
 body purpose H k steps p₁ = do
   (types, p₂) ← read_lines split_sheet (type_lines H 0 H.types) p₁
@@ -43,25 +39,21 @@ body purpose H k steps p₁ = do
   done ← end split_sheet p₅
   Ok (record { header = H; types = types; maps = maps; signatures = signatures; rows = rows })
 
-abbrev pub EndAnswer : Result (Unit {0}) Refusal → LinesRead → Type 0
-EndAnswer out (lines_read.Refused r) = out ≡ Err r
-EndAnswer out (lines_read.Read c) = out ≡ Ok tt
+abbrev pub BodyAnswer : Header → Result Split Refusal → (w' : List ℕ) → Result (Unit {0}) Refusal → Type 0
+BodyAnswer H out w' (Err r) = out ≡ Err r
+BodyAnswer H out w' (Ok done) = (S : Split) × (out ≡ Ok S) × (S.header ≡ H) × HoldsSplit w' S
 
-abbrev pub BodyAnswer : Header → Result Split Refusal → (w' : List ℕ) → LinesRead → Type 0
-BodyAnswer H out w' (lines_read.Refused r) = out ≡ Err r
-BodyAnswer H out w' (lines_read.Read c) = (S : Split) × (out ≡ Ok S) × (S.header ≡ H) × HoldsSplit w' S
-
-pub record BodyRead (purpose : Purpose) (H : Header) (n k : ℕ) (from : Place) (w w' : List ℕ) (answer : LinesRead) : Type 0 where
+pub record BodyRead (purpose : Purpose) (H : Header) (n k : ℕ) (from : Place) (w w' : List ℕ) (answer : Result (Unit {0}) Refusal) : Type 0 where
   pub answered : BodyAnswer H (body purpose H k (steps_from w 0 n) from) w' answer
   pub changed : ChangedWithin row_types_at work_size w w'
 
 -- a refusal is that of document 01; else the header is that of the split, which the work space holds
-abbrev pub SheetAnswer : Result Split Refusal → (w' : List ℕ) → Sheet → Type 0
-SheetAnswer out w' (sheet.Refused r) = out ≡ Err r
-SheetAnswer out w' (sheet.Read h) = (S : Split) × (out ≡ Ok S) × (S.header ≡ h) × HoldsSplit w' S × Small h
+abbrev pub SheetAnswer : Result Split Refusal → (w' : List ℕ) → Result Header Refusal → Type 0
+SheetAnswer out w' (Err r) = out ≡ Err r
+SheetAnswer out w' (Ok h) = (S : Split) × (out ≡ Ok S) × (S.header ≡ h) × HoldsSplit w' S × Small h
 
 -- reading a split sheet, to check or to fill, for the n steps of a program that the work space holds and its k procedures: only places
 -- from the rows on change
-pub record SplitRead (purpose : Purpose) (text : List ℕ) (n k : ℕ) (w w' : List ℕ) (answer : Sheet) : Type 0 where
+pub record SplitRead (purpose : Purpose) (text : List ℕ) (n k : ℕ) (w w' : List ℕ) (answer : Result Header Refusal) : Type 0 where
   pub answered : (P : Program) → HoldsSteps w P.steps → length P.steps ≡ n → length P.procedures ≡ k → SheetAnswer (split purpose P text) w' answer
   pub changed : ChangedWithin row_types_at work_size w w'

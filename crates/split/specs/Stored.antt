@@ -13,12 +13,10 @@ use Rattle.workspace.specs.Region.{Region, ChangedWithin}
 use Rattle.workspace.specs.Holds.{start_number}
 use Rattle.workspace.specs.Steps.{steps_from}
 use Rattle.spec.specs.declared.Header.{Header}
-use Rattle.split_fields.specs.declared.LinesRead.{LinesRead}
-use Rattle.split_fields.specs.declared.LinesRead.TheVariants as lines_read
 use Rattle.workspace.specs.Sheets.{Small}
 use Rattle.split_fields.specs.Answers.{SplitCursor}
 
--- three numbers of each entry, in three columns with room for so many rows, one behind the other
+-- three numbers of each entry, in three columns with room for so many rows, one after the other
 pub record Columns {A : Type 0} (f g h : A → ℕ) (b rows : ℕ) (w : List ℕ) (entries : List A) : Type 0 where
   pub first : Region w b (map f entries)
   pub second : Region w (b + rows) (map g entries)
@@ -52,7 +50,7 @@ pub record EmptyStored (w w' : List ℕ) : Type 0 where
   pub empty : Region w' (maps_at + stride * empty_map) (replicate stride 0)
   pub changed : ChangedWithin empty_row_at (empty_row_at + stride) w w'
 
--- a cursor behind which lines of a sheet with this header may stand, and a work space to store them in
+-- a cursor after which lines of a sheet with this header may be, and a work space to store them in
 pub record Storing (text : List ℕ) (c : Cursor) (h : Header) (w : List ℕ) : Type 0 where
   pub reading : SplitCursor text c
   pub small : Small h
@@ -69,33 +67,33 @@ pub record StoringSignatures (text : List ℕ) (c : Cursor) (h : Header) (proced
   pub few : procedures ≤ 16
 
 -- n lines read one after the other: what they say is in the work space
-abbrev pub LinesAnswer : {A : Type 0} → (n : ℕ) → (Stored : List A → Type 0) → List ℕ → Result (List A × Place) Refusal → LinesRead → Type 0
-LinesAnswer n Stored text out (lines_read.Refused r) = out ≡ Err r
-LinesAnswer n Stored text out (lines_read.Read c) =
+abbrev pub LinesAnswer : {A : Type 0} → (n : ℕ) → (Stored : List A → Type 0) → List ℕ → Result (List A × Place) Refusal → Result Cursor Refusal → Type 0
+LinesAnswer n Stored text out (Err r) = out ≡ Err r
+LinesAnswer n Stored text out (Ok c) =
     (entries : List _) × (out ≡ Ok (entries, place_at text c)) × (length entries ≡ n) × Stored entries × Placed text c
 
-pub record LinesStored {A : Type 0} (a b n : ℕ) (Stored : List ℕ → List A → Type 0) (text : List ℕ) (out : Result (List A × Place) Refusal) (w w' : List ℕ) (answer : LinesRead) : Type 0 where
+pub record LinesStored {A : Type 0} (a b n : ℕ) (Stored : List ℕ → List A → Type 0) (text : List ℕ) (out : Result (List A × Place) Refusal) (w w' : List ℕ) (answer : Result Cursor Refusal) : Type 0 where
   pub answered : LinesAnswer n (Stored w') text out answer
   pub changed : ChangedWithin a b w w'
 
 -- ------------------------------------------------------------------ what the four loops over lines leave and answer
 
 -- the type lines from a cursor on
-abbrev pub TypesRead : List ℕ → Cursor → Header → (w w' : List ℕ) → LinesRead → Type 0
+abbrev pub TypesRead : List ℕ → Cursor → Header → (w w' : List ℕ) → Result Cursor Refusal → Type 0
 TypesRead text c h w w' answer =
     LinesStored kinds_at types_end h.types HoldsTypes text (read_lines split_sheet (type_lines h 0 h.types) (place_at text c)) w w' answer
 
 -- the map lines
-abbrev pub MapsRead : List ℕ → Cursor → Header → (w w' : List ℕ) → LinesRead → Type 0
+abbrev pub MapsRead : List ℕ → Cursor → Header → (w w' : List ℕ) → Result Cursor Refusal → Type 0
 MapsRead text c h w w' answer =
     LinesStored maps_at work_size h.maps (HoldsMaps h.locations) text (read_lines split_sheet (replicate h.maps (map_line h)) (place_at text c)) w w' answer
 
 -- the signature lines of k procedures
-abbrev pub SignaturesRead : List ℕ → Cursor → Header → (k : ℕ) → (w w' : List ℕ) → LinesRead → Type 0
+abbrev pub SignaturesRead : List ℕ → Cursor → Header → (k : ℕ) → (w w' : List ℕ) → Result Cursor Refusal → Type 0
 SignaturesRead text c h k w w' answer =
     LinesStored sig_befores_at (sig_results_at + 16) k HoldsSignatures text (read_lines split_sheet (replicate k (signature_line h)) (place_at text c)) w w' answer
 
 -- the rows of the first n steps in the work space
-abbrev pub RowsRead : Purpose → List ℕ → Cursor → Header → (n : ℕ) → (w w' : List ℕ) → LinesRead → Type 0
+abbrev pub RowsRead : Purpose → List ℕ → Cursor → Header → (n : ℕ) → (w w' : List ℕ) → Result Cursor Refusal → Type 0
 RowsRead purpose text c h n w w' answer =
     LinesStored row_types_at pres_at n HoldsRows text (read_lines split_sheet (map (row_line purpose h) (steps_from w 0 n)) (place_at text c)) w w' answer

@@ -4,9 +4,8 @@ ghost use Rattle.workspace.specs.Layout.{kinds_at, firsts_at, seconds_at, work_s
 ghost use Rattle.split.specs.Stored.{Storing, TypesRead};
 
 use lexer::Cursor;
-use spec::{Header, TypeLine, TypeNumber};
-use split_fields::LinesRead;
-use split_lines::{TypeRead, type_line};
+use spec::{Header, Refusal, TypeLine, TypeNumber};
+use split_lines::type_line;
 use workspace::{FIRSTS, KINDS, SECONDS};
 
 // Stores a type in the three columns of types.
@@ -20,27 +19,22 @@ fn store_type(work: &mut [u32], own: TypeNumber, t: TypeLine)
     work[SECONDS + at] = workspace::second_of(t);
 }
 
-// The type lines, from a cursor on.
-pub(crate) fn read_types(text: &[u8], from: Cursor, header: Header, work: &mut [u32]) -> LinesRead
+// The type lines, from a cursor on: the cursor after them.
+pub(crate) fn read_types(
+    text: &[u8],
+    from: Cursor,
+    header: Header,
+    work: &mut [u32],
+) -> Result<Cursor, Refusal>
     requires { Storing text.now from header work.old }
     ensures { TypesRead text.now from header work.old work.new result }
 {
-    let types = header.types;
     let mut cursor = from;
-    let mut own = 0;
-    while own < types {
+    for own in 0..header.types {
         let number = TypeNumber(own as u32);
-        let found = type_line(text, cursor, number, header);
-        match found {
-            TypeRead::Read(t, next) => {
-                store_type(work, number, t);
-                cursor = next;
-            }
-            TypeRead::Refused(r) => {
-                return LinesRead::Refused(r);
-            }
-        }
-        own += 1;
+        let (t, next) = type_line(text, cursor, number, header)?;
+        store_type(work, number, t);
+        cursor = next;
     }
-    LinesRead::Read(cursor)
+    Ok(cursor)
 }

@@ -1,5 +1,5 @@
 pub mod Tests
-pub mod FieldLaws
 pub mod LineLaws
 pub mod FieldsInTurn
 pub mod StartLaws
+pub mod FieldLaws

@@ -1,11 +1,14 @@
 -- A line at a cursor: missing, spare, what it shows; and the cursor behind its first field.
-use Rattle.std.proofs.Common.{Ok, Err}
+use Rattle.std.proofs.Common.{Option, None, Some, Result, Ok, Err, ok_or}
+use Rattle.std.specs.Result.{IsErrAnd}
+use Rattle.std.proofs.lemmas.Result.{err_from_is_err_and}
 use mathlib.Core.Path.{◌≡◌, sym, ap, subst, ◌∙◌}
 use mathlib.Core.List.{List}
 use mathlib.Core.Bool.{true, false}
 use Prim.Native.Nat.{ℕ, ◌+◌}
 use Rattle.spec.specs.Text.{lines, Line, Field}
 use Rattle.spec.specs.Reading.{split_sheet, LineResult, good, bad, bad_form, bad_range, form, outside, miscounted, faulty, passed, read_line, end}
+use Rattle.spec.specs.declared.Refusal.{Refusal}
 use Rattle.spec.specs.declared.Refusal.TheVariants.{SplitForm, SplitRange, SplitLines}
 use Rattle.lexer.specs.Views.{end_of, first_field, text_ended, with_field, line_at}
 use Rattle.lexer.specs.Cursors.{Placed, rest, behind_field, place_at}
@@ -15,6 +18,7 @@ use Rattle.lexer.proofs.Fields.{line_comma}
 use Rattle.lexer.proofs.Places.{next_rest, next_placed, line_kept}
 use Rattle.lexer.proofs.Sheets.{next_at_none, passed_at, end_at_none, end_at_some}
 use Rattle.lexer.proofs.Walks.{left_none, left_some}
+use Rattle.split_fields.specs.Answers.{SplitCursor}
 
 -- ------------------------------------------------------------------ none, and none left
 
@@ -58,3 +62,20 @@ module _ (text : List ℕ) (c d : Cursor) (p : Placed text c) (comma : end_of (r
 
   pub comma_kept : d.line ≡ c.line
   comma_kept = ap (λ (x : Cursor). x.line) (sym is) ∙ line_kept text c comma
+
+pub comma_cursor : (text : List ℕ) (c d : Cursor) → SplitCursor text c → end_of (rest text c) ≡ Comma → behind_field text c ≡ d → SplitCursor text d
+comma_cursor text c d at comma is = record { placed = comma_placed text c d at.placed comma is; fits = at.fits }
+
+-- ------------------------------------------------------------------ the exit of a `?`
+
+-- a refusal is handed on as it is
+pub handed_on : {B : Type 0} {r : Refusal} (result : Result B Refusal) → IsErrAnd result (λ y. y ≡ r) → result ≡ Err r
+handed_on result h = let (y, p, q) = err_from_is_err_and result h in p ∙ ap Err q
+
+-- the one that `ok_or` names
+pub exit : {A B : Type 0} (o : Option A) {x r : Refusal} (result : Result B Refusal) → Err x ≡ ok_or o r → IsErrAnd result (λ y. y ≡ x) → result ≡ Err r
+exit None result e h = let is = handed_on result h in cc
+exit (Some a) result e h = cc
+
+-- what each reader of a line answers before it has read a field, or when it has not
+pub ruleset no_line = (line_missing, exit)

@@ -1,18 +1,10 @@
 -- The s of a row, as its readers see it.
-use Rattle.std.specs.Prelude.{ℕ, Option, None, Some}
+use Rattle.std.specs.Prelude.{ℕ}
 use Rattle.spec.specs.Choice.{when◌then◌else◌}
 use Rattle.spec.specs.Words.{takes_start, keeps_back}
 use Rattle.spec.specs.declared.Refusal.{Refusal}
 use Rattle.spec.specs.declared.Refusal.TheVariants.{NoStart, NoKept}
 use Rattle.spec.specs.declared.Word.{Word}
-use Rattle.spec.specs.declared.MapNumber.{MapNumber}
-use Rattle.split_fields.specs.declared.starts.RowStart.{RowStart}
-use Rattle.split_fields.specs.declared.starts.RowStart.TheVariants as declared_start
-
--- what a row says of its s, as document 01 has it
-unfoldable pub start_decoded : RowStart → Option MapNumber
-start_decoded (declared_start.Given m) = Some m
-start_decoded declared_start.Empty = None
 
 -- how many of the maps can be the s of a step with this word
 abbrev pub start_limit : Word → (maps : ℕ) → ℕ

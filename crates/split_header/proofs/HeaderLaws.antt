@@ -10,79 +10,30 @@ use lib.ListN.{length, take, drop, get_or}
 use lib.Seq.{length-take-le}
 use borrow.Author.Tests.{leb-true, leb-false, lt-leb}
 use Rattle.spec.specs.Choice.{when◌then◌else◌}
-use Rattle.spec.specs.Text.{bytes, same, Field, look_up, lines}
+use Rattle.spec.specs.Text.{Field, look_up, lines}
 use Rattle.spec.specs.Reading.{split_sheet, LineResult, good, bad, bad_form, bad_range, seen, in_range, all_in_range, numerals, numbers, form, passed, next_line, read_line, or_bad_form}
 use Rattle.spec.specs.Split.{headings, header_ranges, maps_of, maps_in, start_of, header_of, header_line}
 use Rattle.spec.specs.declared.Header.{Header}
 use Rattle.spec.specs.declared.Heading.{Heading}
 use Rattle.spec.specs.declared.Heading.TheVariants.{C, C2, C3}
 use Rattle.spec.specs.declared.Purpose.{Purpose}
-use Rattle.spec.specs.declared.Purpose.TheVariants.{Check, Fill}
 use Rattle.spec.specs.declared.Refusal.TheVariants.{SplitForm, SplitRange}
-use Rattle.spec.proofs.Clashes.{true_is_not_false}
 use Rattle.spec.proofs.Seen.{in_to, first_map_fits, ranged}
-use Rattle.lexer.specs.Views.{end_of, first_field}
+use Rattle.lexer.specs.Views.{end_of, first_field, text_ended}
 use Rattle.lexer.specs.Cursors.{Placed, rest, behind_field, place_at}
 use Rattle.lexer.specs.Numbers.{stored, numbers_at}
 use Rattle.lexer.specs.declared.Cursor.{Cursor}
 use Rattle.lexer.specs.declared.FieldEnd.TheVariants.{Comma}
 use Rattle.lexer.proofs.Stored.{kept, cut, stored_judged}
 use Rattle.lexer.proofs.Ranges.{many, many_form, many_read, numbers_from, one_by_one}
-use Rattle.lexer.proofs.Walks.{first_wrong, first_alone}
+use Rattle.lexer.proofs.Walks.{first_wrong, first_alone, left_some}
 use Rattle.lexer.proofs.Sheets.{next_at}
-use Rattle.split_header.specs.declared.FoundHeading.TheVariants as found_heading
 use Rattle.workspace.specs.Sheets.{Small}
-use Rattle.split_header.specs.Header.{heading_found, numerals_of, header_fits}
+use Rattle.split_header.specs.Header.{numerals_of, header_fits}
 use Rattle.split_fields.proofs.Tests.{range_parts}
-use Rattle.split_fields.proofs.LineLaws.{shows_range, shows_entry, comma_line, comma_kept}
+use Rattle.split_fields.proofs.LineLaws.{shows_range, shows_entry, comma_line, comma_kept, exit}
 
--- ------------------------------------------------------------------ the heading
-
--- `C` is neither `C2` nor `C3`
-lone : (f : Field) → same (bytes "C") f ≡ true → (same (bytes "C2") f ≡ false) × (same (bytes "C3") f ≡ false)
-unfolding bytes same
-lone [] e = (refl, refl)
-lone (b ∷ []) e = (and-false (eqb 67 b), and-false (eqb 67 b))
-lone (b ∷ c ∷ f) e = true_is_not_false (sym e ∙ and-false (eqb 67 b))
-
-module _ (f : Field) (purpose : Purpose) where
-  pub first_heading : same (bytes "C") f ≡ true → purpose ≡ Check → found_heading.Known C ≡ heading_found (look_up (headings purpose) f)
-  unfolding headings look_up heading_found
-  first_heading e q = sym (rw (q, e))
-
-  pub first_refused : same (bytes "C") f ≡ true → purpose ≡ Fill → found_heading.Unknown ≡ heading_found (look_up (headings purpose) f)
-  unfolding headings look_up heading_found
-  first_refused e q = let (second, third) = lone f e in sym (rw (q, second, third))
-
-pub second_heading : (f : Field) (purpose : Purpose) → same (bytes "C") f ≡ false → same (bytes "C2") f ≡ true
-    → found_heading.Known C2 ≡ heading_found (look_up (headings purpose) f)
-unfolding headings look_up heading_found
-second_heading f Check e e' = sym (rw (e, e'))
-second_heading f Fill e e' = sym (rw e')
-
-pub third_heading : (f : Field) (purpose : Purpose) → same (bytes "C") f ≡ false → same (bytes "C2") f ≡ false → same (bytes "C3") f ≡ true
-    → found_heading.Known C3 ≡ heading_found (look_up (headings purpose) f)
-unfolding headings look_up heading_found
-third_heading f Check e e' e'' = sym (rw (e, e', e''))
-third_heading f Fill e e' e'' = sym (rw (e', e''))
-
-pub other_heading : (f : Field) (purpose : Purpose) → same (bytes "C") f ≡ false → same (bytes "C2") f ≡ false → same (bytes "C3") f ≡ false
-    → found_heading.Unknown ≡ heading_found (look_up (headings purpose) f)
-unfolding headings look_up heading_found
-other_heading f Check e e' e'' = sym (rw (e, e', e''))
-other_heading f Fill e e' e'' = sym (rw (e', e''))
-
-pub heading_known : (o : Option Heading) (h : Heading) → heading_found o ≡ found_heading.Known h → o ≡ Some h
-unfolding heading_found
-heading_known None h e = cc
-heading_known (Some k) h e = cc
-
-pub heading_unknown : (o : Option Heading) → heading_found o ≡ found_heading.Unknown → o ≡ None
-unfolding heading_found
-heading_unknown None e = refl
-heading_unknown (Some k) e = cc
-
--- ------------------------------------------------------------------ the numerals behind it
+-- ------------------------------------------------------------------ the numerals after it
 
 pub few_numerals : (h : Heading) → numerals_of h ≤ 5
 unfolding numerals_of header_ranges
@@ -221,7 +172,10 @@ heading_shows h fs = go (numerals fs)
         ap (λ (n : ℕ). seen (header_of h) (when eqb (length ns) n then judged h ns else bad bad_form)) (as_many h (maps_of ns))
         ∙ counts (eqb (length ns) (numerals_of h)) ns
 
-module _ (purpose : Purpose) (text : List ℕ) (c : Cursor) (some_left : 0 < length (rest text c)) where
+module _ (purpose : Purpose) (text : List ℕ) (c : Cursor) (some : text_ended (rest text c) ≡ false) where
+  some_left : 0 < length (rest text c)
+  some_left = left_some (rest text c) some
+
   -- no comma behind the first field
   pub no_comma : (end_of (rest text c) ≡ Comma → ⊥) → read_line split_sheet (header_line purpose) (place_at text c) ≡ Err (SplitForm (c.line + 1))
   unfolding form header_line
@@ -279,3 +233,5 @@ module _ (purpose : Purpose) (text : List ℕ) (c : Cursor) (some_left : 0 < len
               next_at split_sheet text (header_line purpose) c ∙ reads.0
               ∙ shows_entry text c e H (ap (seen (header_of h)) (judged_as q) ∙ ap good told)
               (l ∙ ap (λ (k : ℕ). k + 1) (comma_kept text c d p comma is))
+
+pub ruleset line = (header_small, no_comma, no_header, header_form, header_range, header_on, exit)

@@ -12,23 +12,13 @@ use Rattle.lexer.specs.Numbers.{numbers_at}
 use Rattle.lexer.specs.declared.Cursor.{Cursor}
 use Rattle.workspace.specs.Sheets.{Small}
 use Rattle.split_fields.specs.Answers.{SplitCursor}
-use Rattle.split_header.specs.declared.FoundHeading.{FoundHeading}
-use Rattle.split_header.specs.declared.FoundHeading.TheVariants as found_heading
-use Rattle.split_header.specs.declared.FoundHeader.{FoundHeader}
-use Rattle.split_header.specs.declared.FoundHeader.TheVariants as found_header
-use Rattle.split_header.specs.declared.HeaderLine.{HeaderLine}
-use Rattle.split_header.specs.declared.HeaderLine.TheVariants as header_line
 
-unfoldable pub heading_found : Option Heading → FoundHeading
-heading_found None = found_heading.Unknown
-heading_found (Some h) = found_heading.Known h
-
--- a cursor where line 1 stands
+-- a cursor at line 1
 pub record AtHeader (text : List ℕ) (c : Cursor) : Type 0 where
   pub reading : SplitCursor text c
   pub some : text_ended (rest text c) ≡ false
 
--- how many numerals stand behind a heading
+-- how many numerals stand after a heading
 unfoldable pub numerals_of : Heading → ℕ
 numerals_of h = length (header_ranges h 0)
 
@@ -36,12 +26,13 @@ numerals_of h = length (header_ranges h 0)
 unfoldable pub header_fits : Header → Bool
 header_fits H = all_in_range (header_ranges C2 H.maps) (H.denominator ∷ H.locations ∷ H.types ∷ H.maps ∷ H.start.0 ∷ [])
 
--- the numerals behind a heading, as they are stored: the header that they make, in range or not
-abbrev pub NumbersAnswer : List ℕ → Cursor → Heading → FoundHeader → Type 0
-NumbersAnswer text c h found_header.Malformed = numbers_at text c (numerals_of h) ≡ None
-NumbersAnswer text c h (found_header.Read H d) =
+-- the numerals after a heading, as they are stored: the header that they make, in range or not
+abbrev pub NumbersAnswer : List ℕ → Cursor → Heading → Option (Header × Cursor) → Type 0
+NumbersAnswer text c h None = numbers_at text c (numerals_of h) ≡ None
+NumbersAnswer text c h (Some (H, d)) =
     (ns : List ℕ) × (numbers_at text c (numerals_of h) ≡ Some (ns, rest text d)) × (header_of h ns ≡ H) × Placed text d × (d.line ≡ c.line + 1)
 
-abbrev pub HeaderAnswer : List ℕ → Result (Header × Place) Refusal → HeaderLine → Type 0
-HeaderAnswer text out (header_line.Refused r) = out ≡ Err r
-HeaderAnswer text out (header_line.Read h c) = (out ≡ Ok (h, place_at text c)) × Placed text c × Small h
+-- a refusal is that of document 01; else the header is what document 01 reads there
+abbrev pub HeaderAnswer : List ℕ → Result (Header × Place) Refusal → Result (Header × Cursor) Refusal → Type 0
+HeaderAnswer text out (Err r) = out ≡ Err r
+HeaderAnswer text out (Ok (h, c)) = (out ≡ Ok (h, place_at text c)) × Placed text c × Small h

@@ -1,6 +1,6 @@
+pub mod NumeralLines
+pub mod MapLaws
+pub mod SignatureLaws
+pub mod TypeLaws
 pub mod RowFields
 pub mod RowLaws
-pub mod SignatureLaws
-pub mod Tests
-pub mod TypeLaws
-pub mod MapLaws

@@ -2,100 +2,65 @@
 ghost use Rattle.std.specs.Prelude.{◌≡◌};
 ghost use Rattle.spec.specs.Reading.{split_sheet, read_line};
 ghost use Rattle.lexer.specs.Cursors.{place_at};
-ghost use Rattle.split_lines.specs.RowLines.{word_line, row_made, row_ranged};
+ghost use Rattle.split_lines.specs.RowLines.{word_line, row_judged};
 ghost use Rattle.split_lines.specs.RowAnswers.{AtRow, RowAnswer};
 
 use lexer::Cursor;
 use spec::{Header, MapNumber, Purpose, Refusal, TypeNumber, Word};
 use split_fields::{
-    Leading, RowStart, Start, both_below, empty_refusal, leading_number, may_be_empty, post_field,
-    start_field, start_limit,
+    both_below, empty_refusal, leading_number, may_be_empty, post_field, start_field, start_limit,
 };
 
-// A step's type, its post, and the start of its body.
-#[derive(Drop)]
+// A step's type, its post, and the start of its body, if it has one.
+#[derive(Clone, Copy, PartialEq, Eq)]
 pub struct Row {
     pub typed: TypeNumber,
     pub post: MapNumber,
-    pub start: RowStart,
+    pub start: Option<MapNumber>,
 }
 
-// A row and the cursor behind its line, or the reason to stop.
-#[derive(Drop)]
-pub enum RowRead {
-    Read(Row, Cursor),
-    Refused(Refusal),
-}
-
-// A row of two numbers and a start.
-fn row_with(typed: u32, post: u32, start: RowStart) -> Row
-    ensures { result ≡ row_made typed post start }
+// Refuses a row with a number out of its range, or with no start where the sheet wants one.
+#[tactic(auto, unfolding(crate::specs::RowLines::row_judged, crate::specs::RowLines::start_judged, spec::specs::Reading::require, spec::specs::Reading::in_range, spec::specs::Split::start_range))]
+fn judge_row(line: u32, row: Row, word: Word, header: Header) -> Result<(), Refusal>
+    ensures { result ≡ row_judged line row word header }
 {
-    Row {
-        typed: TypeNumber(typed),
-        post: MapNumber(post),
-        start: start,
+    if !both_below(row.typed.0, row.post.0, header.types, header.maps) {
+        return Err(Refusal::SplitRange(line));
     }
-}
-
-// A row whose numbers are in their ranges, and which has a start where the sheet wants one.
-fn row_of(line: u32, row: Row, word: Word, header: Header, next: Cursor) -> RowRead
-    ensures { result ≡ row_ranged line row word header next }
-{
-    let typed = row.typed;
-    let post = row.post;
-    let start = row.start;
-    let heading = header.heading;
-    if !both_below(typed.0, post.0, header.types, header.maps) {
-        return RowRead::Refused(Refusal::SplitRange(line));
-    }
-    match start {
-        RowStart::Given(m) => {
-            if start_limit(word, header.maps) <= workspace::index(m.0) {
-                return RowRead::Refused(Refusal::SplitRange(line));
-            }
-            RowRead::Read(row, next)
+    match row.start {
+        Some(m) if start_limit(word, header.maps) <= workspace::index(m.0) => {
+            Err(Refusal::SplitRange(line))
         }
-        RowStart::Empty => {
-            if !may_be_empty(heading, word) {
-                return RowRead::Refused(empty_refusal(word, line));
-            }
-            RowRead::Read(row, next)
-        }
+        None if !may_be_empty(header.heading, word) => Err(empty_refusal(word, line)),
+        _ => Ok(()),
     }
 }
 
 // The line `t,m,s` at a cursor, of a step with this word.
+#[tactic(auto, using(split_fields::proofs::LineLaws::no_line))]
 pub fn row_line(
     text: &[u8],
     cursor: Cursor,
     purpose: Purpose,
     word: Word,
     header: Header,
-) -> RowRead
+) -> Result<(Row, Cursor), Refusal>
     requires { AtRow text.now cursor header }
     ensures { RowAnswer text.now (read_line split_sheet (word_line purpose header word) (place_at text.now cursor)) result }
 {
     if cursor.at_end(text) {
-        return RowRead::Refused(Refusal::SplitLines(cursor.line));
+        return Err(Refusal::SplitLines(cursor.line));
     }
     let line = cursor.line + 1;
-    let Leading::Value(typed, second) = leading_number(text, cursor) else {
-        return RowRead::Refused(Refusal::SplitForm(line));
+    let form = Refusal::SplitForm(line);
+    let (typed, second) = leading_number(text, cursor).ok_or(form)?;
+    let (post, third) = post_field(text, second, purpose).ok_or(form)?;
+    let (start, next) = start_field(text, third).ok_or(form)?;
+    let row = Row {
+        typed: TypeNumber(typed),
+        post: MapNumber(post),
+        start,
     };
-    let Leading::Value(post, third) = post_field(text, second, purpose) else {
-        return RowRead::Refused(Refusal::SplitForm(line));
-    };
-    let start = start_field(text, third);
-    match start {
-        Start::Empty(next) => {
-            let row = row_with(typed, post, RowStart::Empty);
-            row_of(line, row, word, header, next)
-        }
-        Start::Given(s, next) => {
-            let row = row_with(typed, post, RowStart::Given(MapNumber(s)));
-            row_of(line, row, word, header, next)
-        }
-        Start::Malformed => RowRead::Refused(Refusal::SplitForm(line)),
-    }
+    judge_row(line, row, word, header)?;
+    Ok((row, next))
 }

@@ -1,47 +1,58 @@
 // The line of a procedure in a split sheet, its signature: `before,argument,after,result`.
-ghost use Rattle.spec.specs.Reading.{split_sheet, read_line};
+ghost use Rattle.std.specs.Prelude.{◌≡◌, [], ◌∷◌};
+ghost use Rattle.spec.specs.Reading.{split_sheet, below, all_in_range, read_line};
 ghost use Rattle.spec.specs.Split.{signature_line};
 ghost use Rattle.lexer.specs.Cursors.{place_at};
-ghost use Rattle.split_lines.specs.RowAnswers.{AtRow, SignatureAnswer};
+ghost use Rattle.split_fields.specs.Answers.{LineAnswer};
+ghost use Rattle.split_lines.specs.RowAnswers.{AtRow};
+ghost use Rattle.split_lines.specs.RowLines.{signature_ranges};
 
-use lexer::{Cursor, Numbers};
+use lexer::Cursor;
 use spec::{Header, MapNumber, Refusal, Signature, TypeNumber};
 use split_fields::both_below;
 
-// A signature and the cursor behind its line, or the reason to stop.
-#[derive(Drop)]
-pub enum SignatureRead {
-    Read(Signature, Cursor),
-    Refused(Refusal),
+// Whether each number of a signature is that of a map or a type.
+#[tactic(auto, unfolding(crate::specs::RowLines::signature_ranges, spec::specs::Reading::all_in_range, spec::specs::Reading::in_range))]
+fn signature_fits(signature: Signature, header: Header) -> bool
+    ensures { result ≡ all_in_range (signature_ranges header) (signature.before.0 ∷ signature.argument.0 ∷ signature.after.0 ∷ signature.result.0 ∷ []) }
+{
+    let Signature {
+        before,
+        argument,
+        after,
+        result,
+    } = signature;
+    both_below(before.0, argument.0, header.maps, header.types)
+        && both_below(after.0, result.0, header.maps, header.types)
 }
 
 // The line of a procedure, at a cursor.
-pub fn signature_line(text: &[u8], cursor: Cursor, header: Header) -> SignatureRead
+#[tactic(auto, using(split_fields::proofs::LineLaws::no_line))]
+pub fn signature_line(
+    text: &[u8],
+    cursor: Cursor,
+    header: Header,
+) -> Result<(Signature, Cursor), Refusal>
     requires { AtRow text.now cursor header }
-    ensures { SignatureAnswer text.now (read_line split_sheet (signature_line header) (place_at text.now cursor)) result }
+    ensures { LineAnswer text.now (read_line split_sheet (signature_line header) (place_at text.now cursor)) result }
 {
     if cursor.at_end(text) {
-        return SignatureRead::Refused(Refusal::SplitLines(cursor.line));
+        return Err(Refusal::SplitLines(cursor.line));
     }
     let line = cursor.line + 1;
-    let types = header.types;
-    let maps = header.maps;
     let mut found = [0u32; 4];
-    let read = cursor.numbers(text, &mut found);
-    let Numbers::Read(next) = read else {
-        return SignatureRead::Refused(Refusal::SplitForm(line));
-    };
-    if !both_below(found[0], found[1], maps, types) {
-        return SignatureRead::Refused(Refusal::SplitRange(line));
-    }
-    if !both_below(found[2], found[3], maps, types) {
-        return SignatureRead::Refused(Refusal::SplitRange(line));
-    }
+    let next = cursor
+        .numbers(text, &mut found)
+        .ok_or(Refusal::SplitForm(line))?;
+    let [before, argument, after, result] = found;
     let signature = Signature {
-        before: MapNumber(found[0]),
-        argument: TypeNumber(found[1]),
-        after: MapNumber(found[2]),
-        result: TypeNumber(found[3]),
+        before: MapNumber(before),
+        argument: TypeNumber(argument),
+        after: MapNumber(after),
+        result: TypeNumber(result),
     };
-    SignatureRead::Read(signature, next)
+    if !signature_fits(signature, header) {
+        return Err(Refusal::SplitRange(line));
+    }
+    Ok((signature, next))
 }

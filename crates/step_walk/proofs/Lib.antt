@@ -1,6 +1,4 @@
 pub mod Walking
-pub mod OnTypes
-pub mod Counted
 pub mod Asked
 pub mod Claims
 pub mod HandedDown

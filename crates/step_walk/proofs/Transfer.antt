@@ -8,7 +8,6 @@ use mathlib.Core.List.{List}
 use Prim.Native.Nat.{ℕ, suc, ◌+◌, ◌<◌, ◌≤◌}
 use native.Mathlib.Omega.{arith}
 use lib.ListN.{length}
-
 use Rattle.spec.specs.declared.Refusal.{Refusal}
 use Rattle.spec.specs.Expression.{Position, Expr, leaf, unary, binary, size, index_of}
 use Rattle.spec.specs.Program.{Program}
@@ -43,7 +42,7 @@ use Rattle.step_walk.proofs.HandedDown.{pre_number, part_number, second_number, 
 
 -- the walk over the steps of a program, with its split's locations and denominator
 abbrev walk_of : Purpose → Split → List ℕ → (k n : ℕ) → Result (Unit {0}) Refusal
-walk_of purpose S w k n = walk purpose S.header.locations S.header.denominator w k n
+walk_of purpose S = walk (record { purpose = purpose; denominator = S.header.denominator; locations = S.header.locations })
 
 -- ------------------------------------------------------------------ the walk through an expression
 

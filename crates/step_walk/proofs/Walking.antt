@@ -10,10 +10,8 @@ use lib.ListN.{length, set}
 use lib.Seq.{get_or-set_same, get_or-set_other}
 use borrow.Author.Tests.{lt-ltb, ltb-true}
 use Rattle.spec.specs.Choice.{when◌then◌else◌}
-
 use Rattle.spec.specs.Words.{pre_of_part, pre_of_second}
 use Rattle.spec.specs.declared.MapNumber.{MapNumber}
-use Rattle.spec.specs.declared.Purpose.{Purpose}
 use Rattle.spec.specs.declared.Word.{Word}
 use Rattle.spec.specs.declared.Word.TheVariants.{Leaf, Unary, Binary}
 use Rattle.workspace.specs.Layout.{words_at, pres_at, word_of}
@@ -22,18 +20,18 @@ use Rattle.workspace.proofs.Region.{changed_nothing, changed_store, changed_then
 use Rattle.conditions.specs.Outcome.{both}
 use Rattle.rule_rows.specs.StepView.{cell}
 use Rattle.rule_table.specs.Outcome.{step_outcome}
+use Rattle.step_walk.specs.declared.Judging.{Judging}
 use Rattle.step_walk.specs.Walk.{counted, put_pre, pass_word, pass_on, walk}
 
-module _ (purpose : Purpose) (locations denominator : ℕ) (w : List ℕ) (k n : ℕ) where
+module _ (how : Judging) (w : List ℕ) (k n : ℕ) where
   pub walk_more : k < n
-      → walk purpose locations denominator w k (n - k)
-      ≡ both (counted purpose (step_outcome w locations denominator k)) (walk purpose locations denominator (pass_on w k) (k + 1) (n - (k + 1)))
+      → walk how w k (n - k) ≡ both (counted how.purpose (step_outcome w how.locations how.denominator k)) (walk how (pass_on w k) (k + 1) (n - (k + 1)))
   unfolding walk
   walk_more h =
       let e : n - k ≡ suc (n - (k + 1)) = omega arith in
       rw e
 
-  pub walk_end : n ≤ k → walk purpose locations denominator w k (n - k) ≡ Ok tt
+  pub walk_end : n ≤ k → walk how w k (n - k) ≡ Ok tt
   unfolding walk
   walk_end h =
       let e : n - k ≡ 0 = omega arith in

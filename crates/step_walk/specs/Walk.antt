@@ -1,7 +1,6 @@
 -- The steps in line order: what counts of each for a purpose, and the map before each, which its step hands down.
-use Rattle.std.specs.Prelude.{Bool, true, false, List, ℕ, zero, suc, ◌+◌, eqb, ltb, set, Result, Ok, Err}
+use Rattle.std.specs.Prelude.{Bool, List, ℕ, zero, suc, ◌+◌, eqb, ltb, set, Result, Ok, Err}
 use Rattle.spec.specs.Choice.{when◌then◌else◌}
-
 use Rattle.spec.specs.Words.{pre_of_part, pre_of_second}
 use Rattle.spec.specs.Verdict.{returned}
 use Rattle.spec.specs.declared.MapNumber.{MapNumber}
@@ -15,6 +14,7 @@ use Rattle.workspace.specs.Layout.{words_at, ends_at, posts_at, starts_at, pres_
 use Rattle.conditions.specs.Outcome.{both}
 use Rattle.rule_rows.specs.StepView.{cell}
 use Rattle.rule_table.specs.Outcome.{step_outcome}
+use Rattle.step_walk.specs.declared.Judging.{Judging}
 
 -- whether a refusal is on types: one on flow or access, 32 or 33, is not
 unfoldable pub refuses_types : Refusal → Bool
@@ -29,11 +29,6 @@ on_types (Ok a) = Ok tt
 unfoldable pub counted : Purpose → Result (Unit {0}) Refusal → Result (Unit {0}) Refusal
 counted Check o = o
 counted Fill o = on_types o
-
--- whether an outcome is a refusal
-unfoldable pub stops : Result (Unit {0}) Refusal → Bool
-stops (Err r) = true
-stops (Ok a) = false
 
 -- the map before step i is m
 unfoldable pub put_pre : (w : List ℕ) → (i : ℕ) → MapNumber → List ℕ
@@ -52,7 +47,6 @@ pass_on w k =
     (record { 0 = cell w (posts_at + 1) k }) (record { 0 = cell w starts_at k }) (cell w (ends_at + 1) k)
 
 -- n steps from step k on
-unfoldable pub walk : Purpose → (locations denominator : ℕ) → (w : List ℕ) → (k n : ℕ) → Result (Unit {0}) Refusal
-walk purpose locations denominator w k zero = Ok tt
-walk purpose locations denominator w k (suc n) =
-    both (counted purpose (step_outcome w locations denominator k)) (walk purpose locations denominator (pass_on w k) (k + 1) n)
+unfoldable pub walk : Judging → (w : List ℕ) → (k n : ℕ) → Result (Unit {0}) Refusal
+walk how w k zero = Ok tt
+walk how w k (suc n) = both (counted how.purpose (step_outcome w how.locations how.denominator k)) (walk how (pass_on w k) (k + 1) n)

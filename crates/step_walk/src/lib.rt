@@ -5,87 +5,76 @@ ghost use Rattle.std.specs.Prelude.{◌≡◌, ◌+◌, ◌-◌, ◌<◌, length
 ghost use Rattle.spec.specs.Words.{pre_of_part, pre_of_second};
 ghost use Rattle.workspace.specs.Layout.{pres_at, work_size};
 ghost use Rattle.workspace.specs.Region.{ChangedWithin};
-ghost use Rattle.conditions.specs.Outcome.{outcome};
-ghost use Rattle.step_walk.specs.Walk.{refuses_types, counted, stops, put_pre, pass_on, walk};
+ghost use Rattle.step_walk.specs.Walk.{refuses_types, counted, put_pre, pass_on, walk};
 
 use rule_rows::cell;
 use rule_table::check_step;
 use spec::{BinaryWord, MapNumber, Purpose, Refusal, UnaryWord, Word};
-use workspace::Ruling;
 use workspace::{ENDS, POSTS, PRES, STARTS, WORDS, index, word_of};
 
+// What the conditions are judged for, and by which numbers of the split's header.
+#[derive(Clone, Copy)]
+pub struct Judging {
+    pub purpose: Purpose,
+    pub denominator: u32,
+    pub locations: u32,
+}
+
 // Whether a refusal is on types.
+#[tactic(auto, unfolding(crate::specs::Walk::refuses_types, spec::specs::Verdict::returned, spec::specs::Verdict::numbers4))]
 fn on_types(refusal: Refusal) -> bool
     ensures { result ≡ refuses_types refusal }
 {
-    let Refusal::TypeFalse {
-        line: _,
-        condition: _,
-    } = refusal
-    else {
-        return false;
-    };
-    true
+    matches!(refusal, Refusal::TypeFalse { .. })
 }
 
-// Whether the ruling on a step or a `proc` line refuses: when checking each refusal counts, when filling one on types.
-pub fn refuses(purpose: Purpose, r: Ruling) -> bool
-    ensures { result ≡ stops (counted purpose (outcome r)) }
+// What counts of the outcome of a step or a `proc` line: when checking each refusal, when filling one on types.
+#[tactic(auto, unfolding(crate::specs::Walk::counted, crate::specs::Walk::on_types))]
+pub fn counted(purpose: Purpose, outcome: Result<(), Refusal>) -> Result<(), Refusal>
+    ensures { result ≡ counted purpose outcome }
 {
-    match r {
-        Ruling::Holds => false,
-        Ruling::Refused(refusal) => match purpose {
-            Purpose::Check => true,
-            Purpose::Fill => on_types(refusal),
-        },
+    match (purpose, outcome) {
+        (Purpose::Fill, Err(refusal)) if !on_types(refusal) => Ok(()),
+        _ => outcome,
     }
 }
 
 // The map before a step, for one of the 256 that there may be.
+#[tactic(auto, unfolding(crate::specs::Walk::put_pre))]
 fn put_pre(work: &mut [u32], i: u32, m: MapNumber)
     requires { length work.old ≡ work_size }
     ensures { work.new ≡ put_pre work.old i m }
 {
     if i < 256 {
-        let place = PRES + index(i);
-        work[place] = m.0;
+        work[PRES + index(i)] = m.0;
     }
 }
 
 // The map before the part of a step with one part.
+#[tactic(auto, unfolding(spec::specs::Words::pre_of_part))]
 fn pre_of_part(w: UnaryWord, pre: MapNumber, post: MapNumber) -> MapNumber
     ensures { result ≡ pre_of_part w pre post }
 {
     match w {
         UnaryWord::While => post,
-        UnaryWord::Join => pre,
-        UnaryWord::Ref => pre,
-        UnaryWord::Read => pre,
-        UnaryWord::Lock => pre,
-        UnaryWord::Unlock => pre,
-        UnaryWord::Post => pre,
-        UnaryWord::Wait => pre,
-        UnaryWord::Rdlock => pre,
-        UnaryWord::Rdunlock => pre,
-        UnaryWord::Wrlock => pre,
-        UnaryWord::Wrunlock => pre,
-        UnaryWord::Call => pre,
+        _ => pre,
     }
 }
 
 // The map before the second part of a step with two.
+#[tactic(auto, unfolding(spec::specs::Words::pre_of_second))]
 fn pre_of_second(w: BinaryWord, pre: MapNumber, post1: MapNumber, start: MapNumber) -> MapNumber
     ensures { result ≡ pre_of_second w pre post1 start }
 {
     match w {
-        BinaryWord::Let => post1,
+        BinaryWord::Let | BinaryWord::Write => post1,
         BinaryWord::If => pre,
         BinaryWord::Spawn => start,
-        BinaryWord::Write => post1,
     }
 }
 
 // The maps before the parts of step k.
+#[tactic(auto, unfolding(crate::specs::Walk::pass_on, crate::specs::Walk::pass_word))]
 fn pass_on(work: &mut [u32], k: u32)
     requires { (length work.old ≡ work_size) × (k < 4294967295) }
     ensures { work.new ≡ pass_on work.old k }
@@ -112,25 +101,21 @@ fn pass_on(work: &mut [u32], k: u32)
 // the map before it is known; pre is the one before the first.
 pub fn check_steps(
     work: &mut [u32],
-    purpose: Purpose,
+    how: Judging,
     from: u32,
     to: u32,
-    denominator: u32,
-    locations: u32,
     pre: MapNumber,
-) -> Ruling
+) -> Result<(), Refusal>
     requires { length work.old ≡ work_size }
-    ensures { (outcome result ≡ walk purpose locations denominator (put_pre work.old from pre) from (to - from)) × ChangedWithin pres_at (pres_at + 256) work.old work.new }
+    ensures { (result ≡ walk how (put_pre work.old from pre) from (to - from)) × ChangedWithin pres_at (pres_at + 256) work.old work.new }
 {
     put_pre(work, from, pre);
-    let mut k = from;
-    while k < to {
-        let r = check_step(work, locations, denominator, k);
-        if refuses(purpose, r) {
-            return r;
-        }
+    for k in from..to {
+        counted(
+            how.purpose,
+            check_step(work, how.locations, how.denominator, k),
+        )?;
         pass_on(work, k);
-        k += 1;
     }
-    Ruling::Holds
+    Ok(())
 }

@@ -7,7 +7,6 @@ use Prim.Native.Nat.{ℕ, zero, suc, ◌+◌, ◌-◌, ◌<◌, ◌≤◌}
 use native.Mathlib.Omega.{arith}
 use lib.ListN.{length, get_or, drop, drop_of_length-le}
 use lib.Seq.{drop-cons}
-
 use Rattle.spec.specs.declared.Refusal.{Refusal}
 use Rattle.spec.specs.Expression.{Expr, size, line_of, steps_among, Procedure}
 use Rattle.spec.specs.Program.{Program}
@@ -36,6 +35,7 @@ use Rattle.rule_rows.proofs.Scopes.{by_procedure, scoped_none, scoped_more}
 use Rattle.rule_rows.proofs.Views.{part_at, signed}
 use Rattle.rule_rows.proofs.TableRows.{procedure_shown}
 use Rattle.step_walk.specs.Walk.{counted, put_pre, walk}
+use Rattle.step_walk.specs.declared.Judging.{Judging}
 use Rattle.walk.specs.Bodies.{procedure_outcome, body_outcome}
 use Rattle.walk.specs.Contract.{ruled_for}
 use Rattle.step_walk.specs.Asked.{asked}
@@ -123,6 +123,9 @@ module _ (w : List ℕ) (steps procedures denominator locations start : ℕ) (P 
       rw (e, l) at (rest_here w (length P.procedures) 0 0 f P.procedures P.root (omega (arith, H.procedures_counted)) (program_here H))
 
   module _ (purpose : Purpose) (long : length w ≡ work_size) (few : steps ≤ 256) where
+    abbrev how : Judging
+    how = record { purpose = purpose; denominator = denominator; locations = locations }
+
     rows_few : length S.rows ≤ 256
     rows_few = omega (arith, H.in_range.rows_counted, H.steps_counted)
 
@@ -152,7 +155,7 @@ module _ (w : List ℕ) (steps procedures denominator locations start : ℕ) (P 
           (procedure_counted p.line purpose S (signature S f) p)
 
       -- its body
-      body_walked : walk purpose locations denominator (put_pre w k (record { 0 = cell w sig_befores_at f })) k (cell w (proc_firsts_at + 1) f - k)
+      body_walked : walk how (put_pre w k (record { 0 = cell w sig_befores_at f })) k (cell w (proc_firsts_at + 1) f - k)
           ≡ first_asked purpose (claims S (body_step_contexts S (signature S f) p))
       unfolding AllHere body_step_contexts
       body_walked =
@@ -163,7 +166,7 @@ module _ (w : List ℕ) (steps procedures denominator locations start : ℕ) (P 
           (scoped_more S [] [] [] (scoped_none S) p.parameter (proc_mark + f) (signature S f).argument (by_procedure f refl has_signature refl))
           _ (before_at w S P H.split H.in_range f has_signature refl) body_fits _ (omega (arith, next)))
 
-      body_shown_lem : body_outcome purpose locations denominator w f ≡ first_asked purpose (claims_of_procedure S (signature S f) p)
+      body_shown_lem : body_outcome how w f ≡ first_asked purpose (claims_of_procedure S (signature S f) p)
       unfolding body_outcome claims_of_procedure AllHere
       body_shown_lem =
           rw (line_shown, here.0.first, body_walked) (sym (asked_parts purpose _ _))
@@ -172,7 +175,7 @@ module _ (w : List ℕ) (steps procedures denominator locations start : ℕ) (P 
 
     pub bodies_more : (f : ℕ) → f < procedures
         → first_asked purpose (claims_of_procedures S f (drop f P.procedures))
-        ≡ both (body_outcome purpose locations denominator w f) (first_asked purpose (claims_of_procedures S (f + 1) (drop (f + 1) P.procedures)))
+        ≡ both (body_outcome how w f) (first_asked purpose (claims_of_procedures S (f + 1) (drop (f + 1) P.procedures)))
     unfolding claims_of_procedures
     bodies_more f there =
         let d : Procedure = record { line = 0; parameter = 0; body = P.root } in
@@ -195,7 +198,7 @@ module _ (w : List ℕ) (steps procedures denominator locations start : ℕ) (P 
 
     -- ---------------------------------------------------------------- the root
 
-    pub root_shown_lem : walk purpose locations denominator (put_pre w (cell w proc_firsts_at procedures) (record { 0 = start })) (cell w proc_firsts_at procedures) (steps - cell w proc_firsts_at procedures)
+    pub root_shown_lem : walk how (put_pre w (cell w proc_firsts_at procedures) (record { 0 = start })) (cell w proc_firsts_at procedures) (steps - cell w proc_firsts_at procedures)
         ≡ first_asked purpose (claims S (step_contexts S [] (start_map S) P.root))
     root_shown_lem =
         rw (H.denominator_given, H.locations_given)

@@ -11,8 +11,8 @@ ghost use Rattle.walk.specs.Contract.{Ruled};
 use bodies::check_program;
 use conditions::{check_locks, check_start};
 use rule_rows::cell;
-use spec::{Header, Purpose};
-use workspace::Ruling;
+use spec::{Header, Purpose, Refusal};
+use step_walk::Judging;
 use workspace::{LINES, PROC_FIRSTS};
 
 // The first reason of 44 and 30 to 33 for the sheets that the work space holds, when filling of 44, 30 and 31. It notes the maps
@@ -23,24 +23,19 @@ pub fn check(
     steps: usize,
     procedures: usize,
     header: Header,
-) -> Ruling
+) -> Result<(), Refusal>
     requires { (length work.old ≡ work_size) × (steps ≤ 256) × (procedures ≤ 16) × (header.locations ≤ 16) × (header.types ≤ 64) }
     ensures { Ruled work.old purpose steps procedures header result work.new }
 {
-    let denominator = header.denominator;
-    let start = header.start;
-    let n = header.locations as u32;
-    let types = header.types as u32;
-    let enough = check_locks(work, n, types);
-    let Ruling::Holds = enough else {
-        return enough;
+    let how = Judging {
+        purpose,
+        denominator: header.denominator,
+        locations: header.locations as u32,
     };
+    check_locks(work, how.locations, header.types as u32)?;
     let count = procedures as u32;
     let root = cell(work, PROC_FIRSTS, count);
     let line = cell(work, LINES, root);
-    let first = check_start(line, work, denominator, n, start);
-    let Ruling::Holds = first else {
-        return first;
-    };
-    check_program(work, purpose, steps as u32, count, denominator, n, start)
+    check_start(line, work, how.denominator, how.locations, header.start)?;
+    check_program(work, how, steps as u32, count, header.start)
 }

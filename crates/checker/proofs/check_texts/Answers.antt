@@ -1,18 +1,22 @@
--- By what was read: a refusal is the answer, else the rules give it.
-use mathlib.Core.Path.{◌∙◌}
-use Rattle.spec.specs.declared.Purpose.TheVariants.{Check}
-use Rattle.sheets.proofs.Found.{held_by}
-use Rattle.checker.proofs.Stages.{sheet_refused, sheets_ruled}
+-- A sheet is refused, or the rules decide.
+use Rattle.std.proofs.Common.{sym, ◌∙◌}
+use Rattle.split.proofs.Found.{types_decodes}
+use Rattle.conditions.proofs.FirstFalse as outcome
+use Rattle.walk.specs.Contract.{ruled_for}
+use Rattle.checker.proofs.Stages.{sheets_stop, rules_decide}
 use Rattle.checker.proofs.check_texts.Goals as goal
 
-pub check_rules-requires : goal.check_rules-requires
-check_rules-requires c =
-    let H = held_by Check _ _ _ _ c.read.ensures c.in-Held.is in
-    record { long = c.read.auto.work ∙ c.requires; few = H.few; few_procedures = H.few_procedures; small = H.small }
+pub returns-in_err-held : goal.returns-in_err-held
+returns-in_err-held c =
+    outcome.refused_by _ c.from_residual.ensures.1 ∙ sym (sheets_stop _ _ c.in_err-held.ensures)
 
-pub returns-in-Refused : goal.returns-in-Refused
-returns-in-Refused c = sheet_refused _ _ _ _ c.read.ensures c.in-Refused.is
+pub check-requires : goal.check-requires
+check-requires c =
+    let H = c.in_ok-held.ensures in
+    (c.read.auto.work ∙ c.requires, H.few, H.few_procedures, H.small.locations, H.small.types)
 
-pub returns-in-Held : goal.returns-in-Held
-returns-in-Held c =
-    sheets_ruled _ _ _ _ c.read.ensures c.in-Held.is c.check_rules.ensures
+pub returns : goal.returns
+unfolding ruled_for
+returns c =
+    let H = c.in_ok-held.ensures in
+    c.check.ensures.answers H.P H.S H.holds.sheets (types_decodes H.S _ H.holds.headed) ∙ sym (rules_decide _ _ H.read)

@@ -1,34 +1,32 @@
 -- The lock lines, the start, then the procedures and the root; proofs/Procedures.antt says what they come to for the sheets.
-use Prim.Native.Nat.{◌+◌}
-use mathlib.Core.Path.{sym, ◌∙◌}
+use Rattle.std.proofs.Common.{◌+◌, sym, ◌∙◌}
 use Rattle.workspace.specs.Layout.{pres_at}
 use Rattle.workspace.proofs.Region.{changed_nothing}
 use Rattle.conditions.specs.Outcome.{both}
-use Rattle.conditions.proofs.FirstFalse.{refused_stops, met_goes_on}
+use Rattle.conditions.proofs.FirstFalse.{both_stops, both_goes_on, refused_by}
 use Rattle.conditions.proofs.LockLines.{locks_shown}
 use Rattle.walk.proofs.Procedures.{start_judged}
 use Rattle.walk.proofs.check.Goals as goal
 
-pub returns-in_default : goal.returns-in_default
+pub returns-in_err-check_locks : goal.returns-in_err-check_locks
 unfolding both
-returns-in_default c =
+returns-in_err-check_locks c =
     record {
       answers = λ P S H counted.
-          rw (← locks_shown _ S _ H.split H.in_range _ H.locations_given _ counted, ← c.check_locks-enough.ensures) (sym (refused_stops _ _ c.in_default.is));
+          refused_by _ c.from_residual.ensures.1
+          ∙ rw (← locks_shown _ S _ H.split H.in_range _ H.locations_given _ counted) (sym (both_stops _ _ (sym c.in_err-check_locks.ensures)));
       changed = changed_nothing pres_at (pres_at + 256) _;
     }
 
-pub returns-in_default-first : goal.returns-in_default-first
+pub returns-in_err-check_start : goal.returns-in_err-check_start
 unfolding both
-returns-in_default-first c =
+returns-in_err-check_start c =
     record {
       answers = λ P S H counted.
-          rw (
-            ← locks_shown _ S _ H.split H.in_range _ H.locations_given _ counted,
-            ← start_judged _ _ _ _ _ _ P S H c.cell-root.ensures c.cell-line.ensures c.check_start-first.ensures,
-            ← c.check_locks-enough.ensures,
-          )
-          (sym (met_goes_on _ _ c.in-Holds.is ∙ refused_stops _ _ c.in_default-first.is));
+          refused_by _ c.from_residual-in_err-check_start.ensures.1
+          ∙ rw (← locks_shown _ S _ H.split H.in_range _ H.locations_given _ counted)
+          (sym (both_goes_on _ _ (sym c.in_ok-check_locks.ensures)
+          ∙ both_stops _ _ (sym (start_judged _ _ _ _ _ _ P S H c.cell-root.ensures c.cell-line.ensures c.in_err-check_start.ensures))));
       changed = changed_nothing pres_at (pres_at + 256) _;
     }
 
@@ -38,12 +36,8 @@ returns c =
     record {
       answers = λ P S H counted.
           c.check_program.ensures.answers P S H
-          ∙ sym (met_goes_on _ _ c.in-Holds-first.is)
-          ∙ sym (met_goes_on _ _ c.in-Holds.is)
-          ∙ rw (
-            c.check_locks-enough.ensures,
-            locks_shown _ S _ H.split H.in_range _ H.locations_given _ counted,
-            start_judged _ _ _ _ _ _ P S H c.cell-root.ensures c.cell-line.ensures c.check_start-first.ensures,
-          );
+          ∙ sym (both_goes_on _ _ (sym (start_judged _ _ _ _ _ _ P S H c.cell-root.ensures c.cell-line.ensures c.in_ok-check_start.ensures)))
+          ∙ sym (both_goes_on _ _ (sym c.in_ok-check_locks.ensures))
+          ∙ rw (locks_shown _ S _ H.split H.in_range _ H.locations_given _ counted);
       changed = c.check_program.ensures.changed;
     }

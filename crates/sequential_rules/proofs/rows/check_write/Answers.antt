@@ -1,35 +1,17 @@
--- The five conditions of `write`, each told by the test or the call that judges it.
-use mathlib.Core.Path.{refl, sym, ◌∙◌}
-use Rattle.spec.specs.Kinds.{int, ref, same_kind, is, ref_location, content}
-use Rattle.spec.specs.Conditions.{contains}
-use Rattle.spec.proofs.TypeKinds.{of_is}
-use Rattle.conditions.proofs.FirstFalse.{last, next, pass, fail}
-use Rattle.conditions.proofs.TypeKinds.{not_of}
+-- The third condition refuses, under its own number: those before it hold.
+use Rattle.std.proofs.Common.{◌≡◌, Err, refl}
+use Rattle.spec.specs.Kinds.{same_kind, is, content}
+use Rattle.spec.specs.Conditions.{T, contains}
+use Rattle.spec.specs.StepContexts.{judge}
+use Rattle.conditions.specs.Agreement.{agree_in}
+use Rattle.conditions.proofs.FirstFalse.{exit, later}
 use Rattle.sequential_rules.proofs.rows.check_write.Goals as goal
 
-pub returns-in_default : goal.returns-in_default
-returns-in_default c = rw (← c.type_at.ensures) (fail _ _ _ _ (not_of int _ c.in_default.not-Int) c.type_false.ensures)
-
-pub returns-in_default-type_at : goal.returns-in_default-type_at
-returns-in_default-type_at c =
-    rw (← c.type_at-2.ensures, ← c.type_at.ensures)
-    (pass _ _ _ _ (of_is c.in-Int.is)
-    (fail _ _ _ _ (not_of ref _ c.in_default-type_at.not-Ref) c.type_false-in_default-type_at.ensures))
-
-pub returns-then-not-agrees : goal.returns-then-not-agrees
-unfolding is same_kind contains content
-returns-then-not-agrees c =
-    rw (← c.type_at-2.ensures, ← c.type_at.ensures, c.in-Int.is, c.in-Ref.is)
-    (pass _ _ _ _ refl
-    (pass _ _ _ _ refl
-    (fail _ _ _ _ (sym c.agrees.ensures ∙ c.if-not-agrees.true) c.type_false-then-not-agrees.ensures)))
-
-pub returns : goal.returns
-unfolding is same_kind ref_location contains content
-returns c =
-    rw (← c.type_at-2.ensures, ← c.type_at.ensures, c.in-Int.is, c.in-Ref.is)
-    (pass _ _ _ _ refl
-    (pass _ _ _ _ refl
-    (pass _ _ _ _ (sym c.agrees.ensures ∙ c.if-not-agrees.false)
-    (next _ _ _ _ _ _ c.and_then.ensures c.equal.ensures
-    (last _ _ _ c.holds_at_least.ensures)))))
+pub returns-in_err-agree : goal.returns-in_err-agree
+unfolding is same_kind contains content judge
+returns-in_err-agree c =
+    let third : Err c.in_err-agree.field-0.0 ≡ judge c.args.s.line 3 (T (agree_in c.args.work.now c.args.s.locations c.in-Ref.content c.args.s.type2)) = c.in_err-agree.ensures in
+    rw (← c.type_at.ensures, c.in-Ref.is)
+    (later _ _ _ _ c.in_ok-is_int.ensures
+    (later _ _ _ _ refl
+    (exit _ _ _ _ _ c.from_residual-in_err-agree.ensures.1 third)))

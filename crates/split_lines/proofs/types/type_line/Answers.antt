@@ -1,84 +1,46 @@
 -- A type line: its word, its two numerals, and what they come to.
 use mathlib.Core.Path.{refl, sym, ap, subst, ◌∙◌}
-use Rattle.lexer.specs.Cursors.{rest}
 use Rattle.keywords.specs.Words.{type_word_of}
-use Rattle.lexer.proofs.LineEnds.{numbers_none, numbers_read}
-use Rattle.lexer.proofs.Walks.{left_some}
 use Rattle.split_fields.specs.Answers.{HeadAnswer}
-use Rattle.split_fields.proofs.LineLaws.{line_missing, comma_placed}
-use Rattle.split_lines.specs.declared.types.TypeSeen.TheVariants as type-seen
-use Rattle.split_lines.proofs.TypeLaws.{no_comma, type_form, type_answer, type_answered}
+use Rattle.split_fields.proofs.LineLaws.{comma_placed, exit}
+use Rattle.split_lines.proofs.TypeLaws.{no_comma, no_kind, type_malformed, type_read}
 use Rattle.split_lines.proofs.types.type_line.Goals as goal
 
-pub returns-then-at_end : goal.returns-then-at_end
-returns-then-at_end c = line_missing _ _ _ (sym c.at_end.ensures ∙ c.if-at_end.true)
+pub returns-in_err-field : goal.returns-in_err-field
+returns-in_err-field c =
+    rw (exit _ c.from_residual.result c.in_err-field.ensures.value c.from_residual.ensures.1)
+    (no_comma _ _ _ _ (sym c.if-at_end.ensures) (subst (HeadAnswer _ _) c.in_err-field.ensures.ok_part c.first_field.ensures))
 
-pub returns-in_default : goal.returns-in_default
-returns-in_default c =
-    let text = c.args.text.now in
-    let cursor = c.args.cursor in
-    let left = left_some (rest text cursor) (sym c.at_end.ensures ∙ c.if-at_end.false) in
-    no_comma c.args.header c.args.own.0 text cursor left (subst (HeadAnswer text cursor) c.in_default.is c.first_field.ensures)
-
-pub slice_bounds-type_word-count : goal.slice_bounds-type_word-count
-slice_bounds-type_word-count c = c.in-Field.ensures.0
-
-pub slice_bounds-type_word-start : goal.slice_bounds-type_word-start
-slice_bounds-type_word-start c = c.in-Field.ensures.0
-
-pub slice_bounds-type_word-end : goal.slice_bounds-type_word-end
-slice_bounds-type_word-end c = c.in-Field.ensures.1
+pub returns-in_err-kind : goal.returns-in_err-kind
+returns-in_err-kind c =
+    let head = subst (HeadAnswer _ _) c.in_ok-field.ensures.ok_part c.first_field.ensures in
+    rw (exit _ c.from_residual-in_err-kind.result c.in_err-kind.ensures.value c.from_residual-in_err-kind.ensures.1)
+    (no_kind _ _ _ _ (sym c.if-at_end.ensures) (ap type_word_of (sym head.0) ∙ sym c.type_word.ensures ∙ c.in_err-kind.ensures.ok_part))
 
 -- a comma ends its word
-pub numbers-read-requires : goal.numbers-read-requires
-numbers-read-requires c =
-    let word = c.in-Field.ensures in
-    comma_placed _ _ _ c.requires.reading.placed word.3 word.4
+pub numbers-requires : goal.numbers-requires
+numbers-requires c =
+    let head = subst (HeadAnswer _ _) c.in_ok-field.ensures.ok_part c.first_field.ensures in
+    comma_placed _ _ _ c.requires.reading.placed head.1 head.2
 
-pub returns-in_default-read : goal.returns-in_default-read
-returns-in_default-read c =
-    let text = c.args.text.now in
-    let cursor = c.args.cursor in
-    let word = c.in-Field.ensures in
-    let left = left_some (rest text cursor) (sym c.at_end.ensures ∙ c.if-at_end.false) in
-    type_form c.args.header c.args.own.0 text cursor left c.requires.reading.placed word.3 _ word.4
-    (numbers_none c.numbers-read.ensures 2 refl c.in_default-read.is).0
+pub returns-in_err-next : goal.returns-in_err-next
+returns-in_err-next c =
+    let head = subst (HeadAnswer _ _) c.in_ok-field.ensures.ok_part c.first_field.ensures in
+    let known = ap type_word_of (sym head.0) ∙ sym c.type_word.ensures ∙ c.in_ok-kind.ensures.ok_part in
+    rw (exit _ c.from_residual-in_err-next.result c.in_err-next.ensures.value c.from_residual-in_err-next.ensures.1)
+    (type_malformed _ _ _ _ (sym c.if-at_end.ensures) c.requires.reading.placed head.1 head.2 _ known c.numbers.ensures refl c.in_err-next.ensures.ok_part)
 
-pub returns-in-Right : goal.returns-in-Right
-unfolding type_answer
-returns-in-Right c =
-    let text = c.args.text.now in
-    let cursor = c.args.cursor in
-    let small = c.requires.small in
-    let word = c.in-Field.ensures in
-    let left = left_some (rest text cursor) (sym c.at_end.ensures ∙ c.if-at_end.false) in
-    let behind = comma_placed _ _ _ c.requires.reading.placed word.3 word.4 in
-    type_answered c.args.header c.args.own.0 text cursor left c.requires.reading.placed word.3 _ word.4
-    (small.locations, small.maps, c.requires.numbered) _ (c.type_word-kind.ensures ∙ ap type_word_of word.2)
-    c.numbers-read.new.into _ (numbers_read c.numbers-read.ensures 2 refl behind c.in-Read.is) _ c.type_of-seen.ensures (type-seen.Right _) c.in-Right.is
+pub returns-in_err-t : goal.returns-in_err-t
+returns-in_err-t c =
+    let head = subst (HeadAnswer _ _) c.in_ok-field.ensures.ok_part c.first_field.ensures in
+    let known = ap type_word_of (sym head.0) ∙ sym c.type_word.ensures ∙ c.in_ok-kind.ensures.ok_part in
+    rw (exit _ c.from_residual-in_err-t.result c.in_err-t.ensures.value c.from_residual-in_err-t.ensures.1)
+    (rw (← c.type_of.ensures, c.in_err-t.ensures.ok_part) at
+    (type_read c.args.header c.args.own.0 _ _ (sym c.if-at_end.ensures) c.requires.reading.placed head.1 head.2 _ known c.numbers.ensures refl c.requires.small c.requires.numbered c.in_ok-next.ensures.ok_part))
 
-pub returns-in-BadForm : goal.returns-in-BadForm
-unfolding type_answer
-returns-in-BadForm c =
-    let text = c.args.text.now in
-    let cursor = c.args.cursor in
-    let small = c.requires.small in
-    let word = c.in-Field.ensures in
-    let left = left_some (rest text cursor) (sym c.at_end.ensures ∙ c.if-at_end.false) in
-    let behind = comma_placed _ _ _ c.requires.reading.placed word.3 word.4 in
-    type_answered c.args.header c.args.own.0 text cursor left c.requires.reading.placed word.3 _ word.4
-    (small.locations, small.maps, c.requires.numbered) _ (c.type_word-kind.ensures ∙ ap type_word_of word.2)
-    c.numbers-read.new.into _ (numbers_read c.numbers-read.ensures 2 refl behind c.in-Read.is) _ c.type_of-seen.ensures type-seen.BadForm c.in-BadForm.is
-
-pub returns-in-BadRange : goal.returns-in-BadRange
-unfolding type_answer
-returns-in-BadRange c =
-    let text = c.args.text.now in
-    let cursor = c.args.cursor in
-    let small = c.requires.small in
-    let word = c.in-Field.ensures in
-    let left = left_some (rest text cursor) (sym c.at_end.ensures ∙ c.if-at_end.false) in
-    let behind = comma_placed _ _ _ c.requires.reading.placed word.3 word.4 in
-    type_answered c.args.header c.args.own.0 text cursor left c.requires.reading.placed word.3 _ word.4
-    (small.locations, small.maps, c.requires.numbered) _ (c.type_word-kind.ensures ∙ ap type_word_of word.2)
-    c.numbers-read.new.into _ (numbers_read c.numbers-read.ensures 2 refl behind c.in-Read.is) _ c.type_of-seen.ensures type-seen.BadRange c.in-BadRange.is
+pub returns : goal.returns
+returns c =
+    let head = subst (HeadAnswer _ _) c.in_ok-field.ensures.ok_part c.first_field.ensures in
+    let known = ap type_word_of (sym head.0) ∙ sym c.type_word.ensures ∙ c.in_ok-kind.ensures.ok_part in
+    rw (← c.type_of.ensures, c.in_ok-t.ensures.ok_part) at
+    (type_read c.args.header c.args.own.0 _ _ (sym c.if-at_end.ensures) c.requires.reading.placed head.1 head.2 _ known c.numbers.ensures refl c.requires.small c.requires.numbered c.in_ok-next.ensures.ok_part)

@@ -1,4 +1,0 @@
-use Rattle.rule_rows.proofs.columns.cell.Goals as goal
-
-pub returns : goal.returns
-returns c = cc

@@ -1,4 +1,0 @@
-use Rattle.rule_rows.proofs.relations.at_least.Goals as goal
-
-pub returns : goal.returns
-returns c = c.flow.ensures

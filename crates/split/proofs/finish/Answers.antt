@@ -1,9 +1,0 @@
-use mathlib.Core.Path.{sym, ◌∙◌}
-use Rattle.split_fields.proofs.LineLaws.{end_reached, line_spare}
-use Rattle.split.proofs.finish.Goals as goal
-
-pub returns-then-at_end : goal.returns-then-at_end
-returns-then-at_end c = end_reached _ _ (sym c.at_end.ensures ∙ c.if-at_end.true)
-
-pub returns : goal.returns
-returns c = line_spare _ _ (sym c.at_end.ensures ∙ c.if-at_end.false)
