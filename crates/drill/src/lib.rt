@@ -18,7 +18,7 @@ use program_sheet::write_program;
 use split_sheet::write_split;
 
 // What a drill answers where both buffers have room: the new x and the lengths of program and split.
-#[derive(Clone, Copy)]
+#[derive(Clone, Copy, PartialEq, Eq)]
 pub struct Drilled {
     pub next: u32,
     pub program: u32,

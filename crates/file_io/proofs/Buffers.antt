@@ -1,6 +1,5 @@
 -- The bytes of a file that was read, and of a line that was written, are a part of their buffer.
-use Rattle.std.proofs.Common.{Option, Some}
-use mathlib.Core.Path.{◌≡◌, sym, ap, ◌∙◌}
+use mathlib.Core.Path.{◌≡◌, ap, ◌∙◌}
 use mathlib.Core.List.{List, ◌++◌}
 use Prim.Native.Nat.{ℕ, ◌≤◌, ◌<◌}
 use native.Mathlib.Omega.{arith}
@@ -8,13 +7,7 @@ use lib.ListN.{length, take, drop, length-take}
 use lib.Seq.{length-take-le, take-append_seam, take-append-le, take-take}
 use Rattle.writer.specs.Buffer.{WrittenAt}
 use Rattle.writer.proofs.Buffer.{overwrite_front}
-use Rattle.file_io.specs.Files.{Within, text_in, InFront}
-
-pub bytes_part : {x : Option ℕ} {n : ℕ} (buffer : List ℕ) → x ≡ Some n → Within x (length buffer) → n ≡ length (take n buffer)
-bytes_part {n = n} buffer e w = sym (length-take-le n buffer (rw e at w))
-
-pub text_read : {x : Option ℕ} {n : ℕ} (buffer : List ℕ) → x ≡ Some n → text_in x buffer ≡ Some (take n buffer)
-text_read buffer e = rw e
+use Rattle.file_io.specs.Files.{InFront}
 
 -- the bytes in front of a part that is read into are as they were
 pub front_kept : (held n : ℕ) (buffer behind : List ℕ) → held ≤ n → n ≤ length buffer → take held (take n buffer ++ behind) ≡ take held buffer

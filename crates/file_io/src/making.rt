@@ -8,7 +8,7 @@ use std::io::ErrorKind;
 use std_io::io::last_error;
 
 // Why a file is not made: its name is taken, or it can't be written to its end.
-#[derive(Clone, Copy)]
+#[derive(Clone, Copy, PartialEq, Eq)]
 pub enum Unmade {
     Taken,
     Unwritten,

@@ -1,12 +1,11 @@
 -- From what filling tells to what is written.
-use Rattle.std.proofs.Common.{Option, None, Some, Result, Ok, Err}
-use mathlib.Core.Path.{◌≡◌, refl, sym, ap, ◌∙◌}
+use Rattle.std.proofs.Common.{None, Some, Result, Ok, Err}
+use mathlib.Core.Path.{◌≡◌, sym, ap, ◌∙◌}
 use mathlib.Core.Path.{subst as along}
 use mathlib.Core.List.{List}
 use Prim.Native.Nat.{ℕ, ◌≤◌}
 use native.Mathlib.Omega.{arith}
 use lib.ListN.{length, take}
-
 use Rattle.spec.specs.Split.{split_limit}
 use Rattle.spec.specs.Workspace.{workspace_size}
 use Rattle.spec.specs.Verdict.{numbers4, returned}
@@ -16,19 +15,13 @@ use Rattle.spec.specs.declared.Refusal.{Refusal}
 use Rattle.spec.proofs.Refusals.{refusal_number}
 use Rattle.writer.specs.Buffer.{WrittenAt}
 use Rattle.answers.specs.Line.{refusal_line, answer_line, output_line}
-use Rattle.answers.specs.declared.line.Outcome.TheVariants.{Answered}
-use Rattle.answers.specs.declared.line.Outcome.TheVariants.{Unread as UnreadLine}
-use Rattle.file_io.specs.Files.{text_in, InFront}
-use Rattle.file_io.specs.declared.Contents.{Contents}
-use Rattle.file_io.specs.declared.Contents.TheVariants.{Unread}
+use Rattle.file_io.specs.Files.{InFront}
 use Rattle.file_io.proofs.Buffers.{front, line_in_front}
 use Rattle.fill_theory.specs.Answer.{fill, returned_for, buffer_after}
 use Rattle.fill.specs.Numbers.{returned_by}
 use Rattle.fill.specs.Stages.{OutcomePost}
-use Rattle.fill.specs.declared.Filled.{Filled}
-use Rattle.fill.specs.declared.Filled.TheVariants as filled
 use Rattle.fill.proofs.Promises.{begins}
-use Rattle.racefill.specs.Output.{output_of, output_for}
+use Rattle.racefill.specs.Output.{output_of}
 
 -- in a work space and a buffer of the lengths that are wanted
 pub same_fill : {room buffer : ℕ} (p s : List ℕ) → room ≡ workspace_size → buffer ≡ split_limit → fill room buffer p s ≡ fill workspace_size split_limit p s
@@ -40,9 +33,9 @@ text_length : (o : Result (List ℕ) Refusal) (text : List ℕ) → o ≡ Ok tex
 unfolding returned_for numbers4
 text_length o text e = rw e
 
-pub sheet_in_front : {n : ℕ} (room : ℕ) (p s before after : List ℕ) (f : Filled) {o : Result (List ℕ) Refusal} → fill room (length before) p s ≡ o
+pub sheet_in_front : {n : ℕ} (room : ℕ) (p s before after : List ℕ) (f : Result ℕ Refusal) {o : Result (List ℕ) Refusal} → fill room (length before) p s ≡ o
     → returned_by f ≡ returned_for (fill room (length before) p s) → after ≡ buffer_after (fill room (length before) p s) before
-    → f ≡ filled.Written n → InFront (output_of o) n after
+    → f ≡ Ok n → InFront (output_of o) n after
 unfolding returned_by numbers4 output_of
 sheet_in_front {n} room p s before after f same numbers buffer is =
     let told : OutcomePost (fill room (length before) p s) before after f = record { numbers = numbers; buffer = buffer } in
@@ -54,13 +47,13 @@ sheet_in_front {n} room p s before after f same numbers buffer is =
 
 -- ------------------------------------------------------------------ a refusal
 
-refusal_output : (o : Result (List ℕ) Refusal) (r : Refusal) → returned (Refuse r) ≡ returned_for o → output_line (Answered (Refuse r)) ≡ output_of o
+refusal_output : (o : Result (List ℕ) Refusal) (r : Refusal) → returned (Refuse r) ≡ returned_for o → output_line (Some (Refuse r)) ≡ output_of o
 unfolding returned_for output_of output_line answer_line numbers4
 refusal_output (Err q) r e = ap refusal_line e
 refusal_output (Ok t) r e = absurd (omega (arith, refusal_number r, ap (λ (n : Returned). n.number) e))
 
-pub refusal_in_front : {n : ℕ} {r : Refusal} (o : Result (List ℕ) Refusal) (before after : List ℕ) (f : Filled) {o' : Result (List ℕ) Refusal} → o ≡ o' → returned_by f ≡ returned_for o
-    → f ≡ filled.Refused r → WrittenAt before after 0 (output_line (Answered (Refuse r))) n → n ≤ 51 → 51 ≤ length before
+pub refusal_in_front : {n : ℕ} {r : Refusal} (o : Result (List ℕ) Refusal) (before after : List ℕ) (f : Result ℕ Refusal) {o' : Result (List ℕ) Refusal} → o ≡ o' → returned_by f ≡ returned_for o
+    → f ≡ Err r → WrittenAt before after 0 (output_line (Some (Refuse r))) n → n ≤ 51 → 51 ≤ length before
     → InFront (output_of o') n after
 unfolding returned_by
 refusal_in_front {n} {r} o before after f same told is w short room =
@@ -68,22 +61,7 @@ refusal_in_front {n} {r} o before after f same told is w short room =
 
 -- ------------------------------------------------------------------ a file that can't be read
 
-unread_program : {x : Contents} (buffer : List ℕ) (split : Option (List ℕ)) → x ≡ Unread → output_line UnreadLine ≡ output_for (text_in x buffer) split
-unfolding output_for
-unread_program buffer split e = sym (ap (λ (y : Contents). output_for (text_in y buffer) split) e)
-
-unread_split : {x : Contents} (program : Option (List ℕ)) (buffer : List ℕ) → x ≡ Unread → output_line UnreadLine ≡ output_for program (text_in x buffer)
-unfolding output_for
-unread_split None buffer e = refl
-unread_split (Some p) buffer e = sym (ap (λ (y : Contents). output_for (Some p) (text_in y buffer)) e)
-
-module _ {n : ℕ} (before after : List ℕ) (w : WrittenAt before after 0 (output_line UnreadLine) n) (short : n ≤ 51) (room : length before ≡ split_limit) where
-  line : InFront (output_line UnreadLine) n after
-  unfolding split_limit
-  line = line_in_front 51 before after w short (omega (arith, room)) (omega arith)
-
-  pub program_unread : {x : Contents} (buffer : List ℕ) (split : Option (List ℕ)) → x ≡ Unread → InFront (output_for (text_in x buffer) split) n after
-  program_unread buffer split e = along (λ (text : List ℕ). InFront text n after) (unread_program buffer split e) line
-
-  pub split_unread : {x : Contents} (program : Option (List ℕ)) (buffer : List ℕ) → x ≡ Unread → InFront (output_for program (text_in x buffer)) n after
-  split_unread program buffer e = along (λ (text : List ℕ). InFront text n after) (unread_split program buffer e) line
+pub line_unread : {n : ℕ} (before after : List ℕ) → WrittenAt before after 0 (output_line None) n → n ≤ 51 → length before ≡ split_limit
+    → InFront (output_line None) n after
+unfolding split_limit
+line_unread before after w short room = line_in_front 51 before after w short (omega (arith, room)) (omega arith)

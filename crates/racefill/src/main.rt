@@ -10,9 +10,9 @@ ghost use Rattle.fill_theory.specs.Answer.{fill as filling};
 ghost use Rattle.file_io.specs.Files.{Within, text_in, InFront};
 ghost use Rattle.racefill.specs.Output.{output_of, output_for};
 
-use answers::{Outcome, write_line};
-use file_io::{Contents, is_given, read_program, read_split, tell, write_all};
-use fill::{Filled, fill};
+use answers::write_line;
+use file_io::{is_given, read_program, read_split, tell, write_all};
+use fill::fill;
 use spec::Answer;
 use std::fs::Files;
 use std::io::Write;
@@ -24,21 +24,24 @@ fn fill_texts(program: &[u8], split: &[u8], out: &mut [u8]) -> usize
 {
     let mut work = [0u32; 16384];
     match fill(program, split, &mut work, out) {
-        Filled::Written(length) => length as usize,
-        Filled::Refused(r) => write_line(out, Outcome::Answered(Answer::Refuse(r))),
+        Ok(length) => length as usize,
+        Err(refusal) => write_line(out, Some(Answer::Refuse(refusal))),
     }
 }
 
 // Makes what is written for the two files as they were read, each into its buffer.
-fn output_of(program: &[u8], p: Contents, split: &[u8], s: Contents, out: &mut [u8]) -> usize
+fn output_of(
+    program: &[u8],
+    p: Option<usize>,
+    split: &[u8],
+    s: Option<usize>,
+    out: &mut [u8],
+) -> usize
     requires { Within p (length program.now) × Within s (length split.now) × (length out.old ≡ split_limit) }
     ensures { InFront (output_for (text_in p program.now) (text_in s split.now)) result out.new }
 {
-    let Contents::Bytes(m) = p else {
-        return write_line(out, Outcome::Unread);
-    };
-    let Contents::Bytes(n) = s else {
-        return write_line(out, Outcome::Unread);
+    let (Some(m), Some(n)) = (p, s) else {
+        return write_line(out, None);
     };
     fill_texts(&program[..m], &split[..n], out)
 }
@@ -49,9 +52,9 @@ fn write_output<W: Write, E: Write>(
     out: &mut W,
     err: &mut E,
     program: &[u8],
-    p: Contents,
+    p: Option<usize>,
     split: &[u8],
-    s: Contents,
+    s: Option<usize>,
     output: &[u8],
 )
     requires { output.now ≡ output_for (text_in p program.now) (text_in s split.now) }
@@ -84,7 +87,7 @@ fn main(rt: HostRuntime) {
             &mut err,
             b"usage: racefill, with no argument, in a folder with program.txt and split.txt\n",
         );
-        tell(&mut out, Outcome::Unread);
+        tell(&mut out, None);
         return;
     }
     run(&rt, &mut out, &mut err);

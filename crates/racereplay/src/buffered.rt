@@ -1,6 +1,6 @@
 // A trace that comes through a buffer: its lines are handed on to the replay, and the front of a line that the buffer's end has cut is carried
 // over to the next filling.
-ghost use Rattle.std.specs.Prelude.{◌≡◌, true, List, ℕ, ◌+◌, ◌-◌, ◌<◌, ◌≤◌, length, take, drop};
+ghost use Rattle.std.specs.Prelude.{◌≡◌, true, List, ℕ, ◌+◌, ◌<◌, ◌≤◌, length, take};
 ghost use Rattle.replay.specs.Pieces.{ends_line, RunOf};
 ghost use Rattle.racereplay.specs.Buffered.{TakenIn};
 
@@ -11,27 +11,9 @@ use replay_loop::Point;
 fn whole_lines(text: &[u8]) -> usize
     ensures { (result ≤ length text.now) × (ends_line (take result text.now) ≡ true) }
 {
-    let mut n = text.len();
-    while 0 < n {
-        if text[n - 1] == b'\n' {
-            return n;
-        }
-        n -= 1;
-    }
-    0
-}
-
-// The bytes from there on come to the front.
-fn carry(buffer: &mut [u8], from: usize)
-    requires { from ≤ length buffer.old }
-    ensures { take (length buffer.old - from) buffer.new ≡ drop from buffer.old }
-{
-    let n = buffer.len() - from;
-    let mut i: usize = 0;
-    while i < n {
-        let b = buffer[from + i];
-        buffer[i] = b;
-        i += 1;
+    match text.iter().rposition(|byte| *byte == b'\n') {
+        Some(last) => last + 1,
+        None => 0,
     }
 }
 
@@ -51,8 +33,8 @@ pub(crate) fn take_in(job: &[u32], space: &mut [u32], run: Point, buffer: &mut [
     ensures held { result.held ≤ length buffer.new }
 {
     let cut = whole_lines(buffer);
-    let after = more(job, space, run, &buffer[..cut]);
-    carry(buffer, cut);
+    let run = more(job, space, run, &buffer[..cut]);
+    buffer.copy_within(cut.., 0);
     let held = buffer.len() - cut;
-    Taken { run: after, held }
+    Taken { run, held }
 }

@@ -2,9 +2,9 @@
 // out and counted all the same, so a writer over an empty buffer tells how long its text is.
 #![tactic(auto)]
 
-ghost use Rattle.std.specs.Prelude.{◌≡◌, [], ◌∷◌, ◌++◌, map, ◌+◌, ◌≤◌, ◌<◌, length, set};
+ghost use Rattle.std.specs.Prelude.{◌≡◌, [], ◌∷◌, ◌++◌, map, ◌+◌, ◌<◌, length, set};
 ghost use Rattle.text_theory.specs.Text.{digit as digit_of, decimal, line};
-ghost use Rattle.writer.specs.Buffer.{WrittenAt, overwrite, Writes};
+ghost use Rattle.writer.specs.Buffer.{overwrite, Writes};
 
 // A lent buffer, and the place in it where the next byte is put.
 #[derive(Drop)]
@@ -44,9 +44,8 @@ impl<'a> Writer<'a> {
     pub fn bytes(&mut self, bytes: &[u8])
         ensures { Writes self.old self.new bytes.now }
     {
-        for byte in bytes {
-            self.byte(*byte);
-        }
+        write_bytes(self.buffer, self.at, bytes);
+        self.at = self.at.saturating_add(bytes.len());
     }
 
     // Puts a numeral. Past the end its digits are counted and no more.
@@ -79,6 +78,16 @@ impl<'a> Writer<'a> {
             self.field(u64::from(*n), b',');
         }
         self.field(u64::from(*last), b'\n');
+    }
+}
+
+// Puts so much of a byte string as there is room for at a place within a buffer.
+fn write_bytes(buffer: &mut [u8], at: usize, bytes: &[u8])
+    ensures { buffer.new ≡ overwrite buffer.old at bytes.now }
+{
+    if at < buffer.len() {
+        let n = bytes.len().min(buffer.len() - at);
+        buffer[at..at + n].copy_from_slice(&bytes[..n]);
     }
 }
 

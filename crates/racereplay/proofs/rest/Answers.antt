@@ -3,11 +3,9 @@ use Prim.Native.Nat.{ℕ}
 use mathlib.Core.List.{◌++◌}
 use mathlib.Core.Path.{◌∙◌, ap}
 use Rattle.replay_theory.specs.Replay.{replay}
-use Rattle.replay_answers.specs.declared.line.Outcome.TheVariants.{Ran}
 use Rattle.racereplay.proofs.rest.Goals as goal
 
 pub returns : goal.returns
 returns c = λ program trace R ends room.
-    ap Ran
-    (c.told-replayed.ensures.answer program _ _ _ (c.more.ensures.goes_on program trace R ends room)
-    ∙ ap (λ (n : ℕ). replay n program (trace ++ c.args.bytes.now)) c.more.auto.space)
+    c.told.ensures.answer program _ _ _ (c.more.ensures.goes_on program trace R ends room)
+    ∙ ap (λ (n : ℕ). replay n program (trace ++ c.args.bytes.now)) c.more.auto.space

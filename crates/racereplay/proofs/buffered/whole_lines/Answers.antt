@@ -1,12 +1,12 @@
 use Rattle.std.proofs.Common.{rules}
+use Rattle.std.proofs.iter.runs.Made.{chains}
 use Rattle.replay.specs.Pieces.{ends_line}
-use Rattle.racereplay.proofs.Carrying.{ends_just_there}
+use Rattle.racereplay.proofs.Carrying.{ends_there}
 use Rattle.racereplay.proofs.buffered.whole_lines.Goals as goal
 
-pub returns-then-text-n-eq10 : goal.returns-then-text-n-eq10
-returns-then-text-n-eq10 c =
-    (c.loop-n.invariant, ends_just_there c.args.text.now _ c.loop-n-test.true c.loop-n.invariant c.if-text-n-eq10.true)
+pub returns-in-Some : goal.returns-in-Some
+returns-in-Some c = (search (rules, chains), ends_there _ _ (search (rules, chains)) (search (rules, chains)))
 
-pub returns : goal.returns
+pub returns-in-None : goal.returns-in-None
 unfolding ends_line
-returns c = search rules
+returns-in-None c = search rules
