@@ -22,20 +22,21 @@ use Rattle.replay_step.specs.declared.words.Act.{Act}
 use Rattle.replay_step.specs.declared.words.Act.TheVariants.{Go, Spawn, Join}
 use Rattle.replay_step.specs.declared.words.Halt.{Halt}
 use Rattle.replay_step.specs.declared.words.Halt.TheVariants.{Stuck, Past}
+use Rattle.replay_engine.specs.declared.Halted.{Halted}
 use Rattle.replay_engine.specs.ControlPoints.{control_point_at, went_on}
-use Rattle.replay_engine.specs.Steps.{may_choose, recorded, proceeded, outcome_of, moved_to, copied, gives_zero, spawned_step, joined_by, joined_step, act_step, after_act, stepped_from, stepped}
+use Rattle.replay_engine.specs.Steps.{may_choose, recorded, proceeded, halted, threads_after, outcome_of, moved_to, copied, gives_zero, spawned_step, joined_by, joined_step, act_step, after_act, stepped_from, stepped}
 
 abbrev Few : Threads → Type 0
 Few T = T.count ≤ 16
 
-abbrev FewAfter : Result Threads Halt × List ℕ → Type 0
-FewAfter r = IfOk r.0 Few
+abbrev FewAfter : Result Threads Halted × List ℕ → Type 0
+FewAfter r = Few (threads_after r.0)
 
 either : (b : Bool) (A B : Threads) → Few A → Few B → Few (when b then A else B)
 either true A B a b = a
 either false A B a b = b
 
-either_after : (b : Bool) (A B : Result Threads Halt × List ℕ) → FewAfter A → FewAfter B → FewAfter (when b then A else B)
+either_after : (b : Bool) (A B : Result Threads Halted × List ℕ) → FewAfter A → FewAfter B → FewAfter (when b then A else B)
 either_after true A B a b = a
 either_after false A B a b = b
 
@@ -62,8 +63,8 @@ proceeded_few : (p s : List ℕ) (T : Threads) (t : ℕ) (f : ControlPoint) → 
 unfolding proceeded
 proceeded_few p s T t f h = recorded_few T t (went_on p s t f) h
 
-past_or : (b : Bool) (T : Threads) → Few T → IfOk (when b then Err Past else Ok T) Few
-past_or true T h = tt
+past_or : (b : Bool) (T : Threads) → Few T → Few (threads_after (when b then halted Past T else Ok T))
+past_or true T h = h
 past_or false T h = h
 
 moved_few : (t : ℕ) (x : Threads × List ℕ) → Few x.0 → FewAfter (moved_to t x)
@@ -77,7 +78,7 @@ zero_few p t f (T, s) h = moved_few t (proceeded p s T t (given p f.row f.at 0))
 spawn_few : (p s : List ℕ) (T : Threads) (t : ℕ) (f : ControlPoint) (tid : ℕ) → Few T → FewAfter (spawned_step p s T t f tid)
 unfolding spawned_step
 spawn_few p s T t f tid h =
-    either_after (leb 16 T.count) (Err Past, s) (gives_zero p t f added) tt
+    either_after (leb 16 T.count) (halted Past T, s) (gives_zero p t f added) h
     (zero_few p t f added (proceeded_few p (copied s f.row (66 * T.count)) (spawned T tid) T.count (entering (66 * T.count) (second p f.at)) (spawned_few T tid h)))
   where
     added : Threads × List ℕ
@@ -86,23 +87,30 @@ spawn_few p s T t f tid h =
 join_few : (p s : List ℕ) (T : Threads) (t : ℕ) (f : ControlPoint) (x : Option ℕ) → Few T → FewAfter (joined_by x p s T t f)
 unfolding joined_by joined
 join_few p s T t f (Some i) h = zero_few p t f (turned Joined T i, s) (turned_few Joined T i h)
-join_few p s T t f None h = tt
+join_few p s T t f None h = h
 
 act_few : (p s : List ℕ) (T : Threads) (t : ℕ) (f : ControlPoint) (a : Result Act Halt) → Few T → FewAfter (act_step p s T t f a)
 unfolding act_step joined_step
 act_few p s T t f (Ok (Go g)) h = moved_few t (proceeded p s T t g) (proceeded_few p s T t g h)
 act_few p s T t f (Ok (Spawn tid)) h = spawn_few p s T t f tid h
 act_few p s T t f (Ok (Join tid)) h = join_few p s T t f (lowest T.records tid) h
-act_few p s T t f (Err e) h = tt
+act_few p s T t f (Err e) h = h
 
 after_few : (p : List ℕ) (T : Threads) (t : ℕ) (f : ControlPoint) (x : Result Act Halt × List ℕ) → Few T → FewAfter (after_act p T t f x)
 unfolding after_act
 after_few p T t f (a, s) h = act_few p s T t f a h
 
-pub stepped_few : (p s : List ℕ) (T : Threads) (t c : ℕ) → T.count ≤ 16 → IfOk (stepped p s T t c).0 (λ T'. T'.count ≤ 16)
+pub stepped_few : (p s : List ℕ) (T : Threads) (t c : ℕ) → T.count ≤ 16 → (threads_after (stepped p s T t c).0).count ≤ 16
 unfolding stepped stepped_from
 stepped_few p s T t c h =
-    either_after (runs T t) (when may_choose p (control_point_at s t) c then after_act p T t (control_point_at s t) (acted p s (control_point_at s t) c) else (Err Stuck, s)) (Err Stuck, s)
-    (either_after (may_choose p (control_point_at s t) c) (after_act p T t (control_point_at s t) (acted p s (control_point_at s t) c)) (Err Stuck, s)
-    (after_few p T t (control_point_at s t) (acted p s (control_point_at s t) c) h) tt)
-    tt
+    either_after (runs T t) (when may_choose p (control_point_at s t) c then after_act p T t (control_point_at s t) (acted p s (control_point_at s t) c) else (halted Stuck T, s)) (halted Stuck T, s)
+    (either_after (may_choose p (control_point_at s t) c) (after_act p T t (control_point_at s t) (acted p s (control_point_at s t) c)) (halted Stuck T, s)
+    (after_few p T t (control_point_at s t) (acted p s (control_point_at s t) c) h) h)
+    h
+
+on_ok : (r : Result Threads Halted) → Few (threads_after r) → IfOk r Few
+on_ok (Ok T) h = h
+on_ok (Err e) h = tt
+
+pub stepped_few_on_ok : (p s : List ℕ) (T : Threads) (t c : ℕ) → T.count ≤ 16 → IfOk (stepped p s T t c).0 (λ T'. T'.count ≤ 16)
+stepped_few_on_ok p s T t c h = on_ok (stepped p s T t c).0 (stepped_few p s T t c h)

@@ -16,6 +16,7 @@ use Rattle.replay_step.specs.declared.words.Act.{Act}
 use Rattle.replay_step.specs.declared.words.Act.TheVariants.{Go, Spawn, Join}
 use Rattle.replay_step.specs.declared.words.Halt.{Halt}
 use Rattle.replay_step.specs.declared.words.Halt.TheVariants.{Stuck, Past}
+use Rattle.replay_engine.specs.declared.Halted.{Halted}
 
 unfoldable pub may_choose : (p : List ℕ) → ControlPoint → (choice : ℕ) → Bool
 may_choose p f c =
@@ -31,15 +32,24 @@ recorded T t (done, s) = ((when done then finished T t else T), s)
 unfoldable pub proceeded : (p s : List ℕ) → Threads → (t : ℕ) → ControlPoint → Threads × List ℕ
 proceeded p s T t f = recorded T t (went_on p s t f)
 
+-- a step that is not taken, and the threads then
+abbrev pub halted : Halt → Threads → Result Threads Halted
+halted h T = Err (record { why = h; threads = T })
+
+-- the threads after a step, taken or not
+abbrev pub threads_after : Result Threads Halted → Threads
+threads_after (Ok T) = T
+threads_after (Err h) = h.threads
+
 -- whether more than 64 calls are open in thread t
 abbrev pub past_calls : (s : List ℕ) (t : ℕ) → Bool
 past_calls s t = ltb (66 * t + 64) (get_or s (control_point_rows_at + t) 0)
 
--- a step of thread t is done, unless it is past the limit
-unfoldable pub outcome_of : (s : List ℕ) (t : ℕ) → Threads → Result Threads Halt
-outcome_of s t T = when past_calls s t then Err Past else Ok T
+-- a step of thread t is done, unless it is past the limit; the threads are those after it in either case
+unfoldable pub outcome_of : (s : List ℕ) (t : ℕ) → Threads → Result Threads Halted
+outcome_of s t T = when past_calls s t then halted Past T else Ok T
 
-unfoldable pub moved_to : (t : ℕ) → Threads × List ℕ → Result Threads Halt × List ℕ
+unfoldable pub moved_to : (t : ℕ) → Threads × List ℕ → Result Threads Halted × List ℕ
 moved_to t (T, s) = (outcome_of s t T, s)
 
 -- ------------------------------------------------------------------ spawn and join
@@ -53,39 +63,39 @@ unfoldable pub copied : (s : List ℕ) (a b : ℕ) → List ℕ
 copied s a b = copied_from s a b 0 256
 
 -- the word of thread t at f becomes 0
-unfoldable pub gives_zero : (p : List ℕ) (t : ℕ) → ControlPoint → Threads × List ℕ → Result Threads Halt × List ℕ
+unfoldable pub gives_zero : (p : List ℕ) (t : ℕ) → ControlPoint → Threads × List ℕ → Result Threads Halted × List ℕ
 gives_zero p t f (T, s) = moved_to t (proceeded p s T t (given p f.row f.at 0))
 
 -- the new thread runs outside of calls, in the first of its rows
-unfoldable pub spawned_step : (p s : List ℕ) → Threads → (t : ℕ) → ControlPoint → (tid : ℕ) → Result Threads Halt × List ℕ
+unfoldable pub spawned_step : (p s : List ℕ) → Threads → (t : ℕ) → ControlPoint → (tid : ℕ) → Result Threads Halted × List ℕ
 spawned_step p s T t f tid =
-    when leb 16 T.count then (Err Past, s)
+    when leb 16 T.count then (halted Past T, s)
     else gives_zero p t f (proceeded p (copied s f.row (66 * T.count)) (spawned T tid) T.count (entering (66 * T.count) (second p f.at)))
 
-unfoldable pub joined_by : Option ℕ → (p s : List ℕ) → Threads → (t : ℕ) → ControlPoint → Result Threads Halt × List ℕ
+unfoldable pub joined_by : Option ℕ → (p s : List ℕ) → Threads → (t : ℕ) → ControlPoint → Result Threads Halted × List ℕ
 joined_by (Some i) p s T t f = gives_zero p t f (joined T i, s)
-joined_by None p s T t f = (Err Stuck, s)
+joined_by None p s T t f = (halted Stuck T, s)
 
-unfoldable pub joined_step : (p s : List ℕ) → Threads → (t : ℕ) → ControlPoint → (tid : ℕ) → Result Threads Halt × List ℕ
+unfoldable pub joined_step : (p s : List ℕ) → Threads → (t : ℕ) → ControlPoint → (tid : ℕ) → Result Threads Halted × List ℕ
 joined_step p s T t f tid = joined_by (lowest T.records tid) p s T t f
 
 -- ------------------------------------------------------------------ steps
 
 -- the word of thread t at f comes to that
-unfoldable pub act_step : (p s : List ℕ) → Threads → (t : ℕ) → ControlPoint → Result Act Halt → Result Threads Halt × List ℕ
+unfoldable pub act_step : (p s : List ℕ) → Threads → (t : ℕ) → ControlPoint → Result Act Halt → Result Threads Halted × List ℕ
 act_step p s T t f (Ok (Go g)) = moved_to t (proceeded p s T t g)
 act_step p s T t f (Ok (Spawn tid)) = spawned_step p s T t f tid
 act_step p s T t f (Ok (Join tid)) = joined_step p s T t f tid
-act_step p s T t f (Err h) = (Err h, s)
+act_step p s T t f (Err h) = (halted h T, s)
 
-unfoldable pub after_act : (p : List ℕ) → Threads → (t : ℕ) → ControlPoint → Result Act Halt × List ℕ → Result Threads Halt × List ℕ
+unfoldable pub after_act : (p : List ℕ) → Threads → (t : ℕ) → ControlPoint → Result Act Halt × List ℕ → Result Threads Halted × List ℕ
 after_act p T t f (a, s) = act_step p s T t f a
 
-unfoldable pub stepped_from : (p s : List ℕ) → Threads → (t : ℕ) → ControlPoint → (choice : ℕ) → Result Threads Halt × List ℕ
-stepped_from p s T t f c = when may_choose p f c then after_act p T t f (acted p s f c) else (Err Stuck, s)
+unfoldable pub stepped_from : (p s : List ℕ) → Threads → (t : ℕ) → ControlPoint → (choice : ℕ) → Result Threads Halted × List ℕ
+stepped_from p s T t f c = when may_choose p f c then after_act p T t f (acted p s f c) else (halted Stuck T, s)
 
-unfoldable pub stepped : (p s : List ℕ) → Threads → (t choice : ℕ) → Result Threads Halt × List ℕ
-stepped p s T t c = when runs T t then stepped_from p s T t (control_point_at s t) c else (Err Stuck, s)
+unfoldable pub stepped : (p s : List ℕ) → Threads → (t choice : ℕ) → Result Threads Halted × List ℕ
+stepped p s T t c = when runs T t then stepped_from p s T t (control_point_at s t) c else (halted Stuck T, s)
 
 -- ------------------------------------------------------------------ the start
 

@@ -5,8 +5,8 @@
 mod control_points;
 mod races;
 
-ghost use Rattle.std.specs.Prelude.{◌≡◌, ◌-◌, Ok};
-ghost use Rattle.replay_engine.specs.Steps.{may_choose as may_choose_of, proceeded, past_calls, moved_to, copied, gives_zero, spawned_step, joined_step, act_step, stepped, zeroed, start_of};
+ghost use Rattle.std.specs.Prelude.{◌≡◌, ◌-◌, Ok, Err};
+ghost use Rattle.replay_engine.specs.Steps.{may_choose as may_choose_of, proceeded, past_calls, moved_to, copied, gives_zero, spawned_step, joined_step, act_step, stepped, halted, zeroed, start_of};
 
 use control_points::{control_point_at, go_on};
 pub use races::lowest_pair;
@@ -16,6 +16,22 @@ pub use replay_step::Halt;
 use replay_step::{Act, gives};
 use threads::Threads;
 use workspace::{Shape, at, index};
+
+// Why a step is not taken, and the threads then: those before it, but past the limit of open calls those after it, as the space is then.
+#[derive(Clone, Copy)]
+pub struct Halted {
+    pub why: Halt,
+    pub threads: Threads,
+}
+
+impl Halted {
+    // For that reason, with those threads.
+    fn of(why: Halt, threads: Threads) -> Halted
+        ensures { Err result ≡ halted why threads }
+    {
+        Halted { why, threads }
+    }
+}
 
 // "choice is 0 or 1 at an if and 0 elsewhere"
 #[tactic(auto, unfolding(crate::specs::Steps::may_choose, replay_control::specs::Shapes::is_if))]
@@ -59,12 +75,12 @@ fn move_to(
     threads: Threads,
     t: u32,
     f: ControlPoint,
-) -> Result<Threads, Halt>
+) -> Result<Threads, Halted>
     ensures { moved_to t (proceeded program.now space.old threads t f) ≡ (result, space.new) }
 {
     let after = proceed(program, space, threads, t, f);
     if past_calls(space, t) {
-        return Err(Halt::Past);
+        return Err(Halted::of(Halt::Past, after));
     }
     Ok(after)
 }
@@ -77,7 +93,7 @@ fn give_zero(
     threads: Threads,
     t: u32,
     f: ControlPoint,
-) -> Result<Threads, Halt>
+) -> Result<Threads, Halted>
     ensures { gives_zero program.now t f (threads, space.old) ≡ (result, space.new) }
 {
     move_to(program, space, threads, t, gives(program, f, 0))
@@ -107,12 +123,12 @@ fn spawn(
     t: u32,
     f: ControlPoint,
     tid: u32,
-) -> Result<Threads, Halt>
+) -> Result<Threads, Halted>
     ensures { spawned_step program.now space.old threads t f tid ≡ (result, space.new) }
 {
     let count = threads.count;
     if threads::LIMIT <= count {
-        return Err(Halt::Past);
+        return Err(Halted::of(Halt::Past, threads));
     }
     let row = (layout::LEVELS * count) as u32;
     copy(space, f.row, row);
@@ -130,10 +146,10 @@ fn join(
     t: u32,
     f: ControlPoint,
     tid: u32,
-) -> Result<Threads, Halt>
+) -> Result<Threads, Halted>
     ensures { joined_step program.now space.old threads t f tid ≡ (result, space.new) }
 {
-    let i = threads.lowest(tid).ok_or(Halt::Stuck)?;
+    let i = threads.lowest(tid).ok_or(Halted::of(Halt::Stuck, threads))?;
     give_zero(program, space, threads.joined(i), t, f)
 }
 
@@ -146,7 +162,7 @@ fn finish_step(
     t: u32,
     f: ControlPoint,
     act: Act,
-) -> Result<Threads, Halt>
+) -> Result<Threads, Halted>
     ensures { act_step program.now space.old threads t f (Ok act) ≡ (result, space.new) }
 {
     match act {
@@ -156,7 +172,7 @@ fn finish_step(
     }
 }
 
-// Thread t takes its next step, with that choice: the threads after it.
+// Thread t takes its next step, with that choice: the threads after it, taken or not.
 #[tactic(auto, unfolding(crate::specs::Steps::stepped, crate::specs::Steps::stepped_from, crate::specs::Steps::after_act, crate::specs::Steps::act_step))]
 pub fn step(
     program: &[u32],
@@ -164,17 +180,18 @@ pub fn step(
     threads: Threads,
     t: u32,
     choice: u32,
-) -> Result<Threads, Halt>
+) -> Result<Threads, Halted>
     ensures { stepped program.now space.old threads t choice ≡ (result, space.new) }
 {
     if !threads.runs(index(t)) {
-        return Err(Halt::Stuck);
+        return Err(Halted::of(Halt::Stuck, threads));
     }
     let f = control_point_at(space, t);
     if !may_choose(program, f, choice) {
-        return Err(Halt::Stuck);
+        return Err(Halted::of(Halt::Stuck, threads));
     }
-    let act = replay_step::reduce(program, space, f, choice)?;
+    let reduced = replay_step::reduce(program, space, f, choice);
+    let act = reduced.map_err(|why| Halted::of(why, threads))?;
     finish_step(program, space, threads, t, f, act)
 }
 
