@@ -1,5 +1,5 @@
 -- A join on numbers is the machine's: the records find the thread that the machine finds.
-use Rattle.std.proofs.Common.{Option, None, Some, Err, option_map, slice_get, cond}
+use Rattle.std.proofs.Common.{Option, None, Some, option_map, slice_get, cond}
 use Rattle.std.specs.List.{position_from}
 use Rattle.std.proofs.lemmas.Iterator.Adapters.{position_from-zero}
 use Prim.Native.Nat.{ℕ, suc, ◌+◌, ◌<◌, ◌≤◌}
@@ -28,7 +28,7 @@ use Rattle.replay_control.specs.declared.ControlPoint.{ControlPoint}
 use Rattle.replay_control.specs.Control.{continuation, returning, ready_at}
 use Rattle.replay_step.specs.Words.{given}
 use Rattle.replay_step.specs.declared.words.Halt.TheVariants.{Stuck}
-use Rattle.replay_engine.specs.Steps.{act_step, after_act, gives_zero, joined_by, joined_step}
+use Rattle.replay_engine.specs.Steps.{halted, act_step, after_act, gives_zero, joined_by, joined_step}
 use Rattle.replay_theory.specs.Replay.{check_limits}
 use Rattle.replay_machine.specs.Environment.{Env}
 use Rattle.replay_machine.specs.Control.{Frame, unary_word, Control, done, at, return}
@@ -205,9 +205,9 @@ module _ {p s : List ℕ} {T : Threads} {R : Replay} {t row tid : ℕ} {σ : Env
         (sym (sets_swap M.threads t j (running tid (return σ zero_value K)) (as_joined u) apart))
         (moves paused word (returning row (continuation p q.index) 0) (return σ zero_value K) (returns_word (ready A q.index (omega arith)) zero_value))
 
-  stuck : Answered p (check_limits within None) (Err Stuck, s)
+  stuck : Answered p (check_limits within None) (halted Stuck T, s)
   unfolding check_limits
-  stuck = refl
+  stuck = (T, refl)
 
   pub joining_goes : Answered p (check_limits within (Joins (lowest n M.threads) >>= λ N. Some (record { machine = N; things = R.things }))) (joined_step p s T t word (suc n))
   unfolding joined_step joined_by

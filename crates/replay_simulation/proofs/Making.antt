@@ -234,7 +234,7 @@ module _ {p s : List ℕ} {T : Threads} {R : Replay} {t row tid : ℕ} {σ : Env
         counted_here,
         le-leb 64 (R.things k) full,
       )
-      refl
+      (T, refl)
 
   pub making_goes : Makes (new_thing p s row (place_of p s w) thing)
   making_goes = go (dec_lt (R.things k) 64)

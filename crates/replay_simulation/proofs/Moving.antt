@@ -1,5 +1,5 @@
 -- What a step on numbers has to answer for a step of the machine; and that a thread which goes on to a word answers it.
-use Rattle.std.proofs.Common.{Some, Result, Ok, Err, slice_get}
+use Rattle.std.proofs.Common.{Some, Result, Ok, slice_get}
 use Prim.Native.Nat.{ℕ, zero, suc, ◌+◌, ◌*◌, ◌<◌, ◌≤◌}
 use mathlib.Core.Path.{◌≡◌, refl, sym, ◌∙◌, ap, subst}
 use mathlib.Core.Bool.{Bool, true, false, ◌&&◌}
@@ -15,10 +15,10 @@ use Rattle.replay_control.specs.Layout.{control_point_rows_at}
 use Rattle.replay_control.specs.declared.ControlPoint.{ControlPoint}
 use Rattle.replay_control.specs.Control.{found}
 use Rattle.replay_step.specs.declared.words.Act.TheVariants.{Go}
-use Rattle.replay_step.specs.declared.words.Halt.{Halt}
 use Rattle.replay_step.specs.declared.words.Halt.TheVariants.{Stuck, Past}
+use Rattle.replay_engine.specs.declared.Halted.{Halted}
 use Rattle.replay_engine.specs.ControlPoints.{control_point_at, settled, went_on}
-use Rattle.replay_engine.specs.Steps.{recorded, proceeded, outcome_of, moved_to, act_step, after_act}
+use Rattle.replay_engine.specs.Steps.{recorded, proceeded, halted, outcome_of, moved_to, act_step, after_act}
 use Rattle.replay_theory.specs.Run.{ObjectKind, cells, locks, rwlocks, semaphores, identifiers, thread_limit, thing_limit, within_limits, call_limit}
 use Rattle.replay_theory.specs.Replay.{Outcome, bad_form, no_step, past_limit, step, check_limits}
 use Rattle.replay_machine.specs.Control.{Control, done, at, open_calls}
@@ -33,10 +33,10 @@ use Rattle.replay_simulation.proofs.Proceeding.{Paused, low, gone_to, proceeds}
 -- ------------------------------------------------------------------ what a step on numbers answers
 
 -- a line's step on the machine, and what the code hands back for it
-abbrev pub Answered : (p : List ℕ) → Outcome Replay → Result Threads Halt × List ℕ → Type 0
+abbrev pub Answered : (p : List ℕ) → Outcome Replay → Result Threads Halted × List ℕ → Type 0
 Answered p bad_form r = ⊥
-Answered p no_step r = r.0 ≡ Err Stuck
-Answered p past_limit r = r.0 ≡ Err Past
+Answered p no_step r = (T : Threads) × (r.0 ≡ halted Stuck T)
+Answered p past_limit r = (T : Threads) × (r.0 ≡ halted Past T)
 Answered p (step R) r = (T : Threads) × (r.0 ≡ Ok T) × Holds p r.1 T R
 
 -- the limits are kept while they hold
@@ -127,7 +127,7 @@ module _ {p s : List ℕ} {T : Threads} {R : Replay} {t tid : ℕ} (P : Paused p
         within_fails p (gone_to R t tid d) t (running tid d) (set_there R.machine.threads t (running tid d) P.there) refl over,
         lt-ltb (66 * t + 64) (get_or (proceeded p s T t g).1 (control_point_rows_at + t) 0) (omega (arith, e, over)),
       )
-      refl
+      ((proceeded p s T t g).0, refl)
 
   -- the thread has gone on to d; if it has too many open calls now, the step is past the limit
   pub moves : Goes

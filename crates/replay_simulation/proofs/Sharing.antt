@@ -120,7 +120,7 @@ module _ {p s : List ℕ} {T : Threads} {R : Replay} {t row tid : ℕ} {σ : Env
     where
       by_use : (v : Value) (u : Option Use) → (slot_of M.names v ≡ unused → u ≡ None) →
           Answers A f (u >>= λ y. Some (used_to M t tid σ K (name_in v) y)) (effected p s row (place_of p s w) (code_value v) (effect u))
-      by_use v None useless = refl
+      by_use v None useless = (T, refl)
       by_use v (Some (gave y)) useless = gives_value f y
       by_use (int n) (Some (left sl)) useless = some_is_not_none (useless refl)
       by_use (name n) (Some (left sl)) useless = leaves_slot f n sl (used_below A.holds.names n (λ z. some_is_not_none (useless z)))

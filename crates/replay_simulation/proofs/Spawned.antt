@@ -1,5 +1,5 @@
 -- A spawn on numbers is the machine's: the new thread gets a copy of the variables and goes to its first word, then the word becomes 0.
-use Rattle.std.proofs.Common.{Some, slice_get, Err}
+use Rattle.std.proofs.Common.{Some, slice_get}
 use Prim.Native.Nat.{ℕ, zero, suc, ◌+◌, ◌*◌, ◌<◌, ◌≤◌}
 use mathlib.Core.Path.{◌≡◌, refl, sym, ◌∙◌, ap, subst}
 use mathlib.Core.Logic.{◌≢◌, ◌⊎◌, inl, inr}
@@ -29,7 +29,7 @@ use Rattle.replay_control.specs.Control.{variable, kept, called_from, continuati
 use Rattle.replay_engine.specs.ControlPoints.{control_point_at}
 use Rattle.replay_step.specs.Words.{given}
 use Rattle.replay_step.specs.declared.words.Halt.TheVariants.{Past}
-use Rattle.replay_engine.specs.Steps.{proceeded, copied_from, copied, act_step, after_act, gives_zero, spawned_step}
+use Rattle.replay_engine.specs.Steps.{proceeded, halted, copied_from, copied, act_step, after_act, gives_zero, spawned_step}
 use Rattle.replay_theory.specs.Run.{thread_limit, within_limits, still_open}
 use Rattle.replay_theory.specs.Replay.{check_limits}
 use Rattle.replay_machine.specs.Environment.{Env}
@@ -254,7 +254,7 @@ module _ {p s : List ℕ} {T : Threads} {R : Replay} {t row tid : ℕ} {σ : Env
     with_room : Answered p (check_limits within (Some Spawns)) (spawned_step p s T t word (suc n))
     unfolding spawned_step
     with_room =
-        subst (λ (c : ℕ). Answered p (check_limits within (Some Spawns)) (when leb 16 c then (Err Past, s) else gives_zero p t word (proceeded p (copied s row (66 * c)) (spawned T (suc n)) c (entering (66 * c) (second p q.index)))))
+        subst (λ (c : ℕ). Answered p (check_limits within (Some Spawns)) (when leb 16 c then (halted Past T, s) else gives_zero p t word (proceeded p (copied s row (66 * c)) (spawned T (suc n)) c (entering (66 * c) (second p q.index)))))
         (sym A.holds.sized.count) (rw (lt-leb 16 u room) spawns_one)
 
   no_room : 16 ≤ u → Answered p (check_limits within (Some Spawns)) (spawned_step p s T t word (suc n))
@@ -262,7 +262,8 @@ module _ {p s : List ℕ} {T : Threads} {R : Replay} {t row tid : ℕ} {σ : Env
   no_room full =
       let a = length-append (set M.threads t (running tid (return σ zero_value K))) (running n (enter σ e []) ∷ []) in
       let b = length-set M.threads t (running tid (return σ zero_value K)) in
-      rw (A.holds.sized.count, le-leb 16 u full, lt-leb (length (set M.threads t (running tid (return σ zero_value K)) ++ (running n (enter σ e []) ∷ []))) 16 (omega (arith, a, b, full))) refl
+      let c = A.holds.sized.count in
+      rw (le-leb 16 T.count (omega (arith, c, full)), lt-leb (length (set M.threads t (running tid (return σ zero_value K)) ++ (running n (enter σ e []) ∷ []))) 16 (omega (arith, a, b, full))) (T, refl)
 
   pub spawning_goes : Answered p (check_limits within (Some Spawns)) (spawned_step p s T t word (suc n))
   spawning_goes = go (dec_lt u 16)

@@ -1,5 +1,5 @@
 -- A step on numbers is the machine's step: thread by thread, word by word, choice by choice.
-use Rattle.std.proofs.Common.{Option, None, Some, slice_get, Err}
+use Rattle.std.proofs.Common.{Option, None, Some, slice_get}
 use Prim.Native.Nat.{ℕ, zero, suc, ◌≤◌}
 use mathlib.Core.Path.{◌≡◌, refl, sym, ap, subst}
 use mathlib.Core.Bool.{Bool, true, false}
@@ -37,7 +37,7 @@ use Rattle.replay_objects.specs.Uses.{spawned_of, joined_of, effect_of}
 use Rattle.replay_step.specs.Slots.{thing_at}
 use Rattle.replay_engine.specs.ControlPoints.{control_point_at}
 use Rattle.replay_step.specs.Words.{subject, operand, effected, word_used, acted_by, acted}
-use Rattle.replay_engine.specs.Steps.{may_choose, act_step, after_act, stepped_from, stepped}
+use Rattle.replay_engine.specs.Steps.{may_choose, halted, act_step, after_act, stepped_from, stepped}
 use Rattle.replay_theory.specs.Trace.{TraceLine}
 use Rattle.replay_theory.specs.Run.{part_of_if, no_choice, unary_traits, traits, part_chosen, effect, one_more_if, things_after}
 use Rattle.replay_theory.proofs.Traits.{unary_plain}
@@ -106,9 +106,9 @@ too_large : (p : List ℕ) (f : ControlPoint) (c : ℕ) → may_choose p f (suc 
 unfolding may_choose
 too_large p f c = rw (ne_eqb (suc (suc c)) 0 (λ e. omega (arith, e)), ne_eqb (suc (suc c)) 1 (λ e. omega (arith, e)))
 
-stuck : (p s : List ℕ) (T : Threads) → Answered p (check_limits within None) (Err Stuck, s)
+stuck : (p s : List ℕ) (T : Threads) → Answered p (check_limits within None) (halted Stuck T, s)
 unfolding check_limits
-stuck p s T = refl
+stuck p s T = (T, refl)
 
 module _ {p s : List ℕ} {T : Threads} {R : Replay} {t row tid : ℕ} {σ : Env} {w : machine.Word} {K : List Frame}
     (A : AtWord p s T R t row tid σ w K) where
@@ -160,7 +160,7 @@ module _ {p s : List ℕ} {T : Threads} {R : Replay} {t row tid : ℕ} {σ : Env
   -- a join, or a spawn, of what is no identifier
   no_identifier : (f : ControlPoint) (k v : ℕ) → Answers A f None (effected p s row k v None)
   unfolding check_limits after_act effected act_step
-  no_identifier f k v = refl
+  no_identifier f k v = (T, refl)
 
 -- ------------------------------------------------------------------ words
 
