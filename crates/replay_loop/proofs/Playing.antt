@@ -13,8 +13,8 @@ use Rattle.spec.specs.Text.{Line, closed, unclosed, lines, on_line as text_line}
 use Rattle.lexer.specs.Views.{line_at}
 use Rattle.lexer.specs.Numbers.{stored}
 use Rattle.trace.specs.Lines.{move_in}
-use Rattle.replay_step.specs.declared.words.Halt.{Halt}
 use Rattle.threads.specs.declared.Threads.{Threads}
+use Rattle.replay_engine.specs.declared.Halted.{Halted}
 use Rattle.replay_engine.specs.Steps.{stepped}
 use Rattle.replay_theory.specs.Trace.{TraceLine, trace_line}
 use Rattle.replay_theory.specs.Replay.{Outcome, bad_form, no_step, past_limit, step, check_limits, line_outcome}
@@ -29,7 +29,7 @@ use Rattle.replay_simulation.proofs.Lining.{LineDecoded, open_line, shut_line, l
 use Rattle.replay_simulation.proofs.Resting.{RestAt, rest_at}
 use Rattle.replay_simulation.proofs.Stored.{line_answered}
 use Rattle.replay_loop.specs.declared.Point.{Point}
-use Rattle.replay_loop.specs.Play.{race_after, stopped_by, by_outcome, after_step, line_done, Steady, LoopPre, LoopPost}
+use Rattle.replay_loop.specs.Play.{race_after, stopped_by, ending_of, by_outcome, after_step, line_done, Steady, LoopPre, LoopPost}
 
 -- what is known of a run behind a line, by whether it goes on
 abbrev pub Tells : Option Ending → (whole : List Line → Replayed) (p s piece : List ℕ) → Point → Type 0
@@ -76,14 +76,14 @@ module _ (whole : List Line → Replayed) (p s piece : List ℕ) (q : Point) (P 
   answers h l = line_answered p s q.threads R q.steps P.held P.counts (few h) l
 
   -- the answer to a line that lists a move
-  by_answer : (o : Outcome Replay) (r : Result Threads Halt × List ℕ) (next : ℕ) (rest : List Line) → Answered p o r → ((R' : Replay) → o ≡ step R' → CountsWithin (suc q.steps) R'.machine.names) →
+  by_answer : (o : Outcome Replay) (r : Result Threads Halted × List ℕ) (next : ℕ) (rest : List Line) → Answered p o r → ((R' : Replay) → o ≡ step R' → CountsWithin (suc q.steps) R'.machine.names) →
       lines (drop next piece) ≡ rest →
       ((ls : List Line) → play_on q.steps q.race o (λ R'. play_from (q.steps + 1) (or_race q.race (q.steps + 1) (machine.lowest_pair R')) R' (rest ++ ls)) ≡ whole ls) →
       LineTells whole p piece (after_step p q next r)
-  unfolding after_step by_outcome play_on stopped_by race_after
+  unfolding after_step by_outcome ending_of play_on stopped_by race_after
   by_answer bad_form r next rest a counts left e = absurd a
-  by_answer no_step r next rest a counts left e = rw a e
-  by_answer past_limit r next rest a counts left e = rw a e
+  by_answer no_step r next rest (T, m) counts left e = rw m e
+  by_answer past_limit r next rest (T, m) counts left e = rw m e
   by_answer (step R') r next rest (T, m, H) counts left e = rw m (
       record {
         going = refl;

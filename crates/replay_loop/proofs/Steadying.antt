@@ -11,15 +11,14 @@ use Rattle.spec.specs.Reading.{numerals}
 use Rattle.lexer.specs.Views.{line_at}
 use Rattle.lexer.specs.Numbers.{stored}
 use Rattle.trace.specs.Lines.{move_in, move_of}
-use Rattle.replay_step.specs.declared.words.Halt.{Halt}
-use Rattle.replay_step.specs.declared.words.Halt.TheVariants.{Stuck, Past}
+use Rattle.replay_engine.specs.declared.Halted.{Halted}
 use Rattle.replay_engine.specs.Steps.{stepped}
 use Rattle.threads.specs.declared.Threads.{Threads}
 use Rattle.replay_simulation.proofs.Resting.{rest_at}
 use Rattle.replay_loop.specs.declared.Point.{Point}
 use Rattle.replay_loop.specs.Play.{stopped_by, by_outcome, after_step, line_done, Steady}
 use Rattle.replay_theory.specs.declared.Ending.{Ending}
-use Rattle.replay_engine.proofs.Counting.{stepped_few}
+use Rattle.replay_engine.proofs.Counting.{stepped_few_on_ok}
 
 -- what is owed of a point behind a line, by whether it goes on
 abbrev Onward : Option Ending → (piece : List ℕ) → (before after : Point) → Type 0
@@ -30,15 +29,14 @@ abbrev Leads : (piece : List ℕ) → (before : Point) → Point × List ℕ →
 Leads piece q r = Onward r.0.ending piece q r.0
 
 module _ (p s piece : List ℕ) (q : Point) (S : Steady piece q) where
-  by_outcome_lem : (o : Result Threads Halt) (s' : List ℕ) (next : ℕ) → IfOk o (λ T. T.count ≤ 16) → q.at < next → next ≤ length piece → Leads piece q (by_outcome o p s' q next, s')
+  by_outcome_lem : (o : Result Threads Halted) (s' : List ℕ) (next : ℕ) → IfOk o (λ T. T.count ≤ 16) → q.at < next → next ≤ length piece → Leads piece q (by_outcome o p s' q next, s')
   unfolding by_outcome stopped_by
   by_outcome_lem (Ok T) s' next few further low =
       let b = S.room in
       (record { in_piece = low; room = omega (arith, b, further, low); few = few }, further)
-  by_outcome_lem (Err Stuck) s' next few further low = tt
-  by_outcome_lem (Err Past) s' next few further low = tt
+  by_outcome_lem (Err h) s' next few further low = tt
 
-  by_step : (r : Result Threads Halt × List ℕ) (next : ℕ) → IfOk r.0 (λ T. T.count ≤ 16) → q.at < next → next ≤ length piece → Leads piece q (after_step p q next r)
+  by_step : (r : Result Threads Halted × List ℕ) (next : ℕ) → IfOk r.0 (λ T. T.count ≤ 16) → q.at < next → next ≤ length piece → Leads piece q (after_step p q next r)
   unfolding after_step
   by_step (r, s') next few further low = by_outcome_lem r s' next few further low
 
@@ -48,7 +46,7 @@ module _ (p s piece : List ℕ) (q : Point) (S : Steady piece q) where
   by_numbers (Some []) next further low = tt
   by_numbers (Some (t ∷ [])) next further low = tt
   by_numbers (Some (t ∷ c ∷ [])) next further low =
-      by_step (stepped p s q.threads (stored t) (stored c)) next (stepped_few p s q.threads (stored t) (stored c) S.few) further low
+      by_step (stepped p s q.threads (stored t) (stored c)) next (stepped_few_on_ok p s q.threads (stored t) (stored c) S.few) further low
   by_numbers (Some (t ∷ c ∷ x ∷ xs)) next further low = tt
 
   line_leads : Leads piece q (line_done p s q (move_in (length piece) (line_at (drop q.at piece))))

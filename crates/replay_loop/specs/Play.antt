@@ -5,6 +5,7 @@ use Rattle.threads.specs.declared.Threads.{Threads}
 use Rattle.trace.specs.declared.Move.{Move}
 use Rattle.replay_step.specs.declared.words.Halt.{Halt}
 use Rattle.replay_step.specs.declared.words.Halt.TheVariants.{Stuck, Past}
+use Rattle.replay_engine.specs.declared.Halted.{Halted}
 use Rattle.replay_engine.specs.Steps.{stepped}
 use Rattle.replay_engine.specs.Races.{lowest_pair}
 use Rattle.replay_theory.specs.declared.Ending.{Ending}
@@ -26,12 +27,16 @@ stopped_by q e = record { ending = Some e; threads = q.threads; at = q.at; steps
 abbrev pub point_after : (p s : List ℕ) → Threads → (at : ℕ) → Point → Point
 point_after p s T at q = record { ending = None; threads = T; at = at; steps = q.steps + 1; race = race_after p s T.count q.race (q.steps + 1) }
 
-unfoldable pub by_outcome : Result Threads Halt → (p s : List ℕ) → Point → (next : ℕ) → Point
-by_outcome (Ok T) p s q next = point_after p s T next q
-by_outcome (Err Stuck) p s q next = stopped_by q (NoStep (q.steps + 1))
-by_outcome (Err Past) p s q next = stopped_by q (PastLimit (q.steps + 1))
+-- what a step that is not taken makes of the run, at that line
+unfoldable pub ending_of : Halt → (line : ℕ) → Ending
+ending_of Stuck line = NoStep line
+ending_of Past line = PastLimit line
 
-unfoldable pub after_step : (p : List ℕ) → Point → (next : ℕ) → Result Threads Halt × List ℕ → Point × List ℕ
+unfoldable pub by_outcome : Result Threads Halted → (p s : List ℕ) → Point → (next : ℕ) → Point
+by_outcome (Ok T) p s q next = point_after p s T next q
+by_outcome (Err h) p s q next = stopped_by q (ending_of h.why (q.steps + 1))
+
+unfoldable pub after_step : (p : List ℕ) → Point → (next : ℕ) → Result Threads Halted × List ℕ → Point × List ℕ
 after_step p q next (r, s) = (by_outcome r p s q next, s)
 
 unfoldable pub line_done : (p s : List ℕ) → Point → Option Move → Point × List ℕ

@@ -59,7 +59,7 @@ fn stopped(p: Point, ending: Ending) -> Point
 }
 
 // A line that lists that move.
-#[tactic(auto, unfolding(crate::specs::Play::after_step, crate::specs::Play::by_outcome))]
+#[tactic(auto, unfolding(crate::specs::Play::after_step, crate::specs::Play::by_outcome, crate::specs::Play::ending_of))]
 fn move_on(program: &[u32], space: &mut [u32], p: Point, m: Move) -> Point
     requires { (p.steps < 18446744073709551615) × (p.threads.count ≤ 16) }
     ensures { after_step program.now p m.next (stepped program.now space.old p.threads m.thread m.choice) ≡ (result, space.new) }
@@ -73,8 +73,10 @@ fn move_on(program: &[u32], space: &mut [u32], p: Point, m: Move) -> Point
             steps: line,
             race: race_after(program, space, threads.count as u32, p.race, line),
         },
-        Err(Halt::Stuck) => stopped(p, Ending::NoStep(line)),
-        Err(Halt::Past) => stopped(p, Ending::PastLimit(line)),
+        Err(halted) => match halted.why {
+            Halt::Stuck => stopped(p, Ending::NoStep(line)),
+            Halt::Past => stopped(p, Ending::PastLimit(line)),
+        },
     }
 }
 

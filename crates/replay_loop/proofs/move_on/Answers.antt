@@ -1,9 +1,9 @@
 -- There is room for the threads after a step.
 use native.Mathlib.Omega.{arith}
-use Rattle.replay_engine.proofs.Counting.{stepped_few}
+use Rattle.replay_engine.proofs.Counting.{stepped_few_on_ok}
 use Rattle.replay_loop.proofs.move_on.Goals as goal
 
 pub overflow_cast-threads : goal.overflow_cast-threads
 overflow_cast-threads c =
-    let few = rw (c.step.ensures, c.in-Ok.is) at (stepped_few c.args.program.now c.args.space.now c.args.p.threads c.args.m.thread c.args.m.choice c.requires.1) in
+    let few = rw (c.step.ensures, c.in-Ok.is) at (stepped_few_on_ok c.args.program.now c.args.space.now c.args.p.threads c.args.m.thread c.args.m.choice c.requires.1) in
     omega (arith, few)
