@@ -3,3 +3,4 @@ pub mod Pairing
 pub mod Counting
 pub mod Writing
 pub mod Clearing
+pub mod Halting

@@ -5,7 +5,7 @@
 mod control_points;
 mod races;
 
-ghost use Rattle.std.specs.Prelude.{◌≡◌, ◌-◌, Ok, Err};
+ghost use Rattle.std.specs.Prelude.{◌≡◌, ◌-◌, Err};
 ghost use Rattle.replay_engine.specs.Steps.{may_choose as may_choose_of, proceeded, past_calls, moved_to, copied, gives_zero, spawned_step, joined_step, act_step, stepped, halted, zeroed, start_of};
 
 use control_points::{control_point_at, go_on};
@@ -153,7 +153,7 @@ fn join(
     give_zero(program, space, threads.joined(i), t, f)
 }
 
-// What is left of the step of thread t at f, whose word comes to that act.
+// What is left of the step of thread t at f, by what its word comes to.
 #[tactic(auto, unfolding(crate::specs::Steps::act_step))]
 fn finish_step(
     program: &[u32],
@@ -161,19 +161,20 @@ fn finish_step(
     threads: Threads,
     t: u32,
     f: ControlPoint,
-    act: Act,
+    reduced: Result<Act, Halt>,
 ) -> Result<Threads, Halted>
-    ensures { act_step program.now space.old threads t f (Ok act) ≡ (result, space.new) }
+    ensures { act_step program.now space.old threads t f reduced ≡ (result, space.new) }
 {
-    match act {
-        Act::Go(g) => move_to(program, space, threads, t, g),
-        Act::Spawn(tid) => spawn(program, space, threads, t, f, tid),
-        Act::Join(tid) => join(program, space, threads, t, f, tid),
+    match reduced {
+        Ok(Act::Go(g)) => move_to(program, space, threads, t, g),
+        Ok(Act::Spawn(tid)) => spawn(program, space, threads, t, f, tid),
+        Ok(Act::Join(tid)) => join(program, space, threads, t, f, tid),
+        Err(why) => Err(Halted::of(why, threads)),
     }
 }
 
 // Thread t takes its next step, with that choice: the threads after it, taken or not.
-#[tactic(auto, unfolding(crate::specs::Steps::stepped, crate::specs::Steps::stepped_from, crate::specs::Steps::after_act, crate::specs::Steps::act_step))]
+#[tactic(auto, unfolding(crate::specs::Steps::stepped, crate::specs::Steps::stepped_from, crate::specs::Steps::after_act))]
 pub fn step(
     program: &[u32],
     space: &mut [u32],
@@ -191,8 +192,7 @@ pub fn step(
         return Err(Halted::of(Halt::Stuck, threads));
     }
     let reduced = replay_step::reduce(program, space, f, choice);
-    let act = reduced.map_err(|why| Halted::of(why, threads))?;
-    finish_step(program, space, threads, t, f, act)
+    finish_step(program, space, threads, t, f, reduced)
 }
 
 // The numbers of the space from a place up to another become 0.
