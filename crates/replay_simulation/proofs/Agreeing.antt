@@ -25,10 +25,11 @@ pub record RowsAgree (i : ℕ) (s s' : List ℕ) : Type 0 where
   pub kepts : (r j : ℕ) → RowIn i r → j < 256 → kept s' r j ≡ kept s r j
   pub calls : (r : ℕ) → RowIn i r → called_from s' r ≡ called_from s r
 
--- and it stands at the same place
+-- and it stands at the same place, by the same number of its mode
 pub record Agree (i : ℕ) (s s' : List ℕ) : Type 0 where
   pub rows : RowsAgree i s s'
   pub focused : control_point_at s' i ≡ control_point_at s i
+  pub mode : get_or s' (control_point_modes_at + i) 0 ≡ get_or s (control_point_modes_at + i) 0
 
 -- the numbers that all threads share are the same
 abbrev pub SharedSame : (s s' : List ℕ) → Type 0
@@ -79,7 +80,7 @@ module _ (p : List ℕ) (i : ℕ) (s s' : List ℕ) (a : RowsAgree i s s') where
 -- ------------------------------------------------------------------ what each store changes
 
 pub agree_all : (i : ℕ) (s : List ℕ) → Agree i s s
-agree_all i s = record { rows = record { variables = λ r x a h. refl; kepts = λ r j a h. refl; calls = λ r a. refl }; focused = refl }
+agree_all i s = record { rows = record { variables = λ r x a h. refl; kepts = λ r j a h. refl; calls = λ r a. refl }; focused = refl; mode = refl }
 
 pub rows_then : {i : ℕ} {s s' s'' : List ℕ} → RowsAgree i s s' → RowsAgree i s' s'' → RowsAgree i s s''
 rows_then a b = record {
@@ -89,7 +90,7 @@ rows_then a b = record {
 }
 
 pub agree_then : {i : ℕ} {s s' s'' : List ℕ} → Agree i s s' → Agree i s' s'' → Agree i s s''
-agree_then a b = record { rows = rows_then a.rows b.rows; focused = b.focused ∙ a.focused }
+agree_then a b = record { rows = rows_then a.rows b.rows; focused = b.focused ∙ a.focused; mode = b.mode ∙ a.mode }
 
 -- a number is none of thread i's rows
 pub record Outside (i k : ℕ) : Type 0 where
@@ -111,6 +112,7 @@ unfolding control_point_at
 agree_set i k x s o a b c d = record {
   rows = rows_set i k x s o;
   focused = λ n. control_point (mode_of (get_or-set_other s k (control_point_modes_at + i) x 0 a n)) (get_or-set_other s k (control_point_places_at + i) x 0 b n) (get_or-set_other s k (control_point_values_at + i) x 0 c n) (get_or-set_other s k (control_point_rows_at + i) x 0 d n);
+  mode = get_or-set_other s k (control_point_modes_at + i) x 0 a;
 }
 
 -- all rows stand before these numbers
@@ -182,6 +184,7 @@ agree_found i t s s' l m n c = record {
     calls = λ r (lo, hi). c.kept (open_calls_at + r) (inr (omega (arith, m)));
   };
   focused = λ z. control_point (mode_of (c.kept (control_point_modes_at + i) (inr (omega (arith, m))) z)) (c.kept (control_point_places_at + i) (inr (omega (arith, m))) z) (c.kept (control_point_values_at + i) (inr (omega (arith, m))) z) (c.kept (control_point_rows_at + i) (inr (omega (arith, m))) z);
+  mode = c.kept (control_point_modes_at + i) (inr (omega (arith, m)));
 }
   where
     apart : (r j : ℕ) → RowIn i r → j < 256 → (i < t) ⊎ (t < i) → (kept_values_at + 256 * r + j < kept_values_at + 16896 * t) ⊎ (kept_values_at + 16896 * t + 16896 ≤ kept_values_at + 256 * r + j)
@@ -190,6 +193,18 @@ agree_found i t s s' l m n c = record {
 
 pub shared_found : (t : ℕ) (s s' : List ℕ) → t < 16 → SameBut t s s' → SharedSame s s'
 shared_found t s s' m c j h = c.kept j (inr (omega (arith, m, h)))
+
+-- the number that is stored of thread t's mode
+pub mode_here : (s : List ℕ) (t : ℕ) (f : ControlPoint) → length s ≡ space_size → t < 16 → get_or (control_point_put s t f) (control_point_modes_at + t) 0 ≡ mode_number f.mode
+unfolding control_point_put
+mode_here s t f long m =
+    let s₁ = set s (control_point_modes_at + t) (mode_number f.mode) in
+    let s₂ = set s₁ (control_point_places_at + t) f.at in
+    let s₃ = set s₂ (control_point_values_at + t) f.value in
+    get_or-set_other s₃ (control_point_rows_at + t) (control_point_modes_at + t) f.row 0 (λ e. omega (arith, e))
+    ∙ get_or-set_other s₂ (control_point_values_at + t) (control_point_modes_at + t) f.value 0 (λ e. omega (arith, e))
+    ∙ get_or-set_other s₁ (control_point_places_at + t) (control_point_modes_at + t) f.at 0 (λ e. omega (arith, e))
+    ∙ get_or-set_same s (control_point_modes_at + t) (mode_number f.mode) 0 (omega (arith, long, m))
 
 -- the focus of thread t
 pub control_point_here : (s : List ℕ) (t : ℕ) (f : ControlPoint) → length s ≡ space_size → t < 16 → control_point_at (control_point_put s t f) t ≡ f
@@ -215,14 +230,7 @@ control_point_here s t f long m = λ z. control_point (modes z) (places z) (give
     long₃ = length-set s₂ (control_point_values_at + t) f.value ∙ long₂
 
     modes : mode_of (get_or (set s₃ (control_point_rows_at + t) f.row) (control_point_modes_at + t) 0) ≡ f.mode
-    modes =
-        ap mode_of (
-        get_or-set_other s₃ (control_point_rows_at + t) (control_point_modes_at + t) f.row 0 (λ e. omega (arith, e))
-        ∙ get_or-set_other s₂ (control_point_values_at + t) (control_point_modes_at + t) f.value 0 (λ e. omega (arith, e))
-        ∙ get_or-set_other s₁ (control_point_places_at + t) (control_point_modes_at + t) f.at 0 (λ e. omega (arith, e))
-        ∙ get_or-set_same s (control_point_modes_at + t) (mode_number f.mode) 0 (omega (arith, long, m))
-        )
-        ∙ mode_read f.mode
+    modes = ap mode_of (mode_here s t f long m) ∙ mode_read f.mode
 
     places : get_or (set s₃ (control_point_rows_at + t) f.row) (control_point_places_at + t) 0 ≡ f.at
     places =

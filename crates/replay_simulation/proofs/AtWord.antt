@@ -87,6 +87,7 @@ module _ {p s : List ℕ} {T : Threads} {R : Replay} {t row tid : ℕ} {σ : Env
           recorded = held.recorded;
           control = subst (λ (f : ControlPoint). ControlAt p s₁ i f th.control) (sym a.focused)
               (control_same p i s s₁ a.rows (control_point_at s i) th.control (let c = held.calls in omega arith) held.control);
+          plain = rw a.mode held.plain;
           settled = held.settled;
           calls = held.calls;
         };

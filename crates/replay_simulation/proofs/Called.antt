@@ -145,6 +145,7 @@ module _ {s : List ℕ} {b x v k : ℕ} (E : Entry s b x v k) where
         (elsewhere (control_point_places_at + i) (inr (omega (arith, E.low))) (λ e. omega (arith, e, E.low)) z)
         (elsewhere (control_point_values_at + i) (inr (omega (arith, E.low))) (λ e. omega (arith, e, E.low)) z)
         (elsewhere (control_point_rows_at + i) (inr (omega (arith, E.low))) (λ e. omega (arith, e, E.low)) z);
+    mode = elsewhere (control_point_modes_at + i) (inr (omega (arith, E.low))) (λ e. omega (arith, e, E.low));
   }
     where
       beside : (r y : ℕ) → RowIn i r → y < 256 → (i < t) ⊎ (t < i) → (0 + 256 * r + y < 256 * b) ⊎ (256 * b + 256 ≤ 0 + 256 * r + y)

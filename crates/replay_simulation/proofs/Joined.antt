@@ -180,12 +180,13 @@ module _ {p s : List ℕ} {T : Threads} {R : Replay} {t row tid : ℕ} {σ : Env
         (subst (ThreadHeld p s (joined T j) j) is (record {
           recorded = joined_here A.holds.sized j u L.there held.recorded;
           control = held.control;
+          plain = held.plain;
           settled = λ z. ap is_done L.can.finished;
           calls = held.calls;
         }))
     held_after i th h (no f) =
         let other = A.holds.threads i th (sym (set_elsewhere M.threads j i (as_joined u) (λ e. f (sym e))) ∙ h) in
-        record { recorded = joined_there A.holds.sized j u L.there held.recorded i f ∙ other.recorded; control = other.control; settled = other.settled; calls = other.calls }
+        record { recorded = joined_there A.holds.sized j u L.there held.recorded i f ∙ other.recorded; control = other.control; plain = other.plain; settled = other.settled; calls = other.calls }
 
     paused : Paused p s (joined T j) Marked t tid
     paused = record {

@@ -3,6 +3,7 @@ pub mod Advancing
 pub mod Finding
 pub mod Agreeing
 pub mod Holds
+pub mod Numbers
 pub mod Proceeding
 pub mod Naming
 pub mod Using

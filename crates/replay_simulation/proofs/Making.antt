@@ -27,8 +27,9 @@ use Rattle.replay_control.specs.Layout.{thing_counts_at, next_value_at, thing_ki
 use Rattle.replay_control.specs.Shapes.{shape_at, is_write}
 use Rattle.replay_control.specs.Control.{continuation, returning, stopped_at, ready_at}
 use Rattle.replay_objects.specs.declared.Thing.{Thing}
-use Rattle.replay_objects.specs.declared.Thing.TheVariants.{Unused, Cell}
+use Rattle.replay_objects.specs.declared.Thing.TheVariants.{Cell}
 use Rattle.replay_objects.specs.Stored.{slot, numbers_of, thing_of}
+use Rattle.replay_objects.proofs.Stored.{Plain}
 use Rattle.replay_control.specs.declared.ControlPoint.{ControlPoint}
 use Rattle.replay_step.specs.declared.words.Act.{Act}
 use Rattle.replay_step.specs.declared.words.Act.TheVariants.{Go}
@@ -48,8 +49,8 @@ use Rattle.replay_machine.specs.Step.{creates}
 use Rattle.replay_machine.specs.Replay.{Replay, within}
 use Rattle.replay_simulation.proofs.Held.{no_part_word, NoPartNumber, RowOf, place_of}
 use Rattle.replay_simulation.proofs.Agreeing.{Agree, agree_then, agree_shared}
-use Rattle.replay_simulation.proofs.Holds.{coded, kind_code, kind_low, NamesHeld}
-use Rattle.replay_simulation.proofs.Naming.{thing_put_length, put_elsewhere, thing_here, thing_there, thing_agree}
+use Rattle.replay_simulation.proofs.Holds.{slot_at, thing_told, coded, kind_code, kind_low, NamesHeld}
+use Rattle.replay_simulation.proofs.Naming.{thing_put_length, put_elsewhere, thing_here, thing_there, plain_put, thing_agree}
 use Rattle.replay_simulation.proofs.Moving.{Answered}
 use Rattle.replay_simulation.proofs.AtWord.{AtWord, becomes}
 
@@ -94,12 +95,12 @@ past_limits n identifiers things h few p =
 
 -- ------------------------------------------------------------------ names
 
-thing_set : (s : List ℕ) (j y v : ℕ) → j < thing_kinds_at → thing_at (set s j y) v ≡ thing_at s v
-unfolding thing_at
-thing_set s j y v h = λ z. when ltb v 322 then thing_of (slot
+slot_set : (s : List ℕ) (j y v : ℕ) → j < thing_kinds_at → slot_at (set s j y) v ≡ slot_at s v
+unfolding slot_at
+slot_set s j y v h = λ z. when ltb v 322 then slot
     (get_or-set_other s j (thing_kinds_at + v) y 0 (λ e. omega (arith, e, h)) z)
     (get_or-set_other s j (thing_firsts_at + v) y 0 (λ e. omega (arith, e, h)) z)
-    (get_or-set_other s j (thing_seconds_at + v) y 0 (λ e. omega (arith, e, h)) z)) else Unused
+    (get_or-set_other s j (thing_seconds_at + v) y 0 (λ e. omega (arith, e, h)) z) else slot 0 0 0
 
 -- a new thing of kind k
 pub record NewOf (k : ObjectKind) (new : state.Slot) : Type 0 where
@@ -146,14 +147,18 @@ module _ {s : List ℕ} {names : ℕ → state.Slot} {next : ℕ} {things : Obje
   pub long₃ : length s₃ ≡ space_size
   long₃ = length-set s₂ next_value_at (suc next + 1) ∙ long₂
 
+  slot_after : (v : ℕ) → slot_at s₃ v ≡ slot_at s₁ v
+  slot_after v = slot_set s₂ next_value_at (suc next + 1) v (omega arith) ∙ slot_set s₁ (thing_counts_at + kind_code k) (things k + 1) v (let l = kind_low k in omega arith)
+
   thing_after : (v : ℕ) → thing_at s₃ v ≡ thing_at s₁ v
-  thing_after v = thing_set s₂ next_value_at (suc next + 1) v (omega arith) ∙ thing_set s₁ (thing_counts_at + kind_code k) (things k + 1) v (let l = kind_low k in omega arith)
+  thing_after v = thing_told s₃ v ∙ ap thing_of (slot_after v) ∙ sym (thing_told s₁ v)
 
   pub names_made : NamesHeld s₃ (update names next new) (suc next) (things_after (makes k) things)
   unfolding one_more_if things_after
   names_made = record {
     constant = thing_after 0 ∙ thing_there s (suc next) x next_low 0 (λ e. omega (arith, e)) ∙ N.constant;
     slots = λ m h. by_name m h (ℕ_discrete m next);
+    plain = λ v. subst Plain (sym (slot_after v)) (plain_put s (suc next) x next_low long N.plain v);
     unused_from_lem = λ m h. update_other names next m new (λ e. omega (arith, e, h)) ∙ N.unused_from_lem m (omega (arith, h));
     next_stored = get_or-set_same s₂ next_value_at (suc next + 1) 0 (omega (arith, long₂)) ∙ (let e : suc next + 1 ≡ suc (suc next) = omega arith in e);
     counted = λ l. by_kind l (same_effect same_kind (makes k) (makes l));

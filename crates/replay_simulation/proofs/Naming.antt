@@ -1,6 +1,6 @@
 -- What the names name, after a store of one thing: by that name the new thing, by all others what they named.
 use Prim.Native.Nat.{ℕ, suc, ◌+◌, ◌<◌, ◌≤◌}
-use mathlib.Core.Path.{◌≡◌, sym, ◌∙◌, ap}
+use mathlib.Core.Path.{◌≡◌, sym, ◌∙◌, ap, subst}
 use mathlib.Core.Logic.{◌≢◌}
 use mathlib.Core.List.{List}
 use native.Mathlib.Omega.{arith}
@@ -15,12 +15,12 @@ use Rattle.calculus.proofs.Laws.Maps.{update_other}
 use Rattle.replay_control.specs.Layout.{thing_counts_at, next_value_at, thing_kinds_at, thing_firsts_at, thing_seconds_at, space_size}
 use Rattle.replay_objects.specs.declared.Thing.{Thing}
 use Rattle.replay_objects.specs.Stored.{slot, numbers_of, thing_of}
-use Rattle.replay_objects.proofs.Stored.{thing_read}
+use Rattle.replay_objects.proofs.Stored.{thing_read, Plain, numbers_plain}
 use Rattle.replay_step.specs.Slots.{thing_at, slot_put, thing_put}
 use Rattle.replay_theory.specs.Run.{ObjectKind, cells, locks, rwlocks, semaphores, identifiers, next_name}
 use Rattle.replay_simulation.proofs.Held.{code_value}
 use Rattle.replay_simulation.proofs.Agreeing.{Agree, agree_then, agree_shared}
-use Rattle.replay_simulation.proofs.Holds.{coded, NamesHeld, kind_code, kind_low}
+use Rattle.replay_simulation.proofs.Holds.{slot_at, thing_told, coded, NamesHeld, kind_code, kind_low}
 
 -- ------------------------------------------------------------------ one thing
 
@@ -44,9 +44,9 @@ module _ (s : List ℕ) (v : ℕ) (x : Thing) (low : v < 322) where
   put_elsewhere j a b c =
       get_or-set_other s₂ (thing_seconds_at + v) j (numbers_of x).second 0 c ∙ get_or-set_other s₁ (thing_firsts_at + v) j (numbers_of x).first 0 b ∙ get_or-set_other s (thing_kinds_at + v) j (numbers_of x).kind 0 a
 
-  pub thing_here : length s ≡ space_size → thing_at (thing_put s v x) v ≡ x
-  unfolding thing_at thing_put slot_put
-  thing_here long = rw (lt-ltb v 322 low) ((λ z. thing_of (slot (kind z) (first z) (second z))) ∙ thing_read x)
+  pub slot_here : length s ≡ space_size → slot_at (thing_put s v x) v ≡ numbers_of x
+  unfolding slot_at thing_put slot_put
+  slot_here long = rw (lt-ltb v 322 low) (λ z. slot (kind z) (first z) (second z))
     where
       long₁ : length s₁ ≡ space_size
       long₁ = length-set s (thing_kinds_at + v) (numbers_of x).kind ∙ long
@@ -63,16 +63,30 @@ module _ (s : List ℕ) (v : ℕ) (x : Thing) (low : v < 322) where
       second : get_or (set s₂ (thing_seconds_at + v) (numbers_of x).second) (thing_seconds_at + v) 0 ≡ (numbers_of x).second
       second = get_or-set_same s₂ (thing_seconds_at + v) (numbers_of x).second 0 (omega (arith, long₂, low))
 
-  pub thing_there : (u : ℕ) → u ≢ v → thing_at (thing_put s v x) u ≡ thing_at s u
-  unfolding thing_at
-  thing_there u n = go (dec_lt u 322)
+  pub slot_there : (u : ℕ) → u ≢ v → slot_at (thing_put s v x) u ≡ slot_at s u
+  unfolding slot_at
+  slot_there u n = go (dec_lt u 322)
     where
-      go : Dec (u < 322) → thing_at (thing_put s v x) u ≡ thing_at s u
-      go (yes l) = rw (lt-ltb u 322 l) (λ z. thing_of (slot
+      go : Dec (u < 322) → slot_at (thing_put s v x) u ≡ slot_at s u
+      go (yes l) = rw (lt-ltb u 322 l) (λ z. slot
           (put_elsewhere (thing_kinds_at + u) (λ e. n (omega (arith, e))) (λ e. omega (arith, e, l, low)) (λ e. omega (arith, e, l, low)) z)
           (put_elsewhere (thing_firsts_at + u) (λ e. omega (arith, e, l, low)) (λ e. n (omega (arith, e))) (λ e. omega (arith, e, l, low)) z)
-          (put_elsewhere (thing_seconds_at + u) (λ e. omega (arith, e, l, low)) (λ e. omega (arith, e, l, low)) (λ e. n (omega (arith, e))) z)))
+          (put_elsewhere (thing_seconds_at + u) (λ e. omega (arith, e, l, low)) (λ e. omega (arith, e, l, low)) (λ e. n (omega (arith, e))) z))
       go (no f) = rw (le-ltb u 322 (omega (arith, f)))
+
+  pub thing_here : length s ≡ space_size → thing_at (thing_put s v x) v ≡ x
+  thing_here long = thing_told (thing_put s v x) v ∙ ap thing_of (slot_here long) ∙ thing_read x
+
+  pub thing_there : (u : ℕ) → u ≢ v → thing_at (thing_put s v x) u ≡ thing_at s u
+  thing_there u n = thing_told (thing_put s v x) u ∙ ap thing_of (slot_there u n) ∙ sym (thing_told s u)
+
+  -- the numbers are such as are stored
+  pub plain_put : length s ≡ space_size → ((u : ℕ) → Plain (slot_at s u)) → (u : ℕ) → Plain (slot_at (thing_put s v x) u)
+  plain_put long plain u = go (ℕ_discrete u v)
+    where
+      go : Dec (u ≡ v) → Plain (slot_at (thing_put s v x) u)
+      go (yes e) = subst Plain (sym (ap (slot_at (thing_put s v x)) e ∙ slot_here long)) (numbers_plain x)
+      go (no n) = subst Plain (sym (slot_there u n)) (plain u)
 
 -- no thread has a number there
 pub thing_agree : (i : ℕ) (s : List ℕ) (v : ℕ) (x : Thing) → i < 16 → Agree i s (thing_put s v x)
@@ -123,6 +137,7 @@ module _ {s : List ℕ} {names : ℕ → state.Slot} {next : ℕ} {things : Obje
   names_put n sl long l = record {
     constant = thing_there s (suc n) (coded sl) low 0 (λ e. omega (arith, e)) ∙ N.constant;
     slots = λ m h. by_name m h (ℕ_discrete m n);
+    plain = plain_put s (suc n) (coded sl) low long N.plain;
     unused_from_lem = λ m h. update_other names n m sl (λ e. omega (arith, e, h, l)) ∙ N.unused_from_lem m h;
     next_stored = put_elsewhere s (suc n) (coded sl) low next_value_at (λ e. omega (arith, e)) (λ e. omega (arith, e)) (λ e. omega (arith, e)) ∙ N.next_stored;
     counted = λ k. put_elsewhere s (suc n) (coded sl) low (thing_counts_at + kind_code k) (λ e. omega (arith, e, kind_low k)) (λ e. omega (arith, e, kind_low k)) (λ e. omega (arith, e, kind_low k)) ∙ N.counted k;

@@ -23,10 +23,11 @@ use Rattle.threads.specs.Threads.{turned, finished}
 use Rattle.replay_control.specs.Layout.{thing_counts_at, next_value_at, thing_kinds_at, thing_firsts_at, thing_seconds_at, space_size}
 use Rattle.replay_control.specs.declared.Mode.TheVariants.{Done}
 use Rattle.replay_control.specs.Modes.{is}
+use Rattle.replay_control.proofs.Modes.{mode_low}
 use Rattle.replay_control.specs.declared.ControlPoint.{ControlPoint}
 use Rattle.replay_control.specs.Control.{found}
-use Rattle.replay_objects.specs.declared.Thing.TheVariants.{Unused}
 use Rattle.replay_objects.specs.Stored.{slot, thing_of}
+use Rattle.replay_objects.proofs.Stored.{Plain}
 use Rattle.replay_step.specs.Slots.{thing_at}
 use Rattle.replay_engine.specs.ControlPoints.{control_point_at, control_point_put, settled, went_on}
 use Rattle.replay_engine.specs.Steps.{recorded, proceeded}
@@ -39,19 +40,23 @@ use Rattle.replay_machine.specs.Replay.{Replay}
 use Rattle.replay_simulation.proofs.Held.{BodiesStand, ControlAt, WordAt}
 use Rattle.replay_simulation.proofs.Advancing.{SameBut}
 use Rattle.replay_simulation.proofs.Finding.{Finds}
-use Rattle.replay_simulation.proofs.Agreeing.{SharedSame, control_same, agree_then, agree_found, shared_found, control_point_here, control_point_length, control_point_other, control_point_shared, control_point_rows}
-use Rattle.replay_simulation.proofs.Holds.{NamesHeld, kind_code, record_of, ThreadHeld, Sized, ThreadsHeld, Holds}
+use Rattle.replay_simulation.proofs.Agreeing.{SharedSame, control_same, agree_then, agree_found, shared_found, mode_here, control_point_here, control_point_length, control_point_other, control_point_shared, control_point_rows}
+use Rattle.replay_simulation.proofs.Holds.{slot_at, thing_told, NamesHeld, kind_code, record_of, ThreadHeld, Sized, ThreadsHeld, Holds}
 
 -- ------------------------------------------------------------------ names
 
+pub slot_same : (s s' : List ℕ) (v : ℕ) → SharedSame s s' → slot_at s' v ≡ slot_at s v
+unfolding slot_at
+slot_same s s' v h = λ z. when ltb v 322 then slot (h (thing_kinds_at + v) (omega arith) z) (h (thing_firsts_at + v) (omega arith) z) (h (thing_seconds_at + v) (omega arith) z) else slot 0 0 0
+
 pub thing_same : (s s' : List ℕ) (v : ℕ) → SharedSame s s' → thing_at s' v ≡ thing_at s v
-unfolding thing_at
-thing_same s s' v h = λ z. when ltb v 322 then thing_of (slot (h (thing_kinds_at + v) (omega arith) z) (h (thing_firsts_at + v) (omega arith) z) (h (thing_seconds_at + v) (omega arith) z)) else Unused
+thing_same s s' v h = thing_told s' v ∙ ap thing_of (slot_same s s' v h) ∙ sym (thing_told s v)
 
 pub names_same : (s s' : List ℕ) {names : ℕ → calculus.Slot} {next : ℕ} {things : ObjectKind → ℕ} → SharedSame s s' → NamesHeld s names next things → NamesHeld s' names next things
 names_same s s' {names = names} h N = record {
   constant = thing_same s s' 0 h ∙ N.constant;
   slots = λ n l. thing_same s s' (suc n) h ∙ N.slots n l;
+  plain = λ v. subst Plain (sym (slot_same s s' v h)) (N.plain v);
   unused_from_lem = N.unused_from_lem;
   next_stored = h next_value_at (omega arith) ∙ N.next_stored;
   counted = λ k. h (thing_counts_at + kind_code k) (omega arith) ∙ N.counted k;
@@ -168,6 +173,7 @@ module _ {p s : List ℕ} {T : Threads} {R : Replay} {t tid : ℕ} (P : Paused p
     thread_here = record {
       recorded = record_here T t tid low P.sized.records P.was d;
       control = subst (λ (f : ControlPoint). ControlAt p s' t f d) (sym (control_point_here s₂ t g long₂ low)) (control_same p t s₂ s' (control_point_rows t t s₂ g low low) g d (omega (arith, few)) C);
+      plain = rw (mode_here s₂ t g long₂ low) (mode_low g.mode);
       settled = λ e. absurd (let z : ◌≡◌ {A = ℕ} 0 1 = cc in omega arith);
       calls = few;
     }
@@ -181,6 +187,7 @@ module _ {p s : List ℕ} {T : Threads} {R : Replay} {t tid : ℕ} (P : Paused p
         record {
           recorded = record_there T t tid low P.sized.records P.was d i n ∙ held.recorded;
           control = subst (λ (f : ControlPoint). ControlAt p s' i f th.control) (sym a.focused) (control_same p i s s' a.rows (control_point_at s i) th.control (let n = held.calls in omega arith) held.control);
+          plain = rw a.mode held.plain;
           settled = held.settled;
           calls = held.calls;
         }

@@ -101,6 +101,7 @@ module _ (s : List ℕ) (a b : ℕ) (apart : a ≢ b) (u : ℕ) (is : b ≡ 66 *
         (copied_outside a b apart 256 s 0 (control_point_places_at + i) (inr (omega (arith, low, is))) z)
         (copied_outside a b apart 256 s 0 (control_point_values_at + i) (inr (omega (arith, low, is))) z)
         (copied_outside a b apart 256 s 0 (control_point_rows_at + i) (inr (omega (arith, low, is))) z);
+    mode = copied_outside a b apart 256 s 0 (control_point_modes_at + i) (inr (omega (arith, low, is)));
   }
     where
       beside : (r y : ℕ) → RowIn i r → y < 256 → (i < u) ⊎ (u < i) → (0 + 256 * r + y < 256 * b + 0) ⊎ (256 * b + 0 + 256 ≤ 0 + 256 * r + y)
@@ -206,6 +207,7 @@ module _ {p s : List ℕ} {T : Threads} {R : Replay} {t row tid : ℕ} {σ : Env
           record {
             recorded = spawned_there A.holds.sized room n i d ∙ held.recorded;
             control = subst (λ (f : ControlPoint). ControlAt p s₁ i f th.control) (sym a.focused) (control_same p i s s₁ a.rows (control_point_at s i) th.control (let c = held.calls in omega arith) held.control);
+            plain = rw a.mode held.plain;
             settled = held.settled;
             calls = held.calls;
           };
