@@ -1,9 +1,7 @@
 -- Numbers that keep a run: the records, thread by thread, then the numbers in front of them.
 use Prim.Native.Nat.{ℕ, ◌+◌, ◌<◌, ◌≤◌}
 use mathlib.Core.Path.{◌≡◌, refl, sym, ◌∙◌, ap}
-use mathlib.Core.Bool.{Bool}
 use mathlib.Core.List.{List, [], ◌∷◌}
-use Rattle.std.specs.Int.{from_bool}
 use native.Mathlib.Omega.{arith}
 use native.Mathlib.Decide.{ℕ_discrete}
 use lib.ListN.{length, get_or, set, take, drop, length-set}
@@ -94,11 +92,11 @@ pub record Small (t : Told) : Type 0 where
   pub first : t.race.first < 4294967296
   pub second : t.race.second < 4294967296
 
-module _ (w : List ℕ) (goes : Bool) (t : Told) (raced : Bool) (count : ℕ) where
+module _ (w : List ℕ) (goes : ℕ) (t : Told) (raced count : ℕ) where
   abbrev front : List ℕ
   front =
-      from_bool goes ∷ t.ending.number ∷ t.ending.line ∷ t.ending.condition ∷ t.ending.location ∷ t.steps
-      ∷ from_bool raced ∷ t.race.state ∷ t.race.first ∷ t.race.second ∷ count ∷ []
+      goes ∷ t.ending.number ∷ t.ending.line ∷ t.ending.condition ∷ t.ending.location ∷ t.steps
+      ∷ raced ∷ t.race.state ∷ t.race.first ∷ t.race.second ∷ count ∷ []
 
   pub front_kept : length w ≡ kept_size → Small t → FrontKept goes t raced count w (sets w 0 front)
   unfolding told_in race_in

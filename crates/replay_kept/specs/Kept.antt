@@ -1,5 +1,5 @@
 -- A run as numbers: what they say of it, and what it is for them to keep the parts of one.
-use Rattle.std.specs.Prelude.{ℕ, ◌+◌, ◌<◌, ◌≡◌, List, Bool, eqb, get_or, drop, Option, is_some}
+use Rattle.std.specs.Prelude.{ℕ, ◌+◌, ◌<◌, ◌≡◌, List, eqb, get_or, drop, Option, is_some}
 use Rattle.std.specs.Int.{from_bool}
 use Rattle.spec.specs.Choice.{when◌then◌else◌}
 use Rattle.lexer.specs.Numbers.{stored}
@@ -52,9 +52,9 @@ pub record RaceKept (race : Option Race) (w : List ℕ) : Type 0 where
   pub told : race_in w ≡ race_numbers race
 
 -- the numbers in front of the records, and that the records are as they were
-pub record FrontKept (goes : Bool) (t : Told) (raced : Bool) (count : ℕ) (w w' : List ℕ) : Type 0 where
-  pub is_going : get_or w' 0 0 ≡ from_bool goes
+pub record FrontKept (goes : ℕ) (t : Told) (raced count : ℕ) (w w' : List ℕ) : Type 0 where
+  pub is_going : get_or w' 0 0 ≡ goes
   pub told : told_in w' ≡ t
-  pub is_raced : get_or w' 6 0 ≡ from_bool raced
+  pub is_raced : get_or w' 6 0 ≡ raced
   pub counted : get_or w' 10 0 ≡ count
   pub behind : drop 11 w' ≡ drop 11 w

@@ -5,6 +5,7 @@
 mod numbers;
 
 ghost use Rattle.std.specs.Prelude.{◌≡◌, ◌+◌, ◌<◌, Option, length, get_or, set, take};
+ghost use Rattle.lexer.specs.Numbers.{stored};
 ghost use Rattle.replay_theory.specs.declared.Race.{Race};
 ghost use Rattle.replay_kept.specs.Kept.{status_number, status_of, record_in, told_in, RecordsKept, RaceKept, FrontKept};
 
@@ -50,6 +51,26 @@ pub const KEPT: usize = 43;
 
 // ---- reading
 
+// The number at a place; 0 past the end.
+pub fn at(run: &[u64], i: usize) -> u64
+    ensures { result ≡ get_or run.now i 0 }
+{
+    run.get(i).copied().unwrap_or(0)
+}
+
+pub fn count_at(run: &[u64], i: usize) -> usize
+    ensures { result ≡ get_or run.now i 0 }
+{
+    at(run, i) as usize
+}
+
+// A number of 32 bits; one that needs more was kept by no run.
+fn small_at(run: &[u64], i: usize) -> u32
+    ensures { result ≡ stored (get_or run.now i 0) }
+{
+    narrow(at(run, i))
+}
+
 #[tactic(auto, unfolding(crate::specs::Kept::status_of))]
 fn status_of(n: u64) -> Status
     ensures { result ≡ status_of n }
@@ -61,58 +82,58 @@ fn status_of(n: u64) -> Status
     }
 }
 
-// A thread's record. A number that needs more than 32 bits was kept by no run.
+// A thread's record.
 #[tactic(auto, unfolding(crate::specs::Kept::record_in))]
-fn record_in(run: &[u64; KEPT], t: usize) -> Record
+fn record_in(run: &[u64], t: usize) -> Record
     requires { t < 16 }
     ensures { result ≡ record_in run.now t }
 {
     Record {
-        state: status_of(run[STATUSES + t]),
-        tid: narrow(run[IDENTIFIERS + t]),
+        state: status_of(at(run, STATUSES + t)),
+        tid: small_at(run, IDENTIFIERS + t),
     }
 }
 
-pub fn threads_in(run: &[u64; KEPT]) -> Threads
+pub fn threads_in(run: &[u64]) -> Threads
     ensures { RecordsKept result.records run.now × (length result.records ≡ 16) × (result.count ≡ get_or run.now 10 0) }
 {
     Threads {
         records: from_fn(|t| record_in(run, t)),
-        count: run[COUNT] as usize,
+        count: count_at(run, COUNT),
     }
 }
 
 // The race that was kept.
-pub fn race_in(run: &[u64; KEPT]) -> Option<Race>
+pub fn race_in(run: &[u64]) -> Option<Race>
     ensures { (race : Option Race) → RaceKept race run.now → result ≡ race }
 {
-    if run[RACED] == 0 {
+    if at(run, RACED) == 0 {
         return None;
     }
     Some(Race {
-        state: run[STATE] as usize,
-        lower: narrow(run[FIRST]),
-        other: narrow(run[SECOND]),
+        state: count_at(run, STATE),
+        lower: small_at(run, FIRST),
+        other: small_at(run, SECOND),
     })
 }
 
 // What the run that was kept tells.
 #[tactic(auto, unfolding(crate::specs::Kept::told_in, crate::specs::Kept::race_in))]
-pub fn told_in(run: &[u64; KEPT]) -> Told
+pub fn told_in(run: &[u64]) -> Told
     ensures { result ≡ told_in run.now }
 {
     Told {
         ending: Numbers {
-            number: narrow(run[NUMBER]),
-            line: run[LINE] as usize,
-            condition: narrow(run[CONDITION]),
-            location: narrow(run[LOCATION]),
+            number: small_at(run, NUMBER),
+            line: count_at(run, LINE),
+            condition: small_at(run, CONDITION),
+            location: small_at(run, LOCATION),
         },
-        steps: run[STEPS] as usize,
+        steps: count_at(run, STEPS),
         race: RaceNumbers {
-            state: run[STATE] as usize,
-            first: narrow(run[FIRST]),
-            second: narrow(run[SECOND]),
+            state: count_at(run, STATE),
+            first: small_at(run, FIRST),
+            second: small_at(run, SECOND),
         },
     }
 }
@@ -148,16 +169,16 @@ pub fn keep_records(run: &mut [u64; KEPT], threads: Threads)
 }
 
 // The numbers in front of the records.
-pub fn keep_front(run: &mut [u64; KEPT], goes: bool, told: Told, raced: bool, count: usize)
+pub fn keep_front(run: &mut [u64; KEPT], goes: u64, told: Told, raced: u64, count: usize)
     ensures { FrontKept goes told raced count run.old run.new }
 {
-    run[GOES] = u64::from(goes);
+    run[GOES] = goes;
     run[NUMBER] = u64::from(told.ending.number);
     run[LINE] = told.ending.line as u64;
     run[CONDITION] = u64::from(told.ending.condition);
     run[LOCATION] = u64::from(told.ending.location);
     run[STEPS] = told.steps as u64;
-    run[RACED] = u64::from(raced);
+    run[RACED] = raced;
     run[STATE] = told.race.state as u64;
     run[FIRST] = u64::from(told.race.first);
     run[SECOND] = u64::from(told.race.second);

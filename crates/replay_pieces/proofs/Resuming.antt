@@ -53,12 +53,15 @@ twice : (b : Bool) → not (not b) ≡ b
 twice true = refl
 twice false = refl
 
-pub keeps : (q : Point) (w w' : List ℕ) {goes : Bool} {t : Told} {raced : Bool} → is_some q.ending ≡ not goes → t ≡ told_numbers (telling q) → raced ≡ is_some q.race →
+pub going : (pr : Option Ending) (goes : Bool) → is_some pr ≡ not goes → from_bool goes ≡ from_bool (is_none pr)
+going pr goes g = ap from_bool (sym (twice goes)) ∙ ap (λ (b : Bool). from_bool (not b)) (sym g)
+
+pub keeps : (q : Point) (w w' : List ℕ) {goes : ℕ} {t : Told} {raced : ℕ} → goes ≡ from_bool (is_none q.ending) → t ≡ told_numbers (telling q) → raced ≡ from_bool (is_some q.race) →
     RecordsKept q.threads.records w → FrontKept goes t raced q.threads.count w w' → Keeps q w'
-keeps q w w' {goes} g t r K F = record {
-  goes = F.is_going ∙ ap from_bool (sym (twice goes)) ∙ ap (λ (b : Bool). from_bool (not b)) (sym g);
+keeps q w w' g t r K F = record {
+  goes = F.is_going ∙ g;
   told = F.told ∙ t;
-  raced = F.is_raced ∙ ap from_bool r;
+  raced = F.is_raced ∙ r;
   count = F.counted;
   records = λ i h. record_behind w w' i F.behind ∙ K i h;
 }

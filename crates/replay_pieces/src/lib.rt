@@ -98,7 +98,7 @@ pub fn told(run: &[u64]) -> Told
     ensures short { length run.now < kept_size → result ≡ told_numbers (refused_by ShortWorkspace) }
     ensures unchanged { run.exit.now ≡ run.entry.now }
 {
-    match run.first_chunk() {
+    match run.first_chunk::<KEPT>() {
         Some(run) => told_in(run),
         None => short_told(),
     }

@@ -29,9 +29,9 @@ pub(crate) fn keep(run: &mut [u64; KEPT], p: Point) -> u32
     keep_records(run, p.threads);
     keep_front(
         run,
-        p.ending.is_none(),
+        u64::from(p.ending.is_none()),
         told,
-        p.race.is_some(),
+        u64::from(p.race.is_some()),
         p.threads.count,
     );
     told.ending.number

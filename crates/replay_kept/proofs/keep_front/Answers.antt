@@ -5,5 +5,5 @@ use Rattle.replay_kept.proofs.keep_front.Goals as goal
 pub returns : goal.returns
 returns c =
     let small : Small c.args.told = record { number = search rules; condition = search rules; location = search rules; first = search rules; second = search rules } in
-    rw (c.from.ensures, c.from-2.ensures, c.from-3.ensures, c.from-4.ensures, c.from-5.ensures, c.from-6.ensures, c.from-7.ensures)
+    rw (c.from.ensures, c.from-2.ensures, c.from-3.ensures, c.from-4.ensures, c.from-5.ensures)
     (front_kept _ _ _ _ _ c.told-run small)
