@@ -35,7 +35,9 @@ fn first_point(job: &[u32; PROGRAM], space: &mut [u32; SPACE]) -> Point
 fn copy_columns(columns: &mut [u32; PROGRAM], space: &[u32; SPACE])
     ensures { Copied space.now columns.new }
 {
-    columns[..CONTINUATIONS].copy_from_slice(&space[..CONTINUATIONS]);
+    for i in 0..CONTINUATIONS {
+        columns[i] = space[i];
+    }
 }
 
 // Reads a program sheet in the front of the space, which has more room than its reader asks for.
