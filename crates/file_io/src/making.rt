@@ -1,5 +1,7 @@
 // Making a file that is not there yet.
-ghost use Rattle.std.specs.Prelude.{◌≡◌, IfOk, length};
+ghost use Rattle.std.specs.Prelude.{◌≡◌, ◌≢◌, IfOk, length};
+ghost use Rattle.std.specs.declared.io.ErrorKind.TheVariants.{AlreadyExists};
+ghost use Rattle.file_io.specs.declared.making.Unmade.TheVariants.{Taken, Unwritten};
 
 use crate::retry;
 use std::env::Env;
@@ -14,7 +16,10 @@ pub enum Unmade {
     Unwritten,
 }
 
+// A file that is there already has taken the name; after any other failure the new one can't be written.
 impl From<ErrorKind> for Unmade {
+    ghost from_gives = { λ kind unmade. (kind ≡ AlreadyExists → unmade ≡ Taken) × (kind ≢ AlreadyExists → unmade ≡ Unwritten) };
+
     fn from(kind: ErrorKind) -> Unmade {
         match kind {
             ErrorKind::AlreadyExists => Unmade::Taken,

@@ -10,7 +10,7 @@ use lib.ListN.{length, set, take, drop, length-set, length-append, take-append-d
 use lib.Seq.{take_all, sets, sets-eq, paste, set_out, set_comm, length-take-le}
 use borrow.Author.Tests.{leb-true, leb-false}
 use Rattle.writer.specs.declared.Writer.{Writer}
-use Rattle.writer.specs.Buffer.{overwrite, counted, WrittenAt, Writes}
+use Rattle.writer.specs.Buffer.{overwrite, counted, WrittenAt, Fits, Writes}
 
 infixr 5 ◌then◌
 -- ------------------------------------------------------------------ a buffer that bytes are put into
@@ -80,6 +80,10 @@ overwrite_counted d at s h = either (leb at 18446744073709551615) refl
 
 -- ------------------------------------------------------------------ one text behind the other
 
+-- a writer keeps to numbers of 64 bits
+pub fits : (w : Writer) → Fits w
+fits w = record { length_fits = w.fits.0; place_fits = w.fits.1 }
+
 module _ {a b : Writer} where
   -- the same text, said in another way
   pub said : {s t : List ℕ} → t ≡ s → Writes a b s → Writes a b t
@@ -89,11 +93,11 @@ module _ {a b : Writer} where
   pub ◌then◌ : {c : Writer} {s t : List ℕ} → Writes a b s → Writes b c t → Writes a c (s ++ t)
   ◌then◌ {c} {s} {t} w v = record {
     same = v.same ∙ w.same;
-    written = λ f.
+    written =
         let d = a.buffer.now in
-        let first = w.written f in
-        let long : length (overwrite d a.at s) < 18446744073709551616 = rw overwrite_length f.length_fits in
-        let second = v.written (record { length_fits = rw first.holds long; place_fits = omega (arith, first.moved) }) in
+        let first = w.written in
+        let long : length (overwrite d a.at s) < 18446744073709551616 = rw overwrite_length (fits a).length_fits in
+        let second = v.written in
         let l = length-append s t in
         record {
           holds = second.holds ∙ rw (first.holds, first.moved) (overwrite_counted (overwrite d a.at s) (a.at + length s) t long ∙ sym (overwrite_append d a.at s t));
@@ -104,14 +108,19 @@ module _ {a b : Writer} where
 -- no text
 pub nothing : {a : Writer} → Writes a a []
 unfolding overwrite
-nothing = record { same = refl; written = λ f. record { holds = refl; moved = omega (arith, f.place_fits) } }
+nothing {a} = record { same = refl; written = record { holds = refl; moved = omega (arith, (fits a).place_fits) } }
+
+-- a text at the place of a buffer at which a writer began
+pub at_place : {a b : Writer} {d d' s : List ℕ} {at n : ℕ} → a.buffer.now ≡ d → a.at ≡ at
+    → Writes a b s → d' ≡ b.buffer.now → n ≡ b.at → WrittenAt d d' at s n
+at_place e k w left m =
+    let whole = w.written in
+    record { holds = left ∙ rw (e, k) at whole.holds; moved = m ∙ rw k at whole.moved }
 
 -- a text at the front of a buffer
 pub at_front : {a b : Writer} {d d' s : List ℕ} {n : ℕ} → a.buffer.now ≡ d → a.at ≡ 0 → length d < 18446744073709551616
     → Writes a b s → d' ≡ b.buffer.now → n ≡ b.at → WrittenAt d d' 0 s n
-at_front {b = b} {s = s} e k h w left m =
-    let whole = w.written (record { length_fits = rw e h; place_fits = omega arith }) in
-    record { holds = left ∙ rw (e, k) at whole.holds; moved = m ∙ rw k at whole.moved }
+at_front e k h = at_place e k
 
 -- ------------------------------------------------------------------ part by part
 

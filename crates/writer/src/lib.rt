@@ -4,16 +4,19 @@
 
 ghost use Rattle.std.specs.Prelude.{◌≡◌, [], ◌∷◌, ◌++◌, map, ◌+◌, ◌<◌, length, set};
 ghost use Rattle.text_theory.specs.Text.{digit as digit_of, decimal, line};
-ghost use Rattle.writer.specs.Buffer.{overwrite, Writes};
+ghost use Rattle.writer.specs.Place.{overwrite};
 
-// A lent buffer, and the place in it where the next byte is put.
+// A lent buffer, and the place in it where the next byte is put. Both its length and the place are numbers of 64 bits.
 #[derive(Drop)]
 pub struct Writer<'a> {
     buffer: &'a mut [u8],
     at: usize,
+    ghost fits: { (length buffer.now < 18446744073709551616) × (at < 18446744073709551616) },
 }
 
 impl<'a> Writer<'a> {
+    ghost use Rattle.writer.specs.Buffer.{Writes};
+
     // A writer at the front of a buffer.
     pub fn new(buffer: &'a mut [u8]) -> Writer<'a>
         ensures same { result.buffer.ghost_name ≡ buffer.entry.ghost_name }
@@ -21,6 +24,15 @@ impl<'a> Writer<'a> {
         ensures front { result.at ≡ 0 }
     {
         Writer { buffer, at: 0 }
+    }
+
+    // A writer at a place of a buffer, which may be past its end.
+    pub fn at(buffer: &'a mut [u8], at: usize) -> Writer<'a>
+        ensures same { result.buffer.ghost_name ≡ buffer.entry.ghost_name }
+        ensures held { result.buffer.now ≡ buffer.old }
+        ensures placed { result.at ≡ at }
+    {
+        Writer { buffer, at }
     }
 
     // The place of the next byte. Behind a text from the front on, the text's length.

@@ -9,8 +9,13 @@ pub returns : goal.returns
 unfolding overwrite
 returns c = elim c.if-self.branch [
   | then-self w ↦
-      rw w.self-is (record { same = refl; written = λ f. record { holds = refl; moved = rw w.self-is at c.saturating_add-self.ensures } })
+      record {
+        same = rw w.self-is refl;
+        written = record { holds = rw w.self-is refl; moved = rw w.self-is at c.saturating_add-self.ensures };
+      }
   | else-self w ↦
-      rw w.self-is
-      (record { same = refl; written = λ f. record { holds = sym (set_out _ _ _ w.if-self.false); moved = rw w.self-is at c.saturating_add-self.ensures } })
+      record {
+        same = rw w.self-is refl;
+        written = record { holds = rw w.self-is (sym (set_out _ _ _ w.if-self.false)); moved = rw w.self-is at c.saturating_add-self.ensures };
+      }
 ]

@@ -7,9 +7,13 @@ use Rattle.writer.proofs.Writer.numeral.Goals.{then-self, else-self}
 pub returns : goal.returns
 returns c = elim c.if-self.branch [
   | then-self w ↦
-      rw w.self-is
-      (record { same = refl; written = λ f. record { holds = w.write_digits.ensures; moved = rw (w.self-is, c.width-digits.ensures) at c.saturating_add-self.ensures } })
+      record {
+        same = rw w.self-is refl;
+        written = record { holds = rw w.self-is w.write_digits.ensures; moved = rw (w.self-is, c.width-digits.ensures) at c.saturating_add-self.ensures };
+      }
   | else-self w ↦
-      rw w.self-is
-      (record { same = refl; written = λ f. record { holds = sym (overwrite_past _ _ _ w.if-self.false); moved = rw (w.self-is, c.width-digits.ensures) at c.saturating_add-self.ensures } })
+      record {
+        same = rw w.self-is refl;
+        written = record { holds = rw w.self-is (sym (overwrite_past _ _ _ w.if-self.false)); moved = rw (w.self-is, c.width-digits.ensures) at c.saturating_add-self.ensures };
+      }
 ]
