@@ -15,7 +15,7 @@ use Rattle.replay_theory.specs.declared.Ending.{Ending}
 use Rattle.replay_theory.specs.declared.Replayed.{Replayed}
 use Rattle.replay_machine.specs.Replay.{play_from}
 use Rattle.replay_loop.specs.declared.Point.{Point}
-use Rattle.replay_loop.specs.Play.{LoopPost}
+use Rattle.replay_loop.specs.Play.{LoopPre, LoopPost}
 use Rattle.replay.specs.Pieces.{ends_line, telling_by, telling}
 
 -- ------------------------------------------------------------------ lines behind lines
@@ -81,6 +81,11 @@ module _ (whole : List Line → Replayed) (p s piece : List ℕ) (q : Point) whe
   pub short_stays : (pr : Option Ending) → length s < space_size → LoopPost pr whole p s q → LoopPost pr behind p s q
   short_stays (Some e) short C = λ ls. C (lines piece ++ ls)
   short_stays None short C = absurd (let l = C.held.long in omega (arith, l, short))
+
+  pub goes_on : (pr : Option Ending) → is_some pr ≡ false → LoopPost pr whole p s q →
+      LoopPre behind p s piece (record { ending = pr; threads = q.threads; at = 0; steps = q.steps; race = q.race })
+  goes_on None h G = record { going = refl; run = G.run; held = G.held; counts = G.counts; comes_to = λ ls. G.comes_to (lines piece ++ ls) }
+  goes_on (Some e) h C = absurd (let z : ◌≡◌ {A = ℕ} 0 1 = cc in omega arith)
 
 -- ------------------------------------------------------------------ what it tells
 
