@@ -4,10 +4,11 @@ use mathlib.Core.List.{List, [], ◌∷◌, ◌++◌}
 use mathlib.Core.Bool.{Bool, true, false}
 use Prim.Native.Nat.{ℕ, suc, min, ◌+◌, ◌-◌, ◌≤◌, ◌<◌}
 use native.Mathlib.Nat.{add-zero, zero-add, add-suc, suc-add}
+use native.Mathlib.Numerals.{add-one}
 use native.Mathlib.Omega.{arith}
 use lib.Dec.{leb}
-use lib.ListN.{length, set, take, drop, length-set, length-append, take-append-drop, drop_of_length-le}
-use lib.Seq.{take_all, sets, sets-eq, paste, set_out, set_comm, length-take-le}
+use lib.ListN.{length, set, drop, get_or, length-set, length-append, drop_of_length-le}
+use lib.Seq.{sets, sets-eq, set_out, set_comm, drop-cons}
 use borrow.Author.Tests.{leb-true, leb-false}
 use Rattle.writer.specs.declared.Writer.{Writer}
 use Rattle.writer.specs.Buffer.{overwrite, counted, WrittenAt, Fits, Writes}
@@ -40,26 +41,21 @@ unfolding overwrite
 overwrite_past d at [] h = refl
 overwrite_past d at (b ∷ s) h = rw (set_out d at b h) (overwrite_past d (suc at) s (omega arith))
 
--- as much of a text as there is room for is written, and the rest is past the end
-pub overwrite_part : (d : List ℕ) (at : ℕ) (s : List ℕ) (n : ℕ) → at ≤ length d → n ≡ min (length s) (length d - at)
-    → paste d at (take n s) n ≡ overwrite d at s
+-- the byte at i is written, and those behind it remain
+pub overwrite_next : (d : List ℕ) (at : ℕ) (s : List ℕ) (i : ℕ) → i < length s
+    → overwrite (set d (at + i) (get_or s i 0)) (at + (i + 1)) (drop (i + 1) s) ≡ overwrite d (at + i) (drop i s)
 unfolding overwrite
-overwrite_part d at s n h e =
-    let t = take n s in
-    let long : length t ≡ n = length-take-le n s (omega arith) in
-    let part : overwrite d at t ≡ take at d ++ t ++ drop (at + n) d = is_sets d at t ∙ rw long at (sets-eq t d at (omega arith)) in
-    rw (take_all n t (omega arith))
-    (sym part
-    ∙ sym (rest (leb (length s) (length d - at)) refl)
-    ∙ ap (λ (m : ℕ). overwrite (overwrite d at t) (at + m) (drop n s)) (sym long)
-    ∙ sym (overwrite_append d at t (drop n s))
-    ∙ ap (overwrite d at) (take-append-drop n s))
+overwrite_next d at s i h = rw (add-one, add-suc, drop-cons s i 0 h)
+
+-- as much of a text as there is room for is written, and the rest is past the end
+pub overwrite_room : (d : List ℕ) (at : ℕ) (s : List ℕ) (n : ℕ) → at ≤ length d → n ≡ min (length s) (length d - at)
+    → overwrite d (at + n) (drop n s) ≡ d
+unfolding overwrite
+overwrite_room d at s n h e = either (leb (length s) (length d - at)) refl
   where
-    rest : (b : Bool) → leb (length s) (length d - at) ≡ b → overwrite (overwrite d at (take n s)) (at + n) (drop n s) ≡ overwrite d at (take n s)
-    rest true t = let l = leb-true (length s) (length d - at) t in rw (drop_of_length-le s {i = n} (omega arith))
-    rest false t =
-        let l = leb-false (length s) (length d - at) t in
-        overwrite_past (overwrite d at (take n s)) (at + n) (drop n s) (omega (arith, overwrite_length d at (take n s)))
+    either : (b : Bool) → leb (length s) (length d - at) ≡ b → overwrite d (at + n) (drop n s) ≡ d
+    either true t = let l = leb-true (length s) (length d - at) t in rw (drop_of_length-le s {i = n} (omega arith))
+    either false t = let l = leb-false (length s) (length d - at) t in overwrite_past d (at + n) (drop n s) (omega arith)
 
 -- a byte behind a text may be put in front of it in time
 pub overwrite_behind : (d : List ℕ) (at : ℕ) (s : List ℕ) (p b : ℕ) → at + length s ≤ p → overwrite (set d p b) at s ≡ set (overwrite d at s) p b

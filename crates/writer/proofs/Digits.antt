@@ -2,37 +2,45 @@
 use mathlib.Core.Path.{◌≡◌, refl, sym, ap, ◌∙◌}
 use mathlib.Core.Bool.{Bool, true, false}
 use mathlib.Core.List.{List, [], ◌∷◌, ◌++◌}
-use Prim.Native.Nat.{ℕ, zero, suc, max, ◌+◌, ◌*◌, ◌^◌, ◌/◌, ◌≤◌, ◌<◌}
-use native.Mathlib.Nat.{div-add-mod', pow-succ', one-le-pow}
+use Prim.Native.Nat.{ℕ, zero, suc, ◌+◌, ◌/◌, ◌%◌, ◌≤◌, ◌<◌}
+use native.Mathlib.Nat.{mod-lt, div-add-mod'}
 use native.Mathlib.Omega.{arith}
 use native.Mathlib.Numerals.{add-one}
 use lib.Dec.{lit<, ltb}
 use borrow.Author.Tests.{ltb-true, ltb-false}
 use lib.ListN.{length, set, length-append}
 use Rattle.text_theory.specs.Text.{digit, decimal}
-use Rattle.text_theory.proofs.Decimal.{decimal_small, decimal_large, decimal_long}
+use Rattle.text_theory.proofs.Decimal.{decimal_small, decimal_large, decimal_length, decimal_long}
 use Rattle.writer.specs.Buffer.{overwrite}
 use Rattle.writer.proofs.Buffer.{overwrite_append, overwrite_behind}
 
 -- ------------------------------------------------------------------ how many
 
-one_digit : (n : ℕ) → n < 10 → length (decimal n) ≡ 1
+pub one_digit : (n : ℕ) → n < 10 → length (decimal n) ≡ 1
 one_digit n h = rw (decimal_small n h)
 
-more_digits : (n : ℕ) → 10 ≤ n → length (decimal n) ≡ length (decimal (n / 10)) + 1
+pub more_digits : (n : ℕ) → 10 ≤ n → length (decimal n) ≡ length (decimal (n / 10)) + 1
 more_digits n h = rw (decimal_large n h, length-append)
 
--- a digit more than the logarithm, which 0 shares with 1
-pub digits_counted : (k n : ℕ) {m : ℕ} → m ≡ max n 1 → 10 ^ k ≤ m → m < 10 * 10 ^ k → k + 1 ≡ length (decimal n)
-digits_counted zero n e l h = sym (one_digit n (omega arith))
-digits_counted (suc k) n e l h =
-    let d = div-add-mod' n 10 in
-    let p = one-le-pow k 10 (lit< tt) in
-    let low = rw pow-succ' at l in
-    let high = rw pow-succ' at h in
-    let front = digits_counted k (n / 10) {m = max (n / 10) 1} refl (omega arith) (omega arith) in
-    let more = more_digits n (omega arith) in
+pub two_digits : (n : ℕ) → 10 ≤ n → n < 100 → length (decimal n) ≡ 2
+two_digits n h l = let d = div-add-mod' n 10 in more_digits n h ∙ rw (one_digit (n / 10) (omega arith))
+
+pub two_more_digits : (n : ℕ) → 100 ≤ n → length (decimal n) ≡ length (decimal (n / 100)) + 2
+two_more_digits n h =
+    let d₁ = div-add-mod' n 10 in
+    let d₂ = div-add-mod' (n / 10) 10 in
+    let d₃ = div-add-mod' n 100 in
+    let m₁ : n % 10 < 10 = mod-lt n (lit< tt) in
+    let m₂ : n / 10 % 10 < 10 = mod-lt (n / 10) (lit< tt) in
+    let m₃ : n % 100 < 100 = mod-lt n (lit< tt) in
+    let hundredth : n / 10 / 10 ≡ n / 100 = omega arith in
+    let first = more_digits n (omega arith) in
+    let second = rw hundredth at (more_digits (n / 10) (omega arith)) in
     omega arith
+
+-- a number of 64 bits
+pub few_digits : (n : ℕ) → n < 18446744073709551616 → length (decimal n) ≤ 20
+few_digits n h = decimal_length 20 n (omega arith) (omega arith)
 
 -- ------------------------------------------------------------------ the last first
 

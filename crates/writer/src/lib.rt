@@ -4,7 +4,7 @@
 
 ghost use Rattle.std.specs.Prelude.{◌≡◌, [], ◌∷◌, ◌++◌, map, ◌+◌, ◌<◌, length, set};
 ghost use Rattle.text_theory.specs.Text.{digit as digit_of, decimal, line};
-ghost use Rattle.writer.specs.Place.{overwrite};
+ghost use Rattle.writer.specs.Place.{WrittenAt, overwrite};
 
 // A lent buffer, and the place in it where the next byte is put. Both its length and the place are numbers of 64 bits.
 #[derive(Drop)]
@@ -46,60 +46,68 @@ impl<'a> Writer<'a> {
     pub fn byte(&mut self, byte: u8)
         ensures { Writes self.old self.new (byte ∷ []) }
     {
-        if self.at < self.buffer.len() {
-            self.buffer[self.at] = byte;
-        }
-        self.at = self.at.saturating_add(1);
+        self.at = write_byte(self.buffer, self.at, byte);
     }
 
     // Puts a byte string.
     pub fn bytes(&mut self, bytes: &[u8])
         ensures { Writes self.old self.new bytes.now }
     {
-        write_bytes(self.buffer, self.at, bytes);
-        self.at = self.at.saturating_add(bytes.len());
+        self.at = write_bytes(self.buffer, self.at, bytes);
     }
 
     // Puts a numeral. Past the end its digits are counted and no more.
     pub fn numeral(&mut self, n: u64)
         ensures { Writes self.old self.new (decimal n) }
     {
-        let digits = width(n);
-        if self.at < self.buffer.len() {
-            write_digits(self.buffer, self.at, n, digits);
-        }
-        self.at = self.at.saturating_add(digits);
+        self.at = write_numeral(self.buffer, self.at, n);
     }
 
     // Puts a numeral and the byte that ends its field.
     pub fn field(&mut self, n: u64, end: u8)
         ensures { Writes self.old self.new (decimal n ++ (end ∷ [])) }
     {
-        self.numeral(n);
-        self.byte(end);
+        self.at = write_field(self.buffer, self.at, n, end);
     }
 
     // Puts a line of numerals.
     pub fn numbers(&mut self, numbers: &[u32])
         ensures { Writes self.old self.new (line (map decimal numbers.now) []) }
     {
-        let Some((last, front)) = numbers.split_last() else {
-            return self.byte(b'\n');
-        };
-        for n in front {
-            self.field(u64::from(*n), b',');
-        }
-        self.field(u64::from(*last), b'\n');
+        self.at = write_numbers(self.buffer, self.at, numbers);
     }
 }
 
-// Puts so much of a byte string as there is room for at a place within a buffer.
-fn write_bytes(buffer: &mut [u8], at: usize, bytes: &[u8])
-    ensures { buffer.new ≡ overwrite buffer.old at bytes.now }
+// The methods hand the place to these functions, and keep what they hand back: it is loaded and stored once a text, and not once a byte.
+
+// Puts a byte at a place, and hands back the next place.
+fn write_byte(buffer: &mut [u8], at: usize, byte: u8) -> usize
+    ensures { WrittenAt buffer.old buffer.new at (byte ∷ []) result }
 {
     if at < buffer.len() {
-        let n = bytes.len().min(buffer.len() - at);
-        buffer[at..at + n].copy_from_slice(&bytes[..n]);
+        buffer[at] = byte;
+    }
+    at.saturating_add(1)
+}
+
+// Puts a byte string at a place, and hands back the place behind it. Byte by byte, since the strings are short.
+fn write_bytes(buffer: &mut [u8], at: usize, bytes: &[u8]) -> usize
+    ensures { WrittenAt buffer.old buffer.new at bytes.now result }
+{
+    if at < buffer.len() {
+        put_bytes(buffer, at, bytes);
+    }
+    at.saturating_add(bytes.len())
+}
+
+// Puts so much of a byte string as there is room for at a place within a buffer.
+fn put_bytes(buffer: &mut [u8], at: usize, bytes: &[u8])
+    requires { at < length buffer.old }
+    ensures { buffer.new ≡ overwrite buffer.old at bytes.now }
+{
+    let n = bytes.len().min(buffer.len() - at);
+    for i in 0..n {
+        buffer[at + i] = bytes[i];
     }
 }
 
@@ -111,12 +119,20 @@ fn digit(n: u64) -> u8
     b'0' + (n % 10) as u8
 }
 
-// How many digits the numeral of a number has.
+// How many digits the numeral of a number has. Counted by twos: most are short, and for these that is faster than a logarithm.
 fn width(n: u64) -> usize
     ensures { result ≡ length (decimal n) }
 {
-    let log = n.max(1).ilog10() as usize;
-    log + 1
+    let mut rest = n;
+    let mut digits = 0;
+    while 100 <= rest {
+        rest /= 100;
+        digits += 2;
+    }
+    if rest < 10 {
+        return digits + 1;
+    }
+    digits + 2
 }
 
 // Puts the last digit of a number so many digits behind a place within a buffer. Past the end it is left out.
@@ -129,14 +145,48 @@ fn write_digit(buffer: &mut [u8], at: usize, front: usize, n: u64)
     }
 }
 
-// Puts a numeral of so many digits at a place within a buffer, from the last digit to the first.
+// Puts a numeral of so many digits at a place within a buffer, from the last digit to the first. The first is put without another division.
 fn write_digits(buffer: &mut [u8], at: usize, n: u64, digits: usize)
     requires { (at < length buffer.old) × (digits ≡ length (decimal n)) }
     ensures { buffer.new ≡ overwrite buffer.old at (decimal n) }
 {
     let mut rest = n;
-    for front in (0..digits).rev() {
+    for front in (1..digits).rev() {
         write_digit(buffer, at, front, rest);
         rest /= 10;
     }
+    buffer[at] = digit(rest);
+}
+
+// Puts a numeral at a place, and hands back the place behind it. Past the end its digits are counted and no more.
+fn write_numeral(buffer: &mut [u8], at: usize, n: u64) -> usize
+    ensures { WrittenAt buffer.old buffer.new at (decimal n) result }
+{
+    let digits = width(n);
+    if at < buffer.len() {
+        write_digits(buffer, at, n, digits);
+    }
+    at.saturating_add(digits)
+}
+
+// Puts a numeral and the byte that ends its field at a place, and hands back the place behind them.
+fn write_field(buffer: &mut [u8], at: usize, n: u64, end: u8) -> usize
+    ensures { WrittenAt buffer.old buffer.new at (decimal n ++ (end ∷ [])) result }
+{
+    let next = write_numeral(buffer, at, n);
+    write_byte(buffer, next, end)
+}
+
+// Puts a line of numerals at a place, and hands back the place behind it.
+fn write_numbers(buffer: &mut [u8], at: usize, numbers: &[u32]) -> usize
+    ensures { WrittenAt buffer.old buffer.new at (line (map decimal numbers.now) []) result }
+{
+    let Some((last, front)) = numbers.split_last() else {
+        return write_byte(buffer, at, b'\n');
+    };
+    let mut next = at;
+    for n in front {
+        next = write_field(buffer, next, u64::from(*n), b',');
+    }
+    write_field(buffer, next, u64::from(*last), b'\n')
 }

@@ -3,8 +3,8 @@ use Rattle.std.proofs.Math.ListN.{get_or-append}
 use Rattle.std.proofs.lemmas.List.{get_or_push}
 use Rattle.text_theory.specs.Text.{decimal, line}
 use Rattle.text_theory.proofs.Lines.{numbers_next, numbers_last}
-use Rattle.writer.proofs.Buffer.{said, onward}
-use Rattle.writer.proofs.Writer.numbers.Goals as goal
+use Rattle.writer.proofs.Parts.{parted, restated, onward, finish}
+use Rattle.writer.proofs.write_numbers.Goals as goal
 
 no_numbers : (ns : List ℕ) → length ns ≡ 0 → line (map decimal ns) [] ≡ 10 ∷ []
 unfolding line
@@ -22,10 +22,14 @@ module _ (front : List ℕ) (last i : ℕ) {ns : List ℕ} {n : ℕ} (e : ns ≡
       rw (e, k) (numbers_last (front ++ last ∷ []) i (omega arith) (omega arith) ∙ ap (λ (m : ℕ). decimal m ++ 10 ∷ []) (get_or_push front last 0 i (sym h)))
 
 pub returns-in_default : goal.returns-in_default
-returns-in_default c = said (no_numbers _ c.in_default.ensures.cases) c.byte.ensures
+returns-in_default c = rw (no_numbers _ c.in_default.ensures.cases) c.write_byte.ensures
+
+pub loop-n-init : goal.loop-n-init
+loop-n-init c = parted _ _ refl c.well_formed.0.0 c.ranges.at.fits
 
 pub loop-n-preserved : goal.loop-n-preserved
-loop-n-preserved c = onward (next _ _ _ c.in-Some.ensures.cases.0 c.loop-n-test.true c.from.ensures) c.loop-n.invariant c.field.ensures
+loop-n-preserved c =
+    onward _ _ (restated (next _ _ _ c.in-Some.ensures.cases.0 c.loop-n-test.true c.from.ensures) c.loop-n.invariant) c.write_field-next.ensures
 
 pub returns : goal.returns
-returns c = c.loop-n.invariant.finish (said (final _ _ _ c.in-Some.ensures.cases.0 (omega arith) c.from-2.ensures) c.field-2.ensures)
+returns c = finish (restated (final _ _ _ c.in-Some.ensures.cases.0 (omega arith) c.from-2.ensures) c.loop-n.invariant) c.write_field.ensures
