@@ -68,8 +68,18 @@ def check_linked(compiler, *flags, **environment):
             check("calls in C: stack", max(stacks, default=0) <= 81 * KILOBYTE + 8 * KILOBYTE, True)  # with the thread's own
 
 
+def check_outside():
+    """What the library needs from outside: the header and docs/BENCHMARKS.md name two functions of the C library."""
+    if not shutil.which("nm") or not library().exists():
+        print(f"users: no {'nm' if library().exists() else library()}, so that what the library needs is not looked at")
+        return
+    names = subprocess.run(["nm", "-u", library()], capture_output=True, text=True, check=True).stdout
+    check("the library needs memcpy and memset alone", sorted(re.findall(r"^ +U (\S+)$", names, re.M)), ["memcpy", "memset"])
+
+
 def check_header():
     check("the header has the calls of the crate", declared(), offered())
+    check_outside()
     compiler = next(filter(None, map(shutil.which, ["cc", "gcc", "clang"])), None)
     if compiler is None or not library().exists():
         print(f"users: no {'C compiler' if compiler is None else library()}, so that include/racecheck.h links is not tried")
