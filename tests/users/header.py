@@ -74,7 +74,8 @@ def check_outside():
         print(f"users: no {'nm' if library().exists() else library()}, so that what the library needs is not looked at")
         return
     names = subprocess.run(["nm", "-u", library()], capture_output=True, text=True, check=True).stdout
-    check("the library needs memcpy and memset alone", sorted(re.findall(r"^ +U (\S+)$", names, re.M)), ["memcpy", "memset"])
+    needed = sorted(re.findall(r"^ +U (\S+)$", names, re.M))
+    check("the library needs memcpy and memset alone", needed, ["memcpy", "memset"])
 
 
 def check_header():
